@@ -1,0 +1,4 @@
+pub mod Choice
+pub mod Each
+pub mod Keys
+pub mod Lists

@@ -1,0 +1,4 @@
+pub mod Owners
+pub mod Unfold
+pub mod Depth
+pub mod First

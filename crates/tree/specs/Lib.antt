@@ -1,0 +1,7 @@
+pub mod Forms
+pub mod Table
+pub mod Trees
+pub mod Shapes
+pub mod Places
+pub mod Refusals
+pub mod Passes
