@@ -2,3 +2,4 @@ pub mod Owners
 pub mod Unfold
 pub mod Depth
 pub mod First
+pub mod Count

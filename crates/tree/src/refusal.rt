@@ -18,7 +18,7 @@ ghost use Rattle.tree.specs.Refusals.{refusal4, badNumbers, badOperands,
 ghost use Rattle.tree.specs.Passes.{counted, Counted, Levelled};
 
 // 4: the count is 0 or above 4,096, or the table is shorter than that many nodes.
-fn is_bad_count(count: u16, cells: usize) -> bool
+pub fn is_bad_count(count: u16, cells: usize) -> bool
     ensures { λ r. ⌜ r ≡ refusal4 count cells ⌝ }
 {
     if count == 0 {

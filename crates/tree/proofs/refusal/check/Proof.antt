@@ -1,22 +1,12 @@
 -- `tree::refusal::check` meets its contract. Assumes nothing.
 use mathlib.Core.Path.{_≡_, sym, _∙_}
-use mathlib.Core.Bool.{false, _||_}
-use Prim.Native.Nat.{ℕ, _*_, _≤_}
-use lib.Dec.{eqb, ltb}
-use borrow.Author.Tests.{lt-ltb, le-ltb, ltb-false}
-use Rattle.laws.proofs.Choice.{or-false}
-use Rattle.tree.specs.Refusals.{refusal3, refusal4, refusal}
+use borrow.Author.Tests.{lt-ltb, le-ltb}
+use Rattle.tree.specs.Refusals.{refusal3, refusal}
+use Rattle.tree.proofs.Count.{count-fits}
 use Rattle.tree.proofs.First.{stop, skip}
 use borrow.Author.Needs.{needs}
 use Rattle.tree.proofs.refusal.check.Statement.{statement}
 use Rattle.tree.proofs.refusal.check.Tie as tie
-
--- a count that is not refused
-small-count : (count cells : ℕ) → refusal4 count cells ≡ false → count ≤ 4096
-unfolding refusal4
-small-count count cells e =
-    let d = or-false (eqb count 0) (ltb 4096 count || ltb cells (5 * count)) e in
-    ltb-false 4096 count (or-false (ltb 4096 count) (ltb cells (5 * count)) (d .1) .0)
 
 returns : tie.Need-returns
 unfolding refusal refusal3
@@ -30,7 +20,7 @@ unfolding refusal refusal3
 returns-2 c = sym (skip _ _ (le-ltb _ _ (c .before .before .if1 .left)) ∙ stop _ _ (sym (c .before .is-bad-count .ensures) ∙ c .if2 .taken))
 
 check-nodes-requires : tie.Need-check-nodes-requires
-check-nodes-requires c κs = small-count _ _ (sym (c .before .is-bad-count .ensures) ∙ c .if2 .left)
+check-nodes-requires c κs = count-fits _ _ (sym (c .before .is-bad-count .ensures) ∙ c .if2 .left) .1
 
 returns-3 : tie.Need-returns-3
 unfolding refusal refusal3

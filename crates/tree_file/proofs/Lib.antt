@@ -1,0 +1,3 @@
+pub mod Groups
+pub mod Several
+pub mod Files
