@@ -3,3 +3,5 @@ pub mod Unfold
 pub mod Depth
 pub mod First
 pub mod Count
+pub mod Owned
+pub mod Accepted

@@ -21,6 +21,9 @@ operand-low : (count i o : ℕ) → o ≤ i → operandOf count i o ≡ 0
 unfolding operandOf pick
 operand-low count i o h = rw (le-ltb i o h)
 
+pub operand-zero : (count i : ℕ) → operandOf count i 0 ≡ 0
+operand-zero count i = operand-low count i 0 (omega arith)
+
 operand-high : (count i o : ℕ) → i < o → count < o → operandOf count i o ≡ 0
 unfolding operandOf pick
 operand-high count i o h k = rw (lt-ltb i o h, lt-leb o count k)
@@ -61,7 +64,7 @@ operand-root : (count i o : ℕ) → operandOf count 0 (operandOf count i o) ≡
 operand-root count i o = go (operandOf count i o) (standing count i o)
   where
     go : (p : ℕ) → Standing count i o p → operandOf count 0 p ≡ p
-    go p absent = operand-low count 0 0 (omega arith)
+    go p absent = operand-zero count 0
     go p (present a b) = operand-in count 0 p (omega arith) b
 
 -- ---- trees
@@ -86,7 +89,7 @@ same cells count (suc n) (suc m) (suc i) h =
 
 pub tree-zero : (cells : List ℕ) (count : ℕ) → treeAt cells count 0 ≡ none
 unfolding treeAt
-tree-zero cells count = rw (operand-low count 0 0 (omega arith)) (no-tree cells count count)
+tree-zero cells count = rw (operand-zero count 0) (no-tree cells count count)
 
 pub tree-past : (cells : List ℕ) (count i : ℕ) → count < i → treeAt cells count i ≡ none
 unfolding treeAt

@@ -6,16 +6,17 @@ use Prim.Native.Nat.{ℕ, zero, suc, _+_, _*_, _-_, _≤_, _<_}
 use native.Mathlib.Omega.{arith}
 use lib.Dec.{eqb, ltb}
 use lib.ListN.{length, drop, length-drop}
-use borrow.Author.Tests.{eq-eqb, ne-eqb, lt-ltb, le-ltb}
+use borrow.Author.Tests.{eq-eqb, ne-eqb, lt-ltb, le-ltb, ltb-false}
 use Rattle.laws.specs.Lists.{over}
-use Rattle.laws.proofs.Choice.{pick-true, pick-false}
-use Rattle.tree.specs.Refusals.{refusal3, refusal4, refuse, firstOf, nodeRefusals, refusal}
-use Rattle.tree.proofs.First.{stop, skip}
+use Rattle.laws.proofs.Choice.{pick-true, pick-false, true-not-false, or-false}
+use Rattle.tree.specs.Refusals.{refusal3, refusal4, refuse, firstOf, nodeRefusals, refusal, Accepted as Table}
+use Rattle.tree.proofs.First.{stop, skip, passed}
 use Rattle.tree.proofs.Count.{count-fits, fits-count}
 use Rattle.tree_file.specs.declared.Loaded.the-variants.{Refused, Accepted}
 use Rattle.tree_file.specs.Numbers.{Numbers, broken, numbers, numbersOf, isBroken, valuesIn, bytesAfter}
 use Rattle.tree_file.specs.Files.{header, contextIn, countIn, body, cellsIn, refusal1, refusal2, refusal5, fileRefusal, loaded, stored}
 use Rattle.tree_file.specs.Reads.{Begun}
+use Rattle.tree_file.proofs.Several.{numbers-length}
 
 -- the first of 6 to 11, where 3 and 4 do not apply
 pub nodes-refusal : (context count : ℕ) (cells : List ℕ) → context ≤ 3 → refusal4 count (length cells) ≡ false → refusal context count cells ≡ firstOf (nodeRefusals count cells)
@@ -110,3 +111,27 @@ module _ (file table : List ℕ) (context count at : ℕ) (b : Begun file contex
 -- it has room for every count that is not refused
 pub own-room : (count lent room : ℕ) → refusal4 count lent ≡ false → room ≡ 20480 → 5 * count ≤ room
 own-room count lent room e l = let f = count-fits count lent e in omega arith
+
+-- ---- accepted files
+
+-- a file of which none is refused, one number for each cell
+body-length : (file : List ℕ) → isBroken (body file) ≡ false → length (cellsIn file) ≡ 5 * countIn file
+unfolding cellsIn body isBroken valuesIn
+body-length file e = go (numbersOf (5 * countIn file) (bytesAfter (header file))) refl (e)
+  where
+    go : (x : Numbers) → numbersOf (5 * countIn file) (bytesAfter (header file)) ≡ x → isBroken x ≡ false → length (valuesIn x) ≡ 5 * countIn file
+    go broken p q = true-not-false q
+    go (numbers ns bytes) p q = numbers-length (5 * countIn file) (bytesAfter (header file)) ns bytes p
+
+-- its nodes are an accepted table
+pub accepted-file : (file : List ℕ) (lent : ℕ) → fileRefusal file lent ≡ 0 → Table (contextIn file) (countIn file) (cellsIn file)
+unfolding fileRefusal refusal3 refusal5
+accepted-file file lent e =
+    let r1 = passed 1 _ _ (omega arith) e in
+    let r2 = passed 2 _ _ (omega arith) (r1 .1) in
+    let r3 = passed 3 _ _ (omega arith) (r2 .1) in
+    let r4 = passed 4 _ _ (omega arith) (r3 .1) in
+    let r5 = passed 5 _ _ (omega arith) (r4 .1) in
+    let f = count-fits (countIn file) lent (r4 .0) in
+    let l = body-length file (or-false (isBroken (body file)) _ (r5 .0) .0) in
+    nodes-refusal (contextIn file) (countIn file) (cellsIn file) (ltb-false 3 (contextIn file) (r3 .0)) (fits-count _ _ (f .0) (f .1) (omega arith)) ∙ r5 .1

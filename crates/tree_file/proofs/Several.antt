@@ -94,3 +94,12 @@ numbers-stop (suc k) (suc n) bytes vs r l e h = go (apart k bytes vs r e) (λ ws
   where
     go : Taken bytes k vs r → ((ws : List ℕ) → numbersOf k (restOf bytes) ≡ numbers ws r → numbersOf n (restOf bytes) ≡ broken) → numbersOf (suc n) bytes ≡ broken
     go (taken ws m p q) ih = one-more n bytes m ∙ rw (ih ws p)
+
+-- so many numbers are so many
+pub numbers-length : (k : ℕ) (bytes vs r : List ℕ) → numbersOf k bytes ≡ numbers vs r → length vs ≡ k
+unfolding numbersOf
+numbers-length zero bytes vs r e = let b : vs ≡ [] = cc in rw b
+numbers-length (suc k) bytes vs r e = go (apart k bytes vs r e) (λ ws p. numbers-length k (restOf bytes) ws r p)
+  where
+    go : Taken bytes k vs r → ((ws : List ℕ) → numbersOf k (restOf bytes) ≡ numbers ws r → length ws ≡ k) → length vs ≡ suc k
+    go (taken ws m p q) ih = rw q (ap suc (ih ws p))

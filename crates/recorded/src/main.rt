@@ -1,0 +1,62 @@
+// Goes through the recorded files and replies in the file `files`, loads each file with
+// `tree_file`, and prints how many replies agree with the recorded ones.
+mod judge;
+mod record;
+mod report;
+
+use judge::Step;
+
+// The most records: data that has more counts as damaged.
+const MOST: u64 = 100_000;
+
+// Counts one more at the number of a reply.
+fn bump(counts: &mut [u64; 17], reply: usize) {
+    if reply < 17 {
+        let n = counts[reply];
+        if n < MOST {
+            counts[reply] = n + 1;
+        }
+    }
+}
+
+// Goes through all records and prints what came of them.
+fn run(fd: i32) {
+    let mut met = [0u64; 17];
+    let mut agreed = [0u64; 17];
+    let mut files: u64 = 0;
+    let mut different: u64 = 0;
+    while files <= MOST {
+        match judge::next(fd) {
+            Step::End => {
+                report::all(&met, &agreed, files, different);
+                return;
+            }
+            Step::Damaged => {
+                report::damaged();
+                return;
+            }
+            Step::Agrees(reply) => {
+                bump(&mut met, reply);
+                bump(&mut agreed, reply);
+            }
+            Step::Differs(reply) => {
+                bump(&mut met, reply);
+                different += 1;
+            }
+        }
+        files += 1;
+    }
+    report::damaged();
+}
+
+// Opens the records and goes through them, or says why they cannot be opened.
+fn main() {
+    let path = b"files";
+    let fd = os::open_read(path);
+    if fd < 0 {
+        os::fail(path);
+        return;
+    }
+    run(fd);
+    libc::close(fd);
+}

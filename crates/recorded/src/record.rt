@@ -1,0 +1,65 @@
+// The parts of a record: a header of 12 bytes, the file's bytes, and the cells of the table.
+
+// What a header says, with its numbers as they stand there.
+pub struct Header {
+    pub lent: u16,
+    pub length: usize,
+    pub reply: u16,
+    pub context: u16,
+    pub count: u16,
+}
+
+// What stands at the start of a record: nothing where the data ends.
+pub enum Start {
+    Record(Header),
+    End,
+    Short,
+}
+
+// The number of two bytes, the low one first.
+pub fn pair(low: u8, high: u8) -> u16 {
+    low as u16 + 256 * (high as u16)
+}
+
+// A number of 16 bits as one to count with.
+pub fn wide(x: u16) -> usize {
+    x as usize
+}
+
+// The number of two halves of 16 bits, the low one first.
+fn long(low: u16, high: u16) -> usize {
+    low as usize + 65536 * (high as usize)
+}
+
+// The header that stands in 12 bytes.
+fn parsed(b: &[u8; 12]) -> Header {
+    Header {
+        lent: pair(b[0], b[1]),
+        length: long(pair(b[2], b[3]), pair(b[4], b[5])),
+        reply: pair(b[6], b[7]),
+        context: pair(b[8], b[9]),
+        count: pair(b[10], b[11]),
+    }
+}
+
+// Reads a header, or tells that the data ends before it or in it.
+pub fn begin(fd: i32) -> Start {
+    let mut bytes = [0u8; 12];
+    let n = io::read_full(fd, &mut bytes);
+    if n == 0 {
+        return Start::End;
+    }
+    if n < 12 {
+        return Start::Short;
+    }
+    Start::Record(parsed(&bytes))
+}
+
+// Reads `n` bytes to the start of `buf`, and answers whether there is room and all of them came.
+pub fn part(fd: i32, buf: &mut [u8], n: usize) -> bool {
+    if n <= buf.len() {
+        io::read_full(fd, &mut buf[0..n]) == n
+    } else {
+        false
+    }
+}
