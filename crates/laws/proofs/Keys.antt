@@ -1,11 +1,11 @@
 -- What the arms of a `match` know of a number, or of an enum's tag, as tests. Assumes nothing.
 use mathlib.Core.Path.{_≡_, refl, sym, _∙_}
-use mathlib.Core.Bool.{Bool, true, false, not, _&&_}
+use mathlib.Core.Bool.{Bool, true, false, not, _&&_, _||_}
 use mathlib.Core.List.{List, [], _∷_}
 use Prim.Native.Nat.{ℕ, zero, suc, _≤_, _<_}
 use native.Mathlib.Omega.{arith}
 use lib.Dec.{T, ltb, eqb, not-T}
-use borrow.Author.Tests.{ltb-true, ne-eqb, eqb-true}
+use borrow.Author.Tests.{ltb-true, eq-eqb, ne-eqb, eqb-true}
 use mir.Val.{hasKey}
 use types.Run.{OneOf, hit, miss}
 use Rattle.laws.specs.Choice.{pick, Row, row, lookup}
@@ -74,17 +74,70 @@ apartBefore [] j ks = true
 apartBefore (row js a ∷ rows) zero ks = true
 apartBefore (row js a ∷ rows) (suc j) ks = disjoint ks js && apartBefore rows j ks
 
-found : {A : Type 0} (rows : List (Row A)) (other : A) (j : ℕ) (ks : List ℕ) (x : ℕ) → numbersAt rows j ≡ ks → T (apartBefore rows j ks) → hasKey ks x ≡ true → lookup rows other x ≡ givenAt rows other j
+-- each of ks is one of js
+abbrev pub within : List ℕ → List ℕ → Bool
+within [] js = true
+within (k ∷ ks) js = hasKey js k && within ks js
+
+within-more : (ks js : List ℕ) (k : ℕ) → T (within ks js) → T (within ks (k ∷ js))
+within-more [] js k t = tt
+within-more (m ∷ ks) js k t =
+    let d = and-true (hasKey js m) (within ks js) (true-of t) in
+    go (eqb k m) (d .0) (true-of (within-more ks js k (of-true (d .1))))
+  where
+    go : (b : Bool) → hasKey js m ≡ true → within ks (k ∷ js) ≡ true → T ((b || hasKey js m) && within ks (k ∷ js))
+    go true e f = rw f tt
+    go false e f = rw (e, f) tt
+
+within-self : (ks : List ℕ) → T (within ks ks)
+within-self [] = tt
+within-self (k ∷ ks) = rw (eq-eqb k k refl) (within-more ks ks k (within-self ks))
+
+-- a number that is one of ks is one of js
+pub inside : (ks js : List ℕ) (x : ℕ) → T (within ks js) → hasKey ks x ≡ true → hasKey js x ≡ true
+inside [] js x t h = true-not-false (sym h)
+inside (k ∷ ks) js x t h = go (eqb k x) refl (and-true (hasKey js k) (within ks js) (true-of t)) (λ p q. inside ks js x p q)
+  where
+    go : (b : Bool) → eqb k x ≡ b → (hasKey js k ≡ true) × (within ks js ≡ true) → (T (within ks js) → hasKey ks x ≡ true → hasKey js x ≡ true) → hasKey js x ≡ true
+    go true e d r = rw (← eqb-true k x e) (d .0)
+    go false e d r = r (of-true (d .1)) (rw e at h)
+
+-- a number of ks, which all stand in row j and in no row before it
+pub found : {A : Type 0} (rows : List (Row A)) (other : A) (j : ℕ) (ks : List ℕ) (x : ℕ) → T (within ks (numbersAt rows j)) → T (apartBefore rows j ks) → hasKey ks x ≡ true → lookup rows other x ≡ givenAt rows other j
 unfolding lookup
 found [] other j ks x e t h = refl
-found (row js a ∷ rows) other zero ks x e t h = pick-true a _ (rw (← e) at h)
+found (row js a ∷ rows) other zero ks x e t h = pick-true a _ (inside ks js x e h)
 found (row js a ∷ rows) other (suc j) ks x e t h =
     let d = and-true (disjoint ks js) (apartBefore rows j ks) (true-of t) in
     pick-false a _ (apart ks js x (of-true (d .0)) h) ∙ found rows other j ks x e (of-true (d .1)) h
 
+-- a number of ks, none of which stands in a row
+abbrev pub apartFrom : {A : Type 0} → List (Row A) → List ℕ → Bool
+apartFrom [] ks = true
+apartFrom (row js a ∷ rows) ks = disjoint ks js && apartFrom rows ks
+
+pub not-found : {A : Type 0} (rows : List (Row A)) (other : A) (ks : List ℕ) (x : ℕ) → T (apartFrom rows ks) → hasKey ks x ≡ true → lookup rows other x ≡ other
+unfolding lookup
+not-found [] other ks x t h = refl
+not-found (row js a ∷ rows) other ks x t h =
+    let d = and-true (disjoint ks js) (apartFrom rows ks) (true-of t) in
+    pick-false a _ (apart ks js x (of-true (d .0)) h) ∙ not-found rows other ks x (of-true (d .1)) h
+
+-- a number past all that the rows have
+abbrev pub rowsBelow : {A : Type 0} → ℕ → List (Row A) → Bool
+rowsBelow n [] = true
+rowsBelow n (row js a ∷ rows) = allBelow n js && rowsBelow n rows
+
+pub past-rows : {A : Type 0} (rows : List (Row A)) (other : A) (n x : ℕ) → T (rowsBelow n rows) → n ≤ x → lookup rows other x ≡ other
+unfolding lookup
+past-rows [] other n x t h = refl
+past-rows (row js a ∷ rows) other n x t h =
+    let d = and-true (allBelow n js) (rowsBelow n rows) (true-of t) in
+    pick-false a _ (past js n x (of-true (d .0)) h) ∙ past-rows rows other n x (of-true (d .1)) h
+
 -- the arm of row j
 pub arm : {A : Type 0} (rows : List (Row A)) (other : A) (x j : ℕ) → T (apartBefore rows j (numbersAt rows j)) → OneOf (numbersAt rows j) x → lookup rows other x ≡ givenAt rows other j
-arm rows other x j t h = found rows other j (numbersAt rows j) x refl t (among (numbersAt rows j) x h)
+arm rows other x j t h = found rows other j (numbersAt rows j) x (within-self (numbersAt rows j)) t (among (numbersAt rows j) x h)
 
 -- what a default arm knows: the number is in none of the rows
 abbrev pub Missed : {A : Type 0} → Type 0 → List (Row A) → ℕ → Type 0

@@ -5,3 +5,5 @@ pub mod First
 pub mod Count
 pub mod Owned
 pub mod Accepted
+pub mod Walks
+pub mod Shapes

@@ -5,3 +5,4 @@ pub mod Shapes
 pub mod Places
 pub mod Refusals
 pub mod Passes
+pub mod Walks
