@@ -2,8 +2,9 @@
 use mathlib.Core.Path.{_≡_, refl, sym, _∙_}
 use mathlib.Core.Bool.{Bool, true, false, not, _&&_, _||_}
 use mathlib.Core.List.{List, [], _∷_}
-use Prim.Native.Nat.{ℕ, zero, suc, _≤_, _<_}
+use Prim.Native.Nat.{ℕ, zero, suc, _+_, _≤_, _<_}
 use native.Mathlib.Omega.{arith}
+use native.Mathlib.Decide.{decLe}
 use lib.Dec.{T, ltb, eqb, not-T}
 use borrow.Author.Tests.{ltb-true, eq-eqb, ne-eqb, eqb-true}
 use mir.Val.{hasKey}
@@ -154,3 +155,18 @@ missed (row ks a ∷ rows) other x N m =
 -- the default arm
 pub rest : {A : Type 0} (rows : List (Row A)) (other : A) (x : ℕ) → Missed (Unit {0}) rows x → lookup rows other x ≡ other
 rest rows other x m = missed rows other x (Unit {0}) m .1
+
+-- ---- ranges
+
+-- n numbers from lo on
+abbrev pub upTo : ℕ → ℕ → List ℕ
+upTo lo zero = []
+upTo lo (suc n) = lo ∷ upTo (suc lo) n
+
+pub in-range : (lo n x : ℕ) → lo ≤ x → x < lo + n → hasKey (upTo lo n) x ≡ true
+in-range lo zero x h k = absurd (omega arith)
+in-range lo (suc n) x h k = go (decLe x lo) (λ p. in-range (suc lo) n x (omega arith) (omega arith))
+  where
+    go : Dec (x ≤ lo) → (lo < x → hasKey (upTo (suc lo) n) x ≡ true) → hasKey (upTo lo (suc n)) x ≡ true
+    go (yes p) r = let e : x ≡ lo = omega arith in rw (e, eq-eqb lo lo refl)
+    go (no p) r = rw (ne-eqb lo x (λ q. omega arith)) (r (omega arith))

@@ -10,7 +10,6 @@ use borrow.Author.Tests.{le-leb, lt-leb}
 use Rattle.laws.proofs.Choice.{pick-true, pick-false}
 use Rattle.tree.specs.declared.table.Operand.{Operand}
 use Rattle.tree.specs.declared.table.Operand.the-variants.{Absent, Present}
-use Rattle.tree.specs.Table.{cellAt}
 use Rattle.tree.specs.Trees.{Label, Tree, none, node, labelAt, operandOf, operandAt, treeAt}
 use Rattle.tree.specs.Shapes.{presence}
 use Rattle.tree.specs.Walks.{Ask, answer, first, second, follow, isThere, walk, isPresent, Step, ends, goes, into, stepBy, stepAt}
@@ -51,14 +50,14 @@ absent-zero (suc n) e = absurd (let z : _≡_ {A = ℕ} 0 1 = cc in omega arith)
 
 -- ---- steps
 
-module _ {A : Type 0} (asks : Label → Bool → Bool → Ask A) (missing : A) (cells : List ℕ) (count i : ℕ) where
+module _ {A : Type 0} (asks : Label → Tree → Tree → Ask A) (missing : A) (cells : List ℕ) (count i : ℕ) where
   abbrev asked : Ask A
-  asked = asks (labelAt cells i) (isPresent (presence (operandAt cells count i 3))) (isPresent (presence (operandAt cells count i 4)))
+  asked = asks (labelAt cells i) (treeAt cells count (operandAt cells count i 3)) (treeAt cells count (operandAt cells count i 4))
 
   -- the walk at a node, by what its operands give
   walk-node : 1 ≤ i → i ≤ count → walk asks missing (treeAt cells count i) ≡ follow asked (walk asks missing (treeAt cells count (operandAt cells count i 3))) (walk asks missing (treeAt cells count (operandAt cells count i 4)))
   unfolding walk
-  walk-node h k = rw (unfolds cells count i h k, there cells count i (cellAt cells i 3), there cells count i (cellAt cells i 4))
+  walk-node h k = rw (unfolds cells count i h k)
 
   pub step-in : 1 ≤ i → i ≤ count → stepAt asks missing cells count i ≡ stepBy missing asked (presence (operandAt cells count i 3)) (presence (operandAt cells count i 4))
   unfolding stepAt

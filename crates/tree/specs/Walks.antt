@@ -6,7 +6,7 @@ use lib.Dec.{leb}
 use Rattle.laws.specs.Choice.{pick}
 use Rattle.tree.specs.declared.table.Operand.{Operand}
 use Rattle.tree.specs.declared.table.Operand.the-variants.{Absent, Present}
-use Rattle.tree.specs.Trees.{Label, Tree, none, node, labelAt, operandAt}
+use Rattle.tree.specs.Trees.{Label, Tree, none, node, labelAt, operandAt, treeAt}
 use Rattle.tree.specs.Shapes.{presence}
 
 -- what a node does with a question
@@ -24,10 +24,10 @@ abbrev pub isThere : Tree → Bool
 isThere none = false
 isThere (node l a b) = true
 
--- the answer for a tree. `asks` sees a node's label and which of its operands are there; where there is no node, the answer is `absent`
-unfoldable pub walk : {A : Type 0} → (Label → Bool → Bool → Ask A) → A → Tree → A
+-- the answer for a tree. `asks` sees a node's label and its operands; where there is no node, the answer is `absent`
+unfoldable pub walk : {A : Type 0} → (Label → Tree → Tree → Ask A) → A → Tree → A
 walk asks absent none = absent
-walk asks absent (node l a b) = follow (asks l (isThere a) (isThere b)) (walk asks absent a) (walk asks absent b)
+walk asks absent (node l a b) = follow (asks l a b) (walk asks absent a) (walk asks absent b)
 
 -- ---- the same over node numbers, one step at a time
 
@@ -49,13 +49,13 @@ stepBy absent (answer x) p q = ends x
 stepBy absent first p q = into absent p
 stepBy absent second p q = into absent q
 
-unfoldable pub stepAt : {A : Type 0} → (Label → Bool → Bool → Ask A) → A → List ℕ → ℕ → ℕ → Step A
+unfoldable pub stepAt : {A : Type 0} → (Label → Tree → Tree → Ask A) → A → List ℕ → ℕ → ℕ → Step A
 stepAt asks absent cells count i =
     pick
     (leb 1 i && leb i count)
     (stepBy
     absent
-    (asks (labelAt cells i) (isPresent (presence (operandAt cells count i 3))) (isPresent (presence (operandAt cells count i 4))))
+    (asks (labelAt cells i) (treeAt cells count (operandAt cells count i 3)) (treeAt cells count (operandAt cells count i 4)))
     (presence (operandAt cells count i 3))
     (presence (operandAt cells count i 4)))
     (ends absent)

@@ -1,0 +1,94 @@
+-- The steps of the walks. Assumes nothing.
+use mathlib.Core.Path.{_≡_, refl, sym, ap, _∙_}
+use mathlib.Core.Bool.{Bool, true, false, not}
+use mathlib.Core.List.{List}
+use Prim.Native.Nat.{ℕ, zero, suc, _≤_, _<_}
+use native.Mathlib.Omega.{arith}
+use native.Mathlib.Decide.{decLe}
+use Rattle.tree.specs.Forms.{ExprMacro}
+use Rattle.tree.specs.Table.{formAt, detailAt}
+use Rattle.tree.specs.Trees.{Label, Tree, none, labelAt, treeAt}
+use Rattle.tree.specs.Shapes.{presence}
+use lib.Dec.{eqb}
+use Rattle.laws.specs.Choice.{pick}
+use Rattle.tree.specs.declared.table.Operand.{Operand}
+use Rattle.tree.specs.Walks.{Ask, answer, first, walk, Step, ends, goes, stepBy, stepAt}
+use Rattle.tree.proofs.Unfold.{tree-zero, tree-past, unfolds}
+use Rattle.tree.proofs.Walks.{leads}
+use Rattle.classify.specs.declared.ControlFlow.the-variants.{Break, Continue}
+use Rattle.classify.specs.Classify.{requiresComma, requiresSemi, lastTypeInPath, groupLabel, braceInPath, braceInBounds, typeTrailingBrace}
+use Rattle.classify.specs.Steps.{flowBy, typeBraceAt}
+
+flow-ends : (s : Step Bool) (x : Bool) → Break x ≡ flowBy s → s ≡ ends x
+flow-ends (ends y) x e = cc
+flow-ends (goes n) x e = absurd (let z : _≡_ {A = ℕ} 0 1 = cc in omega arith)
+
+flow-goes : (s : Step Bool) (n : ℕ) → Continue n ≡ flowBy s → s ≡ goes n
+flow-goes (ends y) n e = absurd (let z : _≡_ {A = ℕ} 0 1 = cc in omega arith)
+flow-goes (goes m) n e = cc
+
+-- a step of any walk: to its answer, or to a node after this one with the same answer
+module _ (asks : Label → Tree → Tree → Ask Bool) (missing : Bool) (cells : List ℕ) (count i : ℕ) where
+  pub walk-ends : (x : Bool) → Break x ≡ flowBy (stepAt asks missing cells count i) → walk asks missing (treeAt cells count i) ≡ x
+  walk-ends x e = rw (flow-ends (stepAt asks missing cells count i) x e) at (leads asks missing cells count i)
+
+  pub walk-goes : (n : ℕ) → Continue n ≡ flowBy (stepAt asks missing cells count i) → (i < n) × (n ≤ count) × (walk asks missing (treeAt cells count n) ≡ walk asks missing (treeAt cells count i))
+  walk-goes n e = rw (flow-goes (stepAt asks missing cells count i) n e) at (leads asks missing cells count i)
+
+pub type-brace-at : (cells : List ℕ) (count o : ℕ) → typeBraceAt cells count (presence o) ≡ typeTrailingBrace (treeAt cells count o)
+unfolding presence typeTrailingBrace walk
+type-brace-at cells count zero = rw (tree-zero cells count)
+type-brace-at cells count (suc n) = refl
+
+-- ---- what a detail or attributes ask, of a node with one operand
+
+module _ (d : ℕ) (v w : Operand) where
+  path-tests : (a b : Bool) → stepBy false (pick a (answer true) (pick b first (answer false))) v w ≡ stepBy false (pick a (answer true) (pick b first (answer false))) v v
+  unfolding pick
+  path-tests true b = refl
+  path-tests false true = refl
+  path-tests false false = refl
+
+  pub path-one : stepBy false (lastTypeInPath d) v w ≡ stepBy false (lastTypeInPath d) v v
+  unfolding lastTypeInPath
+  path-one = path-tests (eqb d 1) (eqb d 3)
+
+  one-test : (a x : Bool) → stepBy false (pick a first (answer x)) v w ≡ stepBy false (pick a first (answer x)) v v
+  unfolding pick
+  one-test true x = refl
+  one-test false x = refl
+
+  pub label-one : stepBy false (groupLabel d) v w ≡ stepBy false (groupLabel d) v v
+  unfolding groupLabel
+  label-one = one-test (eqb d 0) false
+
+  pub brace-one : stepBy false (braceInPath d) v w ≡ stepBy false (braceInPath d) v v
+  unfolding braceInPath
+  brace-one = one-test (eqb d 3) false
+
+  pub bounds-one : stepBy false (braceInBounds d) v w ≡ stepBy false (braceInBounds d) v v
+  unfolding braceInBounds
+  bounds-one = one-test (eqb d 3) (eqb d 7)
+
+-- ---- requires_semi_to_be_stmt
+
+module _ (cells : List ℕ) (count i : ℕ) where
+  pub semi-macro : 1 ≤ i → i ≤ count → formAt cells i ≡ ExprMacro → not (eqb (detailAt cells i) 2) ≡ requiresSemi (treeAt cells count i)
+  unfolding requiresSemi labelAt pick
+  semi-macro h k f = rw (unfolds cells count i h k, f)
+
+  semi-here : 1 ≤ i → i ≤ count → eqb (formAt cells i) ExprMacro ≡ false → requiresComma (treeAt cells count i) ≡ requiresSemi (treeAt cells count i)
+  unfolding requiresSemi labelAt pick
+  semi-here h k f = rw (unfolds cells count i h k, f)
+
+  semi-none : treeAt cells count i ≡ none → requiresComma (treeAt cells count i) ≡ requiresSemi (treeAt cells count i)
+  unfolding requiresSemi
+  semi-none e = rw e
+
+  pub semi-other : (1 ≤ i → i ≤ count → eqb (formAt cells i) ExprMacro ≡ false) → requiresComma (treeAt cells count i) ≡ requiresSemi (treeAt cells count i)
+  semi-other f = go (decLe 1 i) (decLe i count)
+    where
+      go : Dec (1 ≤ i) → Dec (i ≤ count) → requiresComma (treeAt cells count i) ≡ requiresSemi (treeAt cells count i)
+      go (yes h) (yes k) = semi-here h k (f h k)
+      go (yes h) (no k) = semi-none (tree-past cells count i (omega arith))
+      go (no h) d = semi-none (let z : i ≡ 0 = omega arith in rw z (tree-zero cells count))

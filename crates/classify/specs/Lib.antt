@@ -1,0 +1,2 @@
+pub mod Classify
+pub mod Steps

@@ -1,0 +1,105 @@
+-- prettyplease's precedence.rs: the precedences, their order, and what they are for operators and expressions.
+use mathlib.Core.Bool.{Bool, true, false}
+use mathlib.Core.List.{List, [], _∷_}
+use Prim.Native.Nat.{ℕ}
+use lib.Dec.{eqb, leb, ltb}
+use Rattle.laws.specs.Choice.{pick, Row, row, lookup}
+use Rattle.tree.specs.declared.table.Operand.{Operand}
+use Rattle.tree.specs.declared.table.Operand.the-variants.{Absent, Present}
+use Rattle.tree.specs.Forms.{ExprArray, ExprAssign, ExprAsync, ExprAwait, ExprBinary, ExprBlock, ExprBreak, ExprCall, ExprCast, ExprClosure, ExprConst, ExprContinue, ExprField, ExprForLoop, ExprGroup, ExprIf, ExprIndex, ExprInfer, ExprLet, ExprLit, ExprLoop, ExprMacro, ExprMatch, ExprMethodCall, ExprParen, ExprPath, ExprRange, ExprRawAddr, ExprReference, ExprRepeat, ExprReturn, ExprStruct, ExprTry, ExprTryBlock, ExprTuple, ExprUnary, ExprUnsafe, ExprWhile, ExprYield}
+use Rattle.tree.specs.Trees.{Label, Tree}
+use Rattle.tree.specs.Walks.{Ask, answer, first, isThere, walk}
+use Rattle.precedence.specs.declared.Precedence.{Precedence}
+use Rattle.precedence.specs.declared.Precedence.the-variants.{Jump, Assign, Range, Or, And, Let, Compare, BitOr, BitXor, BitAnd, Shift, Sum, Product, Cast, Prefix, Unambiguous}
+
+-- document 01: "Precedence numbers follow the enum's order: Jump 0 to Unambiguous 15."
+abbrev pub rankOf : Precedence → ℕ
+rankOf Jump = 0
+rankOf Assign = 1
+rankOf Range = 2
+rankOf Or = 3
+rankOf And = 4
+rankOf Let = 5
+rankOf Compare = 6
+rankOf BitOr = 7
+rankOf BitXor = 8
+rankOf BitAnd = 9
+rankOf Shift = 10
+rankOf Sum = 11
+rankOf Product = 12
+rankOf Cast = 13
+rankOf Prefix = 14
+rankOf Unambiguous = 15
+
+-- the derived order: p < q and p <= q
+abbrev pub below : Precedence → Precedence → Bool
+below p q = ltb (rankOf p) (rankOf q)
+
+abbrev pub atMost : Precedence → Precedence → Bool
+atMost p q = leb (rankOf p) (rankOf q)
+
+abbrev pub same : Precedence → Precedence → Bool
+same p q = eqb (rankOf p) (rankOf q)
+
+-- ---- operators, by document 01's numbers
+
+-- Precedence::of_binop
+unfoldable pub operators : List (Row Precedence)
+operators =
+    -- Add, Sub
+    row (0 ∷ 1 ∷ []) Sum ∷
+    -- Mul, Div, Rem
+    row (2 ∷ 3 ∷ 4 ∷ []) Product ∷
+    row (5 ∷ []) And ∷
+    row (6 ∷ []) Or ∷
+    row (7 ∷ []) BitXor ∷
+    row (8 ∷ []) BitAnd ∷
+    row (9 ∷ []) BitOr ∷
+    -- Shl, Shr
+    row (10 ∷ 11 ∷ []) Shift ∷
+    -- Eq, Lt, Le, Ne, Ge, Gt
+    row (12 ∷ 13 ∷ 14 ∷ 15 ∷ 16 ∷ 17 ∷ []) Compare ∷
+    -- the ten assigning operators
+    row (18 ∷ 19 ∷ 20 ∷ 21 ∷ 22 ∷ 23 ∷ 24 ∷ 25 ∷ 26 ∷ 27 ∷ []) Assign ∷
+    []
+
+unfoldable pub ofBinop : ℕ → Precedence
+ofBinop op = lookup operators Jump op
+
+-- ---- expressions
+
+-- prefix_attrs: "prefix precedence needs 2", some outer attribute
+unfoldable pub prefixAttrs : ℕ → Precedence
+prefixAttrs attributes = pick (eqb attributes 2) Prefix Unambiguous
+
+-- Break, Return and Yield: with a value or without
+abbrev pub jumpBy : Bool → Precedence
+jumpBy true = Jump
+jumpBy false = Unambiguous
+
+-- Closure: without a written output or with one
+abbrev pub closureBy : ℕ → ℕ → Precedence
+closureBy detail attributes = pick (eqb detail 0) Jump (prefixAttrs attributes)
+
+-- Precedence::of, by form; Verbatim and what is no expression: Unambiguous
+unfoldable pub ofRows : Label → Tree → Tree → List (Row (Ask Precedence))
+ofRows l a b =
+    row (ExprClosure ∷ []) (answer (closureBy (l .detail) (l .attributes))) ∷
+    row (ExprBreak ∷ ExprReturn ∷ ExprYield ∷ []) (answer (jumpBy (isThere a))) ∷
+    row (ExprAssign ∷ []) (answer Assign) ∷
+    row (ExprRange ∷ []) (answer Range) ∷
+    row (ExprBinary ∷ []) (answer (ofBinop (l .detail))) ∷
+    row (ExprLet ∷ []) (answer Let) ∷
+    row (ExprCast ∷ []) (answer Cast) ∷
+    row (ExprRawAddr ∷ ExprReference ∷ ExprUnary ∷ []) (answer Prefix) ∷
+    row
+    (ExprArray ∷ ExprAsync ∷ ExprAwait ∷ ExprBlock ∷ ExprCall ∷ ExprConst ∷ ExprContinue ∷ ExprField ∷ ExprForLoop ∷ ExprIf ∷ ExprIndex ∷ ExprInfer ∷ ExprLit ∷ ExprLoop ∷ ExprMacro ∷ ExprMatch ∷ ExprMethodCall ∷ ExprParen ∷ ExprPath ∷ ExprRepeat ∷ ExprStruct ∷ ExprTry ∷ ExprTryBlock ∷ ExprTuple ∷ ExprUnsafe ∷ ExprWhile ∷ [])
+    (answer (prefixAttrs (l .attributes))) ∷
+    row (ExprGroup ∷ []) first ∷
+    []
+
+unfoldable pub ofAsks : Label → Tree → Tree → Ask Precedence
+ofAsks l a b = lookup (ofRows l a b) (answer Unambiguous) (l .form)
+
+unfoldable pub precedenceOf : Tree → Precedence
+precedenceOf t = walk ofAsks Unambiguous t

@@ -1,0 +1,216 @@
+// prettyplease's precedence.rs: the precedences of expressions, loosest first.
+use tree::shape::Shape;
+use tree::shape::shape_at;
+use tree::table::Operand;
+use tree::table::cell;
+ghost use mathlib.Core.Path.{_≡_};
+ghost use Rattle.tree.specs.Trees.{treeAt};
+ghost use Rattle.tree.specs.Walks.{isPresent, into, stepAt};
+ghost use Rattle.precedence.specs.declared.Precedence.the-variants.{Unambiguous};
+ghost use Rattle.precedence.specs.Precedences.{rankOf, below, atMost, ofBinop, prefixAttrs, jumpBy, closureBy, ofAsks, precedenceOf};
+ghost use Rattle.precedence.specs.Steps.{levelBy};
+
+pub enum Precedence {
+    // return, break, closures
+    Jump,
+    // = += -= *= /= %= &= |= ^= <<= >>=
+    Assign,
+    // .. ..=
+    Range,
+    // ||
+    Or,
+    // &&
+    And,
+    // let
+    Let,
+    // == != < > <= >=
+    Compare,
+    // |
+    BitOr,
+    // ^
+    BitXor,
+    // &
+    BitAnd,
+    // << >>
+    Shift,
+    // + -
+    Sum,
+    // * / %
+    Product,
+    // as
+    Cast,
+    // unary - * ! & &mut
+    Prefix,
+    // paths, loops, function calls, array indexing, field expressions, method calls
+    Unambiguous,
+}
+
+// What a node says of its precedence: the precedence, or the number of a Group's content, which has it.
+enum Level {
+    Of(Precedence),
+    Content(u16),
+}
+
+// Precedence::of for a closed form: its outer attributes bind like a prefix.
+fn prefix_attrs(attributes: u16) -> Precedence
+    ensures { λ r. ⌜ r ≡ prefixAttrs attributes ⌝ }
+{
+    if attributes == 2 {
+        Precedence::Prefix
+    } else {
+        Precedence::Unambiguous
+    }
+}
+
+// Precedence::of for Break, Return and Yield: the value, if there is one.
+fn jump_of(value: Operand) -> Precedence
+    ensures { λ r. ⌜ r ≡ jumpBy (isPresent value) ⌝ }
+{
+    let Operand::Present(_) = value else {
+        return Precedence::Unambiguous;
+    };
+    Precedence::Jump
+}
+
+fn content_of(operand: Operand) -> Level
+    ensures { λ r. ⌜ r ≡ levelBy (into Unambiguous operand) ⌝ }
+{
+    match operand {
+        Operand::Present(number) => Level::Content(number),
+        Operand::Absent => Level::Of(Precedence::Unambiguous),
+    }
+}
+
+// Precedence::of for a Closure: without a written output, or with one.
+fn closure_of(detail: u16, attributes: u16) -> Precedence
+    ensures { λ r. ⌜ r ≡ closureBy detail attributes ⌝ }
+{
+    if detail == 0 {
+        return Precedence::Jump;
+    }
+    prefix_attrs(attributes)
+}
+
+// One step of Precedence::of.
+fn level_at(table: &[u16], count: u16, node: u16) -> Level
+    ensures { λ r. ⌜ r ≡ levelBy (stepAt ofAsks Unambiguous (now (table .entry)) count node) ⌝ }
+{
+    let attributes = cell(table, node, 1);
+    let detail = cell(table, node, 2);
+    let shape = shape_at(table, count, node);
+    match shape {
+        Shape::Closure(_) => Level::Of(closure_of(detail, attributes)),
+        Shape::Break(value) => Level::Of(jump_of(value)),
+        Shape::Return(value) => Level::Of(jump_of(value)),
+        Shape::Yield(value) => Level::Of(jump_of(value)),
+        Shape::Assign(_, _) => Level::Of(Precedence::Assign),
+        Shape::Range(_, _) => Level::Of(Precedence::Range),
+        Shape::Binary(_, _) => Level::Of(Precedence::of_binop(detail)),
+        Shape::Let(_) => Level::Of(Precedence::Let),
+        Shape::Cast(_, _) => Level::Of(Precedence::Cast),
+        Shape::RawAddr(_) | Shape::Reference(_) | Shape::Unary(_) => Level::Of(Precedence::Prefix),
+        Shape::Array
+        | Shape::Async
+        | Shape::Await(_)
+        | Shape::Block
+        | Shape::Call(_, _)
+        | Shape::Const
+        | Shape::Continue
+        | Shape::Field(_)
+        | Shape::ForLoop
+        | Shape::If
+        | Shape::Index(_, _)
+        | Shape::Infer
+        | Shape::Lit
+        | Shape::Loop
+        | Shape::Macro
+        | Shape::Match
+        | Shape::MethodCall(_, _)
+        | Shape::Paren(_)
+        | Shape::Path
+        | Shape::Repeat
+        | Shape::Struct
+        | Shape::Try(_)
+        | Shape::TryBlock
+        | Shape::Tuple
+        | Shape::Unsafe
+        | Shape::While => Level::Of(prefix_attrs(attributes)),
+        Shape::Group(content) => content_of(content),
+        _ => Level::Of(Precedence::Unambiguous),
+    }
+}
+
+impl Precedence {
+    pub const MIN: Precedence = Precedence::Jump;
+
+    // The place in the enum's order, from 0.
+    pub fn rank(self) -> u16
+        ensures { λ r. ⌜ r ≡ rankOf self ⌝ }
+    {
+        match self {
+            Precedence::Jump => 0,
+            Precedence::Assign => 1,
+            Precedence::Range => 2,
+            Precedence::Or => 3,
+            Precedence::And => 4,
+            Precedence::Let => 5,
+            Precedence::Compare => 6,
+            Precedence::BitOr => 7,
+            Precedence::BitXor => 8,
+            Precedence::BitAnd => 9,
+            Precedence::Shift => 10,
+            Precedence::Sum => 11,
+            Precedence::Product => 12,
+            Precedence::Cast => 13,
+            Precedence::Prefix => 14,
+            Precedence::Unambiguous => 15,
+        }
+    }
+
+    // self < other
+    pub fn is_below(self, other: Precedence) -> bool
+        ensures { λ r. ⌜ r ≡ below self other ⌝ }
+    {
+        self.rank() < other.rank()
+    }
+
+    // self <= other
+    pub fn is_at_most(self, other: Precedence) -> bool
+        ensures { λ r. ⌜ r ≡ atMost self other ⌝ }
+    {
+        self.rank() <= other.rank()
+    }
+
+    // The precedence of a binary operator, by its number.
+    pub fn of_binop(op: u16) -> Precedence
+        ensures { λ r. ⌜ r ≡ ofBinop op ⌝ }
+    {
+        match op {
+            0..=1 => Precedence::Sum,
+            2..=4 => Precedence::Product,
+            5 => Precedence::And,
+            6 => Precedence::Or,
+            7 => Precedence::BitXor,
+            8 => Precedence::BitAnd,
+            9 => Precedence::BitOr,
+            10..=11 => Precedence::Shift,
+            12..=17 => Precedence::Compare,
+            18..=27 => Precedence::Assign,
+            _ => Precedence::MIN,
+        }
+    }
+
+    // The precedence of a node of a table.
+    pub fn of(table: &[u16], count: u16, node: u16) -> Precedence
+        ensures { λ r. ⌜ r ≡ precedenceOf (treeAt (now (table .entry)) count node) ⌝ }
+    {
+        let mut at = node;
+        loop {
+            let level = level_at(table, count, at);
+            match level {
+                Level::Of(precedence) => break precedence,
+                Level::Content(next) => at = next,
+            }
+        }
+    }
+}
