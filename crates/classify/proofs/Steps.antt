@@ -6,14 +6,17 @@ use Prim.Native.Nat.{ℕ, zero, suc, _≤_, _<_}
 use native.Mathlib.Omega.{arith}
 use native.Mathlib.Decide.{decLe}
 use Rattle.tree.specs.Forms.{ExprMacro}
-use Rattle.tree.specs.Table.{formAt, detailAt}
+use Rattle.tree.specs.Table.{detailAt}
 use Rattle.tree.specs.Trees.{Label, Tree, none, labelAt, treeAt}
-use Rattle.tree.specs.Shapes.{presence}
+use Rattle.tree.specs.Shapes.{presence, formIn}
 use lib.Dec.{eqb}
+use borrow.Author.Tests.{ne-eqb}
 use Rattle.laws.specs.Choice.{pick}
+use Rattle.laws.proofs.Choice.{pick-true, pick-false}
 use Rattle.tree.specs.declared.table.Operand.{Operand}
 use Rattle.tree.specs.Walks.{Ask, answer, first, walk, Step, ends, goes, stepBy, stepAt}
 use Rattle.tree.proofs.Unfold.{tree-zero, tree-past, unfolds}
+use Rattle.tree.proofs.Shapes.{form-in, form-none}
 use Rattle.tree.proofs.Walks.{leads}
 use Rattle.classify.specs.declared.ControlFlow.the-variants.{Break, Continue}
 use Rattle.classify.specs.Classify.{requiresComma, requiresSemi, lastTypeInPath, groupLabel, braceInPath, braceInBounds, typeTrailingBrace}
@@ -73,22 +76,30 @@ module _ (d : ℕ) (v w : Operand) where
 -- ---- requires_semi_to_be_stmt
 
 module _ (cells : List ℕ) (count i : ℕ) where
-  pub semi-macro : 1 ≤ i → i ≤ count → formAt cells i ≡ ExprMacro → not (eqb (detailAt cells i) 2) ≡ requiresSemi (treeAt cells count i)
-  unfolding requiresSemi labelAt pick
-  semi-macro h k f = rw (unfolds cells count i h k, f)
-
-  semi-here : 1 ≤ i → i ≤ count → eqb (formAt cells i) ExprMacro ≡ false → requiresComma (treeAt cells count i) ≡ requiresSemi (treeAt cells count i)
-  unfolding requiresSemi labelAt pick
-  semi-here h k f = rw (unfolds cells count i h k, f)
+  -- a node that is there
+  semi-here : 1 ≤ i → i ≤ count → requiresSemi (treeAt cells count i) ≡ pick (eqb (formIn cells count i) ExprMacro) (not (eqb (detailAt cells i) 2)) (requiresComma (treeAt cells count i))
+  unfolding requiresSemi labelAt
+  semi-here h k = rw (form-in cells count i h k, unfolds cells count i h k)
 
   semi-none : treeAt cells count i ≡ none → requiresComma (treeAt cells count i) ≡ requiresSemi (treeAt cells count i)
   unfolding requiresSemi
   semi-none e = rw e
 
-  pub semi-other : (1 ≤ i → i ≤ count → eqb (formAt cells i) ExprMacro ≡ false) → requiresComma (treeAt cells count i) ≡ requiresSemi (treeAt cells count i)
+  pub semi-macro : formIn cells count i ≡ ExprMacro → not (eqb (detailAt cells i) 2) ≡ requiresSemi (treeAt cells count i)
+  semi-macro f = go (decLe 1 i) (decLe i count)
+    where
+      zero-form : formIn cells count i ≡ 0 → not (eqb (detailAt cells i) 2) ≡ requiresSemi (treeAt cells count i)
+      zero-form z = absurd (omega arith)
+
+      go : Dec (1 ≤ i) → Dec (i ≤ count) → not (eqb (detailAt cells i) 2) ≡ requiresSemi (treeAt cells count i)
+      go (yes h) (yes k) = sym (semi-here h k ∙ pick-true _ _ (rw f))
+      go (yes h) (no k) = zero-form (form-none cells count i (λ a b. k b))
+      go (no h) d = zero-form (form-none cells count i (λ a b. h a))
+
+  pub semi-other : (formIn cells count i ≡ ExprMacro → ⊥) → requiresComma (treeAt cells count i) ≡ requiresSemi (treeAt cells count i)
   semi-other f = go (decLe 1 i) (decLe i count)
     where
       go : Dec (1 ≤ i) → Dec (i ≤ count) → requiresComma (treeAt cells count i) ≡ requiresSemi (treeAt cells count i)
-      go (yes h) (yes k) = semi-here h k (f h k)
+      go (yes h) (yes k) = sym (semi-here h k ∙ pick-false _ _ (ne-eqb _ _ f))
       go (yes h) (no k) = semi-none (tree-past cells count i (omega arith))
       go (no h) d = semi-none (let z : i ≡ 0 = omega arith in rw z (tree-zero cells count))

@@ -13,7 +13,7 @@ use Rattle.tree.specs.Walks.{Ask, answer, first, second, walk}
 unfoldable pub commaRows : Label → Tree → Tree → List (Row (Ask Bool))
 commaRows l a b =
     row
-    (ExprIf ∷ ExprMatch ∷ ExprBlock ∷ ExprUnsafe ∷ ExprWhile ∷ ExprLoop ∷ ExprForLoop ∷ ExprTryBlock ∷ ExprConst ∷ [])
+    (ExprBlock ∷ ExprConst ∷ ExprForLoop ∷ ExprIf ∷ ExprLoop ∷ ExprMatch ∷ ExprTryBlock ∷ ExprUnsafe ∷ ExprWhile ∷ [])
     (answer false) ∷
     row (ExprGroup ∷ []) first ∷
     []
@@ -39,8 +39,10 @@ lastTypeInPath detail = pick (eqb detail 1) (answer true) (pick (eqb detail 3) f
 -- ImplTrait and TraitObject: last_type_in_bounds. A bound that is a path has the path's detail, the others end the question with no
 unfoldable pub pathRows : Label → Tree → Tree → List (Row (Ask Bool))
 pathRows l a b =
-    row (TypeFnPtr ∷ TypePtr ∷ TypeReference ∷ []) first ∷
-    row (TypeImplTrait ∷ TypePath ∷ TypeTraitObject ∷ []) (lastTypeInPath (l .detail)) ∷
+    row (TypeFnPtr ∷ TypePtr ∷ []) first ∷
+    row (TypeReference ∷ []) first ∷
+    row (TypeImplTrait ∷ TypeTraitObject ∷ []) (lastTypeInPath (l .detail)) ∷
+    row (TypePath ∷ []) (lastTypeInPath (l .detail)) ∷
     []
 
 unfoldable pub pathAsks : Label → Tree → Tree → Ask Bool
@@ -58,9 +60,9 @@ groupLabel attributes = pick (eqb attributes 0) first (answer false)
 unfoldable pub labelRows : Label → Tree → Tree → List (Row (Ask Bool))
 labelRows l a b =
     row (ExprBlock ∷ ExprForLoop ∷ ExprLoop ∷ ExprWhile ∷ []) (answer (eqb (l .detail) 1)) ∷
-    row
-    (ExprAssign ∷ ExprAwait ∷ ExprBinary ∷ ExprCall ∷ ExprCast ∷ ExprField ∷ ExprIndex ∷ ExprMethodCall ∷ ExprRange ∷ ExprTry ∷ [])
-    first ∷
+    row (ExprAssign ∷ ExprBinary ∷ ExprCall ∷ ExprIndex ∷ ExprMethodCall ∷ ExprRange ∷ []) first ∷
+    row (ExprCast ∷ []) first ∷
+    row (ExprAwait ∷ ExprField ∷ ExprTry ∷ []) first ∷
     row (ExprGroup ∷ []) (groupLabel (l .attributes)) ∷
     []
 
@@ -82,7 +84,8 @@ braceInBounds detail = pick (eqb detail 3) first (answer (eqb detail 7))
 
 unfoldable pub typeBraceRows : Label → Tree → Tree → List (Row (Ask Bool))
 typeBraceRows l a b =
-    row (TypeFnPtr ∷ TypePtr ∷ TypeReference ∷ []) first ∷
+    row (TypeFnPtr ∷ TypePtr ∷ []) first ∷
+    row (TypeReference ∷ []) first ∷
     row (TypeImplTrait ∷ TypeTraitObject ∷ []) (braceInBounds (l .detail)) ∷
     row (TypeMacro ∷ []) (answer (eqb (l .detail) 2)) ∷
     row (TypePath ∷ []) (braceInPath (l .detail)) ∷
@@ -103,8 +106,9 @@ braceRows l a b =
     (answer true) ∷
     row (ExprAssign ∷ ExprBinary ∷ ExprRange ∷ []) second ∷
     row
-    (ExprBreak ∷ ExprClosure ∷ ExprGroup ∷ ExprLet ∷ ExprRawAddr ∷ ExprReference ∷ ExprReturn ∷ ExprUnary ∷ ExprYield ∷ [])
+    (ExprBreak ∷ ExprClosure ∷ ExprGroup ∷ ExprLet ∷ ExprRawAddr ∷ ExprReturn ∷ ExprUnary ∷ ExprYield ∷ [])
     first ∷
+    row (ExprReference ∷ []) first ∷
     row (ExprCast ∷ []) (answer (typeTrailingBrace b)) ∷
     row (ExprMacro ∷ []) (answer (eqb (l .detail) 2)) ∷
     row (ExprVerbatim ∷ []) (answer (eqb (l .detail) 1)) ∷

@@ -1,5 +1,6 @@
 // prettyplease's classify.rs: questions about the ends of an expression, each a walk over node numbers.
-use tree::shape::Shape;
+use tree::forms;
+use tree::shape::form_at;
 use tree::shape::shape_at;
 use tree::table::Operand;
 use tree::table::cell;
@@ -29,28 +30,27 @@ fn go_on(absent: bool, operand: Operand) -> ControlFlow
 pub fn requires_semi_to_be_stmt(table: &[u16], count: u16, node: u16) -> bool
     ensures { λ r. ⌜ r ≡ requiresSemi (treeAt (now (table .entry)) count node) ⌝ }
 {
-    let shape = shape_at(table, count, node);
-    match shape {
-        Shape::Macro => cell(table, node, 2) != 2,
-        _ => requires_comma_to_be_match_arm(table, count, node),
+    if form_at(table, count, node) == forms::EXPR_MACRO {
+        return cell(table, node, 2) != 2;
     }
+    requires_comma_to_be_match_arm(table, count, node)
 }
 
 fn comma_step(table: &[u16], count: u16, node: u16) -> ControlFlow
     ensures { λ r. ⌜ r ≡ flowBy (stepAt commaAsks true (now (table .entry)) count node) ⌝ }
 {
     let shape = shape_at(table, count, node);
-    match shape {
-        Shape::If
-        | Shape::Match
-        | Shape::Block
-        | Shape::Unsafe
-        | Shape::While
-        | Shape::Loop
-        | Shape::ForLoop
-        | Shape::TryBlock
-        | Shape::Const => ControlFlow::Break(false),
-        Shape::Group(content) => go_on(true, content),
+    match form_at(table, count, node) {
+        forms::EXPR_IF
+        | forms::EXPR_MATCH
+        | forms::EXPR_BLOCK
+        | forms::EXPR_UNSAFE
+        | forms::EXPR_WHILE
+        | forms::EXPR_LOOP
+        | forms::EXPR_FOR_LOOP
+        | forms::EXPR_TRY_BLOCK
+        | forms::EXPR_CONST => ControlFlow::Break(false),
+        forms::EXPR_GROUP => go_on(true, shape.first()),
         _ => ControlFlow::Break(true),
     }
 }
@@ -82,15 +82,14 @@ fn last_type_in_path(detail: u16, output: Operand) -> ControlFlow
 fn path_step(table: &[u16], count: u16, node: u16) -> ControlFlow
     ensures { λ r. ⌜ r ≡ flowBy (stepAt pathAsks false (now (table .entry)) count node) ⌝ }
 {
-    let detail = cell(table, node, 2);
     let shape = shape_at(table, count, node);
-    match shape {
-        Shape::TypeFnPtr(output) => go_on(false, output),
-        Shape::TypeImplTrait(output) => last_type_in_path(detail, output),
-        Shape::TypePath(output, _) => last_type_in_path(detail, output),
-        Shape::TypePtr(elem) => go_on(false, elem),
-        Shape::TypeReference(elem) => go_on(false, elem),
-        Shape::TypeTraitObject(output) => last_type_in_path(detail, output),
+    match form_at(table, count, node) {
+        forms::TYPE_FN_PTR | forms::TYPE_PTR => go_on(false, shape.first()),
+        forms::TYPE_REFERENCE => go_on(false, shape.first()),
+        forms::TYPE_IMPL_TRAIT | forms::TYPE_TRAIT_OBJECT => {
+            last_type_in_path(cell(table, node, 2), shape.first())
+        }
+        forms::TYPE_PATH => last_type_in_path(cell(table, node, 2), shape.first()),
         _ => ControlFlow::Break(false),
     }
 }
@@ -121,24 +120,20 @@ fn group_label(attributes: u16, content: Operand) -> ControlFlow
 fn label_step(table: &[u16], count: u16, node: u16) -> ControlFlow
     ensures { λ r. ⌜ r ≡ flowBy (stepAt labelAsks false (now (table .entry)) count node) ⌝ }
 {
-    let attributes = cell(table, node, 1);
-    let detail = cell(table, node, 2);
     let shape = shape_at(table, count, node);
-    match shape {
-        Shape::Block | Shape::ForLoop | Shape::Loop | Shape::While => {
-            ControlFlow::Break(detail == 1)
+    match form_at(table, count, node) {
+        forms::EXPR_BLOCK | forms::EXPR_FOR_LOOP | forms::EXPR_LOOP | forms::EXPR_WHILE => {
+            ControlFlow::Break(cell(table, node, 2) == 1)
         }
-        Shape::Assign(left, _) => go_on(false, left),
-        Shape::Await(base) => go_on(false, base),
-        Shape::Binary(left, _) => go_on(false, left),
-        Shape::Call(func, _) => go_on(false, func),
-        Shape::Cast(expr, _) => go_on(false, expr),
-        Shape::Field(base) => go_on(false, base),
-        Shape::Index(expr, _) => go_on(false, expr),
-        Shape::MethodCall(receiver, _) => go_on(false, receiver),
-        Shape::Range(start, _) => go_on(false, start),
-        Shape::Try(expr) => go_on(false, expr),
-        Shape::Group(content) => group_label(attributes, content),
+        forms::EXPR_ASSIGN
+        | forms::EXPR_BINARY
+        | forms::EXPR_CALL
+        | forms::EXPR_INDEX
+        | forms::EXPR_METHOD_CALL
+        | forms::EXPR_RANGE => go_on(false, shape.first()),
+        forms::EXPR_CAST => go_on(false, shape.first()),
+        forms::EXPR_AWAIT | forms::EXPR_FIELD | forms::EXPR_TRY => go_on(false, shape.first()),
+        forms::EXPR_GROUP => group_label(cell(table, node, 1), shape.first()),
         _ => ControlFlow::Break(false),
     }
 }
@@ -181,17 +176,16 @@ fn brace_in_path(detail: u16, output: Operand) -> ControlFlow
 fn type_brace_step(table: &[u16], count: u16, node: u16) -> ControlFlow
     ensures { λ r. ⌜ r ≡ flowBy (stepAt typeBraceAsks false (now (table .entry)) count node) ⌝ }
 {
-    let detail = cell(table, node, 2);
     let shape = shape_at(table, count, node);
-    match shape {
-        Shape::TypeFnPtr(output) => go_on(false, output),
-        Shape::TypeImplTrait(output) => brace_in_bounds(detail, output),
-        Shape::TypeMacro => ControlFlow::Break(detail == 2),
-        Shape::TypePath(output, _) => brace_in_path(detail, output),
-        Shape::TypePtr(elem) => go_on(false, elem),
-        Shape::TypeReference(elem) => go_on(false, elem),
-        Shape::TypeTraitObject(output) => brace_in_bounds(detail, output),
-        Shape::TypeVerbatim => ControlFlow::Break(detail == 1),
+    match form_at(table, count, node) {
+        forms::TYPE_FN_PTR | forms::TYPE_PTR => go_on(false, shape.first()),
+        forms::TYPE_REFERENCE => go_on(false, shape.first()),
+        forms::TYPE_IMPL_TRAIT | forms::TYPE_TRAIT_OBJECT => {
+            brace_in_bounds(cell(table, node, 2), shape.first())
+        }
+        forms::TYPE_MACRO => ControlFlow::Break(cell(table, node, 2) == 2),
+        forms::TYPE_PATH => brace_in_path(cell(table, node, 2), shape.first()),
+        forms::TYPE_VERBATIM => ControlFlow::Break(cell(table, node, 2) == 1),
         _ => ControlFlow::Break(false),
     }
 }
@@ -223,35 +217,34 @@ fn cast_brace(table: &[u16], count: u16, ty: Operand) -> bool
 fn brace_step(table: &[u16], count: u16, node: u16) -> ControlFlow
     ensures { λ r. ⌜ r ≡ flowBy (stepAt braceAsks false (now (table .entry)) count node) ⌝ }
 {
-    let detail = cell(table, node, 2);
     let shape = shape_at(table, count, node);
-    match shape {
-        Shape::Async
-        | Shape::Block
-        | Shape::Const
-        | Shape::ForLoop
-        | Shape::If
-        | Shape::Loop
-        | Shape::Match
-        | Shape::Struct
-        | Shape::TryBlock
-        | Shape::Unsafe
-        | Shape::While => ControlFlow::Break(true),
-        Shape::Assign(_, right) => go_on(false, right),
-        Shape::Binary(_, right) => go_on(false, right),
-        Shape::Break(value) => go_on(false, value),
-        Shape::Cast(_, ty) => ControlFlow::Break(cast_brace(table, count, ty)),
-        Shape::Closure(body) => go_on(false, body),
-        Shape::Group(content) => go_on(false, content),
-        Shape::Let(expr) => go_on(false, expr),
-        Shape::Macro => ControlFlow::Break(detail == 2),
-        Shape::Range(_, end) => go_on(false, end),
-        Shape::RawAddr(expr) => go_on(false, expr),
-        Shape::Reference(expr) => go_on(false, expr),
-        Shape::Return(value) => go_on(false, value),
-        Shape::Unary(expr) => go_on(false, expr),
-        Shape::Verbatim => ControlFlow::Break(detail == 1),
-        Shape::Yield(value) => go_on(false, value),
+    match form_at(table, count, node) {
+        forms::EXPR_ASYNC
+        | forms::EXPR_BLOCK
+        | forms::EXPR_CONST
+        | forms::EXPR_FOR_LOOP
+        | forms::EXPR_IF
+        | forms::EXPR_LOOP
+        | forms::EXPR_MATCH
+        | forms::EXPR_STRUCT
+        | forms::EXPR_TRY_BLOCK
+        | forms::EXPR_UNSAFE
+        | forms::EXPR_WHILE => ControlFlow::Break(true),
+        forms::EXPR_ASSIGN | forms::EXPR_BINARY | forms::EXPR_RANGE => {
+            go_on(false, shape.second())
+        }
+        forms::EXPR_BREAK
+        | forms::EXPR_CLOSURE
+        | forms::EXPR_GROUP
+        | forms::EXPR_LET
+        | forms::EXPR_RAW_ADDR
+        | forms::EXPR_RETURN
+        | forms::EXPR_UNARY
+        | forms::EXPR_YIELD => go_on(false, shape.first()),
+        forms::EXPR_REFERENCE => go_on(false, shape.first()),
+        forms::EXPR_CAST => ControlFlow::Break(cast_brace(table, count, shape.second())),
+        forms::EXPR_MACRO => ControlFlow::Break(cell(table, node, 2) == 2),
+        forms::EXPR_VERBATIM => ControlFlow::Break(cell(table, node, 2) == 1),
         _ => ControlFlow::Break(false),
     }
 }

@@ -3,13 +3,15 @@ use mathlib.Core.Path.{_≡_, refl, sym, ap, _∙_}
 use mathlib.Core.List.{List}
 use Prim.Native.Nat.{ℕ, _≤_, _<_}
 use native.Mathlib.Omega.{arith}
+use Rattle.laws.specs.Choice.{pick}
+use Rattle.tree.specs.Forms.{classOf}
 use Rattle.tree.specs.Trees.{treeAt}
 use Rattle.tree.specs.Walks.{Step, ends, goes, stepAt}
 use Rattle.tree.proofs.Walks.{leads}
 use Rattle.precedence.specs.declared.Precedence.{Precedence}
 use Rattle.precedence.specs.declared.Precedence.the-variants.{Unambiguous}
 use Rattle.precedence.specs.declared.Level.the-variants.{Of, Content}
-use Rattle.precedence.specs.Precedences.{ofAsks, precedenceOf}
+use Rattle.precedence.specs.Precedences.{closedBy, ofAsks, precedenceOf}
 use Rattle.precedence.specs.Steps.{levelBy}
 
 level-ends : (s : Step Precedence) (p : Precedence) → Of p ≡ levelBy s → s ≡ ends p
@@ -28,3 +30,8 @@ module _ (cells : List ℕ) (count i : ℕ) where
   pub of-goes : (n : ℕ) → Content n ≡ levelBy (stepAt ofAsks Unambiguous cells count i) → (i < n) × (n ≤ count) × (precedenceOf (treeAt cells count n) ≡ precedenceOf (treeAt cells count i))
   unfolding precedenceOf
   of-goes n e = rw (level-goes (stepAt ofAsks Unambiguous cells count i) n e) at (leads ofAsks Unambiguous cells count i)
+
+-- 0 is no form
+pub closed-none : (attributes : ℕ) → closedBy 0 attributes ≡ Unambiguous
+unfolding closedBy classOf pick
+closed-none attributes = refl

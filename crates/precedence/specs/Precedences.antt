@@ -1,12 +1,12 @@
 -- prettyplease's precedence.rs: the precedences, their order, and what they are for operators and expressions.
-use mathlib.Core.Bool.{Bool, true, false}
+use mathlib.Core.Bool.{Bool, true, false, not, _&&_}
 use mathlib.Core.List.{List, [], _∷_}
 use Prim.Native.Nat.{ℕ}
 use lib.Dec.{eqb, leb, ltb}
 use Rattle.laws.specs.Choice.{pick, Row, row, lookup}
 use Rattle.tree.specs.declared.table.Operand.{Operand}
 use Rattle.tree.specs.declared.table.Operand.the-variants.{Absent, Present}
-use Rattle.tree.specs.Forms.{ExprArray, ExprAssign, ExprAsync, ExprAwait, ExprBinary, ExprBlock, ExprBreak, ExprCall, ExprCast, ExprClosure, ExprConst, ExprContinue, ExprField, ExprForLoop, ExprGroup, ExprIf, ExprIndex, ExprInfer, ExprLet, ExprLit, ExprLoop, ExprMacro, ExprMatch, ExprMethodCall, ExprParen, ExprPath, ExprRange, ExprRawAddr, ExprReference, ExprRepeat, ExprReturn, ExprStruct, ExprTry, ExprTryBlock, ExprTuple, ExprUnary, ExprUnsafe, ExprWhile, ExprYield}
+use Rattle.tree.specs.Forms.{ExprAssign, ExprBinary, ExprBreak, ExprCast, ExprClosure, ExprGroup, ExprLet, ExprRange, ExprRawAddr, ExprReference, ExprReturn, ExprUnary, ExprVerbatim, ExprYield, anExpression, classOf}
 use Rattle.tree.specs.Trees.{Label, Tree}
 use Rattle.tree.specs.Walks.{Ask, answer, first, isThere, walk}
 use Rattle.precedence.specs.declared.Precedence.{Precedence}
@@ -81,7 +81,7 @@ jumpBy false = Unambiguous
 abbrev pub closureBy : ℕ → ℕ → Precedence
 closureBy detail attributes = pick (eqb detail 0) Jump (prefixAttrs attributes)
 
--- Precedence::of, by form; Verbatim and what is no expression: Unambiguous
+-- Precedence::of, by form
 unfoldable pub ofRows : Label → Tree → Tree → List (Row (Ask Precedence))
 ofRows l a b =
     row (ExprClosure ∷ []) (answer (closureBy (l .detail) (l .attributes))) ∷
@@ -91,15 +91,18 @@ ofRows l a b =
     row (ExprBinary ∷ []) (answer (ofBinop (l .detail))) ∷
     row (ExprLet ∷ []) (answer Let) ∷
     row (ExprCast ∷ []) (answer Cast) ∷
-    row (ExprRawAddr ∷ ExprReference ∷ ExprUnary ∷ []) (answer Prefix) ∷
-    row
-    (ExprArray ∷ ExprAsync ∷ ExprAwait ∷ ExprBlock ∷ ExprCall ∷ ExprConst ∷ ExprContinue ∷ ExprField ∷ ExprForLoop ∷ ExprIf ∷ ExprIndex ∷ ExprInfer ∷ ExprLit ∷ ExprLoop ∷ ExprMacro ∷ ExprMatch ∷ ExprMethodCall ∷ ExprParen ∷ ExprPath ∷ ExprRepeat ∷ ExprStruct ∷ ExprTry ∷ ExprTryBlock ∷ ExprTuple ∷ ExprUnsafe ∷ ExprWhile ∷ [])
-    (answer (prefixAttrs (l .attributes))) ∷
+    row (ExprRawAddr ∷ ExprUnary ∷ []) (answer Prefix) ∷
+    row (ExprReference ∷ []) (answer Prefix) ∷
     row (ExprGroup ∷ []) first ∷
     []
 
+-- all other expressions: by their attributes; Verbatim, and what is no expression: Unambiguous
+unfoldable pub closedBy : ℕ → ℕ → Precedence
+closedBy form attributes =
+    pick (eqb (classOf form) anExpression && not (eqb form ExprVerbatim)) (prefixAttrs attributes) Unambiguous
+
 unfoldable pub ofAsks : Label → Tree → Tree → Ask Precedence
-ofAsks l a b = lookup (ofRows l a b) (answer Unambiguous) (l .form)
+ofAsks l a b = lookup (ofRows l a b) (answer (closedBy (l .form) (l .attributes))) (l .form)
 
 unfoldable pub precedenceOf : Tree → Precedence
 precedenceOf t = walk ofAsks Unambiguous t

@@ -1,13 +1,16 @@
 // prettyplease's precedence.rs: the precedences of expressions, loosest first.
-use tree::shape::Shape;
+use tree::forms;
+use tree::shape::form_at;
 use tree::shape::shape_at;
 use tree::table::Operand;
 use tree::table::cell;
 ghost use mathlib.Core.Path.{_≡_};
+ghost use Rattle.tree.specs.Table.{attributesAt};
+ghost use Rattle.tree.specs.Shapes.{formIn};
 ghost use Rattle.tree.specs.Trees.{treeAt};
 ghost use Rattle.tree.specs.Walks.{isPresent, into, stepAt};
 ghost use Rattle.precedence.specs.declared.Precedence.the-variants.{Unambiguous};
-ghost use Rattle.precedence.specs.Precedences.{rankOf, below, atMost, ofBinop, prefixAttrs, jumpBy, closureBy, ofAsks, precedenceOf};
+ghost use Rattle.precedence.specs.Precedences.{rankOf, below, atMost, ofBinop, prefixAttrs, jumpBy, closureBy, closedBy, ofAsks, precedenceOf};
 ghost use Rattle.precedence.specs.Steps.{levelBy};
 
 pub enum Precedence {
@@ -91,52 +94,39 @@ fn closure_of(detail: u16, attributes: u16) -> Precedence
     prefix_attrs(attributes)
 }
 
+// Precedence::of for the forms that are left: a closed expression but Verbatim, which has no attributes.
+fn closed_of(table: &[u16], count: u16, node: u16) -> Precedence
+    ensures { λ r. ⌜ r ≡ closedBy (formIn (now (table .entry)) count node) (attributesAt (now (table .entry)) node) ⌝ }
+{
+    let form = form_at(table, count, node);
+    if tree::form::class_of(form) != 1 {
+        return Precedence::Unambiguous;
+    }
+    if form == forms::EXPR_VERBATIM {
+        return Precedence::Unambiguous;
+    }
+    prefix_attrs(cell(table, node, 1))
+}
+
 // One step of Precedence::of.
 fn level_at(table: &[u16], count: u16, node: u16) -> Level
     ensures { λ r. ⌜ r ≡ levelBy (stepAt ofAsks Unambiguous (now (table .entry)) count node) ⌝ }
 {
-    let attributes = cell(table, node, 1);
-    let detail = cell(table, node, 2);
     let shape = shape_at(table, count, node);
-    match shape {
-        Shape::Closure(_) => Level::Of(closure_of(detail, attributes)),
-        Shape::Break(value) => Level::Of(jump_of(value)),
-        Shape::Return(value) => Level::Of(jump_of(value)),
-        Shape::Yield(value) => Level::Of(jump_of(value)),
-        Shape::Assign(_, _) => Level::Of(Precedence::Assign),
-        Shape::Range(_, _) => Level::Of(Precedence::Range),
-        Shape::Binary(_, _) => Level::Of(Precedence::of_binop(detail)),
-        Shape::Let(_) => Level::Of(Precedence::Let),
-        Shape::Cast(_, _) => Level::Of(Precedence::Cast),
-        Shape::RawAddr(_) | Shape::Reference(_) | Shape::Unary(_) => Level::Of(Precedence::Prefix),
-        Shape::Array
-        | Shape::Async
-        | Shape::Await(_)
-        | Shape::Block
-        | Shape::Call(_, _)
-        | Shape::Const
-        | Shape::Continue
-        | Shape::Field(_)
-        | Shape::ForLoop
-        | Shape::If
-        | Shape::Index(_, _)
-        | Shape::Infer
-        | Shape::Lit
-        | Shape::Loop
-        | Shape::Macro
-        | Shape::Match
-        | Shape::MethodCall(_, _)
-        | Shape::Paren(_)
-        | Shape::Path
-        | Shape::Repeat
-        | Shape::Struct
-        | Shape::Try(_)
-        | Shape::TryBlock
-        | Shape::Tuple
-        | Shape::Unsafe
-        | Shape::While => Level::Of(prefix_attrs(attributes)),
-        Shape::Group(content) => content_of(content),
-        _ => Level::Of(Precedence::Unambiguous),
+    match form_at(table, count, node) {
+        forms::EXPR_CLOSURE => Level::Of(closure_of(cell(table, node, 2), cell(table, node, 1))),
+        forms::EXPR_BREAK | forms::EXPR_RETURN | forms::EXPR_YIELD => {
+            Level::Of(jump_of(shape.first()))
+        }
+        forms::EXPR_ASSIGN => Level::Of(Precedence::Assign),
+        forms::EXPR_RANGE => Level::Of(Precedence::Range),
+        forms::EXPR_BINARY => Level::Of(Precedence::of_binop(cell(table, node, 2))),
+        forms::EXPR_LET => Level::Of(Precedence::Let),
+        forms::EXPR_CAST => Level::Of(Precedence::Cast),
+        forms::EXPR_RAW_ADDR | forms::EXPR_UNARY => Level::Of(Precedence::Prefix),
+        forms::EXPR_REFERENCE => Level::Of(Precedence::Prefix),
+        forms::EXPR_GROUP => content_of(shape.first()),
+        _ => Level::Of(closed_of(table, count, node)),
     }
 }
 

@@ -1,4 +1,5 @@
 // The classes of the forms, and the numbers that a node may hold.
+use super::forms;
 ghost use mathlib.Core.Path.{_≡_};
 ghost use Rattle.tree.specs.Forms.{classOf, highestAttributes, highestDetail, allowed};
 
@@ -25,35 +26,24 @@ fn highest_attributes(form: u16) -> u16
     if class_of(form) != 1 {
         return 0;
     }
-    if form == 38 { 0 } else { 2 }
+    if form == forms::EXPR_VERBATIM { 0 } else { 2 }
 }
 
 fn highest_detail(form: u16) -> u16
     ensures { λ r. ⌜ r ≡ highestDetail form ⌝ }
 {
     match form {
-        // Binary
-        5 => 27,
-        // Unary
-        36 => 2,
-        // Block, ForLoop, Loop, While
-        6 | 14 | 21 | 39 => 1,
-        // Break
-        7 => 1,
-        // both Macros
-        22 | 46 => 2,
-        // Closure, Field, Range
-        10 | 13 | 27 => 1,
-        // RawAddr, Ptr
-        28 | 50 => 1,
-        // both References
-        29 | 51 => 1,
-        // both Verbatims
-        38 | 55 => 1,
-        // Path type
-        49 => 3,
-        // ImplTrait, TraitObject
-        44 | 53 => 7,
+        forms::EXPR_BINARY => 27,
+        forms::EXPR_UNARY => 2,
+        forms::EXPR_BLOCK | forms::EXPR_FOR_LOOP | forms::EXPR_LOOP | forms::EXPR_WHILE => 1,
+        forms::EXPR_BREAK => 1,
+        forms::EXPR_MACRO | forms::TYPE_MACRO => 2,
+        forms::EXPR_CLOSURE | forms::EXPR_FIELD | forms::EXPR_RANGE => 1,
+        forms::EXPR_RAW_ADDR | forms::TYPE_PTR => 1,
+        forms::EXPR_REFERENCE | forms::TYPE_REFERENCE => 1,
+        forms::EXPR_VERBATIM | forms::TYPE_VERBATIM => 1,
+        forms::TYPE_PATH => 3,
+        forms::TYPE_IMPL_TRAIT | forms::TYPE_TRAIT_OBJECT => 7,
         _ => 0,
     }
 }

@@ -1,5 +1,6 @@
 // What may stand at the two operand places of a node, and whether an operand does not fit its place.
 use super::form::class_of;
+use super::forms;
 use super::table::cell;
 ghost use mathlib.Core.Path.{_≡_};
 ghost use Rattle.tree.specs.Places.{firstPlace, secondPlace, outputPlace, argumentsPlace, wrongClass, wrongList, wrongItem, wrongNext, isRequired, wrongPresent, wrongAt};
@@ -46,30 +47,28 @@ pub fn first_place(form: u16, detail: u16) -> Place
     ensures { λ r. ⌜ r ≡ firstPlace form detail ⌝ }
 {
     match form {
-        // Assign, Binary, Index
-        2 | 5 | 17 => Place::Required(1),
-        // Cast
-        9 => Place::Required(1),
-        // Await, Closure, Field, Group, Let, Paren, RawAddr, Try, Unary
-        4 | 10 | 13 | 15 | 19 | 25 | 28 | 33 | 36 => Place::Required(1),
-        // Reference
-        29 => Place::Required(1),
-        // type Ptr
-        50 => Place::Required(2),
-        // type Reference
-        51 => Place::Required(2),
-        // Break, Return, Yield
-        7 | 31 | 40 => Place::Optional(1),
-        // FnPtr
-        42 => Place::Optional(2),
-        // Range
-        27 => Place::Optional(1),
-        // Call, MethodCall
-        8 | 24 => Place::Required(1),
-        // types ImplTrait, Path, TraitObject
-        44 | 49 | 53 => output_place(detail),
-        // a link
-        56 => Place::Item,
+        forms::EXPR_ASSIGN | forms::EXPR_BINARY | forms::EXPR_INDEX => Place::Required(1),
+        forms::EXPR_CAST => Place::Required(1),
+        forms::EXPR_AWAIT
+        | forms::EXPR_CLOSURE
+        | forms::EXPR_FIELD
+        | forms::EXPR_GROUP
+        | forms::EXPR_LET
+        | forms::EXPR_PAREN
+        | forms::EXPR_RAW_ADDR
+        | forms::EXPR_TRY
+        | forms::EXPR_UNARY => Place::Required(1),
+        forms::EXPR_REFERENCE => Place::Required(1),
+        forms::TYPE_PTR => Place::Required(2),
+        forms::TYPE_REFERENCE => Place::Required(2),
+        forms::EXPR_BREAK | forms::EXPR_RETURN | forms::EXPR_YIELD => Place::Optional(1),
+        forms::TYPE_FN_PTR => Place::Optional(2),
+        forms::EXPR_RANGE => Place::Optional(1),
+        forms::EXPR_CALL | forms::EXPR_METHOD_CALL => Place::Required(1),
+        forms::TYPE_IMPL_TRAIT | forms::TYPE_PATH | forms::TYPE_TRAIT_OBJECT => output_place(
+            detail,
+        ),
+        forms::LINK => Place::Item,
         _ => Place::Nothing,
     }
 }
@@ -78,18 +77,12 @@ pub fn second_place(form: u16, detail: u16) -> Place
     ensures { λ r. ⌜ r ≡ secondPlace form detail ⌝ }
 {
     match form {
-        // Assign, Binary, Index
-        2 | 5 | 17 => Place::Required(1),
-        // Cast
-        9 => Place::Required(2),
-        // Range
-        27 => Place::Optional(1),
-        // Call, MethodCall
-        8 | 24 => Place::List(1),
-        // Path type
-        49 => arguments_place(detail),
-        // a link
-        56 => Place::Next,
+        forms::EXPR_ASSIGN | forms::EXPR_BINARY | forms::EXPR_INDEX => Place::Required(1),
+        forms::EXPR_CAST => Place::Required(2),
+        forms::EXPR_RANGE => Place::Optional(1),
+        forms::EXPR_CALL | forms::EXPR_METHOD_CALL => Place::List(1),
+        forms::TYPE_PATH => arguments_place(detail),
+        forms::LINK => Place::Next,
         _ => Place::Nothing,
     }
 }

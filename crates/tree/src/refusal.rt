@@ -1,6 +1,7 @@
 // The refusals 3, 4 and 6 to 11 of a context, a count and a node table, each a pass over the nodes, in their order.
 use super::form::class_of;
 use super::form::is_allowed;
+use super::forms;
 use super::place::first_place;
 use super::place::is_wrong;
 use super::place::second_place;
@@ -95,7 +96,8 @@ fn is_empty(table: &[u16], node: u16) -> bool
     ensures { λ r. ⌜ r ≡ empty (now (table .entry)) node ⌝ }
 {
     match cell(table, node, 0) {
-        44 | 49 | 53 => cell(table, node, 2) == 0,
+        forms::TYPE_IMPL_TRAIT | forms::TYPE_PATH | forms::TYPE_TRAIT_OBJECT => cell(table, node, 2)
+            == 0,
         _ => false,
     }
 }
@@ -103,7 +105,7 @@ fn is_empty(table: &[u16], node: u16) -> bool
 fn is_plain_block(table: &[u16], node: u16) -> bool
     ensures { λ r. ⌜ r ≡ plainBlock (now (table .entry)) node ⌝ }
 {
-    if cell(table, node, 0) != 6 {
+    if cell(table, node, 0) != forms::EXPR_BLOCK {
         return false;
     }
     if cell(table, node, 1) != 0 {
@@ -115,7 +117,7 @@ fn is_plain_block(table: &[u16], node: u16) -> bool
 fn has_bad_output(table: &[u16], node: u16) -> bool
     ensures { λ r. ⌜ r ≡ badOutput (now (table .entry)) node ⌝ }
 {
-    if cell(table, node, 0) != 10 {
+    if cell(table, node, 0) != forms::EXPR_CLOSURE {
         return false;
     }
     if cell(table, node, 2) != 1 {

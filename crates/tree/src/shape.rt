@@ -1,147 +1,85 @@
-// The shape of a node: its form, and per place of that form an operand present or absent.
+// The shape of a node: per place of its form, an operand present or absent.
+use super::forms;
 use super::table::Operand;
 use super::table::cell;
 use super::table::operand_at;
 ghost use mathlib.Core.Path.{_≡_};
-ghost use Rattle.tree.specs.Shapes.{shapeOf, shapeAt};
+ghost use Rattle.tree.specs.Shapes.{shapeAt, firstOf, secondOf, formIn};
 
-// `Other` comes first, so that a form's number is its shape's place here.
+// A form has no place for an operand, one or two.
 pub enum Shape {
-    Other,
-    Array,
-    Assign(Operand, Operand),
-    Async,
-    Await(Operand),
-    Binary(Operand, Operand),
-    Block,
-    Break(Operand),
-    Call(Operand, Operand),
-    Cast(Operand, Operand),
-    Closure(Operand),
-    Const,
-    Continue,
-    Field(Operand),
-    ForLoop,
-    Group(Operand),
-    If,
-    Index(Operand, Operand),
-    Infer,
-    Let(Operand),
-    Lit,
-    Loop,
-    Macro,
-    Match,
-    MethodCall(Operand, Operand),
-    Paren(Operand),
-    Path,
-    Range(Operand, Operand),
-    RawAddr(Operand),
-    Reference(Operand),
-    Repeat,
-    Return(Operand),
-    Struct,
-    Try(Operand),
-    TryBlock,
-    Tuple,
-    Unary(Operand),
-    Unsafe,
-    Verbatim,
-    While,
-    Yield(Operand),
-    TypeArray,
-    TypeFnPtr(Operand),
-    TypeGroup,
-    TypeImplTrait(Operand),
-    TypeInfer,
-    TypeMacro,
-    TypeNever,
-    TypeParen,
-    TypePath(Operand, Operand),
-    TypePtr(Operand),
-    TypeReference(Operand),
-    TypeSlice,
-    TypeTraitObject(Operand),
-    TypeTuple,
-    TypeVerbatim,
-    Link(Operand, Operand),
+    Closed,
+    One(Operand),
+    Two(Operand, Operand),
 }
 
-// The shape of a form with these operands.
-fn shape_of(form: u16, first: Operand, second: Operand) -> Shape
-    ensures { λ r. ⌜ r ≡ shapeOf form first second ⌝ }
-{
-    match form {
-        1 => Shape::Array,
-        2 => Shape::Assign(first, second),
-        3 => Shape::Async,
-        4 => Shape::Await(first),
-        5 => Shape::Binary(first, second),
-        6 => Shape::Block,
-        7 => Shape::Break(first),
-        8 => Shape::Call(first, second),
-        9 => Shape::Cast(first, second),
-        10 => Shape::Closure(first),
-        11 => Shape::Const,
-        12 => Shape::Continue,
-        13 => Shape::Field(first),
-        14 => Shape::ForLoop,
-        15 => Shape::Group(first),
-        16 => Shape::If,
-        17 => Shape::Index(first, second),
-        18 => Shape::Infer,
-        19 => Shape::Let(first),
-        20 => Shape::Lit,
-        21 => Shape::Loop,
-        22 => Shape::Macro,
-        23 => Shape::Match,
-        24 => Shape::MethodCall(first, second),
-        25 => Shape::Paren(first),
-        26 => Shape::Path,
-        27 => Shape::Range(first, second),
-        28 => Shape::RawAddr(first),
-        29 => Shape::Reference(first),
-        30 => Shape::Repeat,
-        31 => Shape::Return(first),
-        32 => Shape::Struct,
-        33 => Shape::Try(first),
-        34 => Shape::TryBlock,
-        35 => Shape::Tuple,
-        36 => Shape::Unary(first),
-        37 => Shape::Unsafe,
-        38 => Shape::Verbatim,
-        39 => Shape::While,
-        40 => Shape::Yield(first),
-        41 => Shape::TypeArray,
-        42 => Shape::TypeFnPtr(first),
-        43 => Shape::TypeGroup,
-        44 => Shape::TypeImplTrait(first),
-        45 => Shape::TypeInfer,
-        46 => Shape::TypeMacro,
-        47 => Shape::TypeNever,
-        48 => Shape::TypeParen,
-        49 => Shape::TypePath(first, second),
-        50 => Shape::TypePtr(first),
-        51 => Shape::TypeReference(first),
-        52 => Shape::TypeSlice,
-        53 => Shape::TypeTraitObject(first),
-        54 => Shape::TypeTuple,
-        55 => Shape::TypeVerbatim,
-        56 => Shape::Link(first, second),
-        _ => Shape::Other,
+impl Shape {
+    // The operand at the first place.
+    pub fn first(self) -> Operand
+        ensures { λ r. ⌜ r ≡ firstOf self ⌝ }
+    {
+        match self {
+            Shape::Closed => Operand::Absent,
+            Shape::One(first) => first,
+            Shape::Two(first, _) => first,
+        }
+    }
+
+    // The operand at the second place.
+    pub fn second(self) -> Operand
+        ensures { λ r. ⌜ r ≡ secondOf self ⌝ }
+    {
+        match self {
+            Shape::Closed => Operand::Absent,
+            Shape::One(_) => Operand::Absent,
+            Shape::Two(_, second) => second,
+        }
     }
 }
 
-// The shape of a node; `Other` where there is no such node.
+// The form of a node; 0 where there is no such node.
+pub fn form_at(table: &[u16], count: u16, node: u16) -> u16
+    ensures { λ r. ⌜ r ≡ formIn (now (table .entry)) count node ⌝ }
+{
+    if node == 0 {
+        return 0;
+    }
+    if node > count {
+        return 0;
+    }
+    cell(table, node, 0)
+}
+
+// The shape of a node; `Closed` where there is no such node.
 pub fn shape_at(table: &[u16], count: u16, node: u16) -> Shape
     ensures { λ r. ⌜ r ≡ shapeAt (now (table .entry)) count node ⌝ }
 {
-    if node == 0 {
-        return Shape::Other;
-    }
-    if node > count {
-        return Shape::Other;
-    }
     let first = operand_at(table, count, node, 3);
     let second = operand_at(table, count, node, 4);
-    shape_of(cell(table, node, 0), first, second)
+    match form_at(table, count, node) {
+        forms::EXPR_ASSIGN
+        | forms::EXPR_BINARY
+        | forms::EXPR_CALL
+        | forms::EXPR_INDEX
+        | forms::EXPR_METHOD_CALL
+        | forms::EXPR_RANGE => { Shape::Two(first, second) }
+        forms::EXPR_CAST | forms::TYPE_PATH | forms::LINK => Shape::Two(first, second),
+        forms::EXPR_AWAIT
+        | forms::EXPR_BREAK
+        | forms::EXPR_CLOSURE
+        | forms::EXPR_FIELD
+        | forms::EXPR_GROUP
+        | forms::EXPR_LET
+        | forms::EXPR_PAREN
+        | forms::EXPR_RAW_ADDR
+        | forms::EXPR_RETURN
+        | forms::EXPR_TRY
+        | forms::EXPR_UNARY
+        | forms::EXPR_YIELD => Shape::One(first),
+        forms::EXPR_REFERENCE => Shape::One(first),
+        forms::TYPE_FN_PTR | forms::TYPE_IMPL_TRAIT | forms::TYPE_PTR | forms::TYPE_TRAIT_OBJECT =>
+            Shape::One(first),
+        forms::TYPE_REFERENCE => Shape::One(first),
+        _ => Shape::Closed,
+    }
 }
