@@ -40,3 +40,10 @@ pub pick-zero : (b : Bool) (n m : ℕ) → 0 < n → pick b n m ≡ 0 → (b ≡
 unfolding pick
 pick-zero true n m h e = absurd (omega arith)
 pick-zero false n m h e = (refl, e)
+
+-- alternatives in a row: one that holds, and one that is passed over
+pub or-here : {a : Bool} (b : Bool) → a ≡ true → a || b ≡ true
+or-here b e = rw e
+
+pub or-next : {a : Bool} (b : Bool) → a ≡ false → a || b ≡ b
+or-next b e = rw e

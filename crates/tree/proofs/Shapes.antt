@@ -15,9 +15,10 @@ use Rattle.laws.proofs.Keys.{among, disjoint, apart, numbersAt, givenAt, within
 use Rattle.tree.specs.declared.table.Operand.{Operand}
 use Rattle.tree.specs.declared.shape.Shape.the-variants.{Closed}
 use Rattle.tree.specs.Table.{formAt}
-use Rattle.tree.specs.Trees.{Label, Tree, labelAt, operandAt, treeAt}
+use Rattle.tree.specs.Trees.{Label, Tree, none, labelAt, operandAt, treeAt}
 use Rattle.tree.specs.Shapes.{presence, formIn, shapeRows, shapeAt}
-use Rattle.tree.specs.Walks.{Ask, Step, ends, stepBy, stepAt}
+use Rattle.tree.specs.Walks.{Ask, Step, ends, stepBy, stepAt, atRoot}
+use Rattle.tree.proofs.Unfold.{tree-zero, tree-past, unfolds}
 use Rattle.tree.proofs.Walks.{step-in, step-out, step-past}
 
 -- no row has the number 0
@@ -93,9 +94,45 @@ module _ (cells : List ℕ) (count i : ℕ) where
       -- the default arm: what `other` asks where there is a node, and `missing` where there is none
       pub form-rest : Missed (Unit {0}) rowsAt form → (q : Step A) → (1 ≤ i → i ≤ count → stepBy missing (other (labelAt cells i)) FirstAt SecondAt ≡ q) → ((1 ≤ i → i ≤ count → ⊥) → ends missing ≡ q)
           → q ≡ stepAt byRows missing cells count i
-      form-rest m q here none = go (decLe 1 i) (decLe i count)
+      form-rest m q here gone = go (decLe 1 i) (decLe i count)
         where
           go : Dec (1 ≤ i) → Dec (i ≤ count) → q ≡ stepAt byRows missing cells count i
           go (yes h) (yes k) = sym (step-form h k ∙ rw (rest rowsAt (other (labelAt cells i)) form m) (here h k))
-          go (yes h) (no k) = sym (step-past byRows missing cells count i h (omega arith) ∙ none (λ a b. k b))
-          go (no h) d = sym (step-out byRows missing cells count i (omega arith) ∙ none (λ a b. h a))
+          go (yes h) (no k) = sym (step-past byRows missing cells count i h (omega arith) ∙ gone (λ a b. k b))
+          go (no h) d = sym (step-out byRows missing cells count i (omega arith) ∙ gone (λ a b. h a))
+
+  -- ---- a question that a node answers by itself, and `other` where the table has no row
+
+  module _ {A : Type 0} (rows : Label → Tree → Tree → List (Row A)) (other : A) where
+    abbrev pub rootRows : List (Row A)
+    rootRows = rows (labelAt cells i) (treeAt cells count (operandAt cells count i 3)) (treeAt cells count (operandAt cells count i 4))
+
+    root-form : 1 ≤ i → i ≤ count → atRoot rows other (treeAt cells count i) ≡ lookup rootRows other (formIn cells count i)
+    unfolding atRoot labelAt
+    root-form h k = rw (form-in h k, unfolds cells count i h k)
+
+    root-none : treeAt cells count i ≡ none → atRoot rows other (treeAt cells count i) ≡ other
+    unfolding atRoot
+    root-none e = rw e
+
+    module _ (form : ℕ) (is : form ≡ formIn cells count i) where
+      -- the arm of row j
+      pub root-arm : T (apartFrom rootRows (0 ∷ [])) → (j : ℕ) → T (apartBefore rootRows j (numbersAt rootRows j)) → OneOf (numbersAt rootRows j) form → givenAt rootRows other j ≡ atRoot rows other (treeAt cells count i)
+      root-arm t j u o = go (decLe 1 i) (decLe i count)
+        where
+          nowhere : form ≡ 0 → givenAt rootRows other j ≡ atRoot rows other (treeAt cells count i)
+          nowhere e = true-not-false (sym (among (numbersAt rootRows j) form o) ∙ rw e (none-zero rootRows j t))
+
+          go : Dec (1 ≤ i) → Dec (i ≤ count) → givenAt rootRows other j ≡ atRoot rows other (treeAt cells count i)
+          go (yes h) (yes k) = sym (root-form h k ∙ ap (lookup rootRows other) (sym is) ∙ arm rootRows other form j u o)
+          go (yes h) (no k) = nowhere (is ∙ form-past h (omega arith))
+          go (no h) d = nowhere (is ∙ form-out (omega arith))
+
+      -- the default arm
+      pub root-rest : Missed (Unit {0}) rootRows form → other ≡ atRoot rows other (treeAt cells count i)
+      root-rest m = go (decLe 1 i) (decLe i count)
+        where
+          go : Dec (1 ≤ i) → Dec (i ≤ count) → other ≡ atRoot rows other (treeAt cells count i)
+          go (yes h) (yes k) = sym (root-form h k ∙ ap (lookup rootRows other) (sym is) ∙ rest rootRows other form m)
+          go (yes h) (no k) = sym (root-none (tree-past cells count i (omega arith)))
+          go (no h) d = sym (root-none (let z : i ≡ 0 = omega arith in rw z (tree-zero cells count)))

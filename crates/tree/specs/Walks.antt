@@ -3,7 +3,7 @@ use mathlib.Core.Bool.{Bool, true, false, _&&_}
 use mathlib.Core.List.{List}
 use Prim.Native.Nat.{ℕ}
 use lib.Dec.{leb}
-use Rattle.laws.specs.Choice.{pick}
+use Rattle.laws.specs.Choice.{pick, Row, lookup}
 use Rattle.tree.specs.declared.table.Operand.{Operand}
 use Rattle.tree.specs.declared.table.Operand.the-variants.{Absent, Present}
 use Rattle.tree.specs.Trees.{Label, Tree, none, node, labelAt, operandAt, treeAt}
@@ -59,3 +59,9 @@ stepAt asks absent cells count i =
     (presence (operandAt cells count i 3))
     (presence (operandAt cells count i 4)))
     (ends absent)
+
+-- ---- questions that a node answers by itself, from a table over the forms
+
+unfoldable pub atRoot : {A : Type 0} → (Label → Tree → Tree → List (Row A)) → A → Tree → A
+atRoot rows other none = other
+atRoot rows other (node l a b) = lookup (rows l a b) other (l .form)

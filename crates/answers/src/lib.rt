@@ -1,0 +1,29 @@
+// For callers in Rust and C: what precedence.rs and classify.rs say of a node, by the number of a question.
+use precedence::Precedence;
+ghost use mathlib.Core.Path.{_≡_};
+ghost use Rattle.laws.specs.Choice.{pick};
+ghost use Rattle.tree.specs.Trees.{treeAt};
+ghost use Rattle.answers.specs.Questions.{answered};
+
+fn number(yes: bool) -> u16
+    ensures { λ r. ⌜ r ≡ pick yes 1 0 ⌝ }
+{
+    if yes { 1 } else { 0 }
+}
+
+// Questions 0 to 6; every other number is answered by 65535.
+#[no_mangle]
+pub extern "C" fn tezhukor_answer(question: u16, table: &[u16], count: u16, node: u16) -> u16
+    ensures { λ r. ⌜ r ≡ answered question (treeAt (now (table .entry)) count node) ⌝ }
+{
+    match question {
+        0 => Precedence::of(table, count, node).rank(),
+        1 => number(classify::requires_semi_to_be_stmt(table, count, node)),
+        2 => number(classify::requires_comma_to_be_match_arm(table, count, node)),
+        3 => number(classify::expr_leading_label(table, count, node)),
+        4 => number(classify::expr_trailing_brace(table, count, node)),
+        5 => number(classify::trailing_unparameterized_path(table, count, node)),
+        6 => number(classify::type_trailing_brace(table, count, node)),
+        _ => 65535,
+    }
+}

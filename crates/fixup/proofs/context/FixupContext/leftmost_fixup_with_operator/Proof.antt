@@ -1,0 +1,16 @@
+-- `fixup::context::FixupContext::leftmost_fixup_with_operator` meets its contract. Assumes nothing.
+use borrow.Author.Needs.{needs}
+use Rattle.fixup.proofs.context.FixupContext.leftmost_fixup_with_operator.Statement.{statement}
+use Rattle.fixup.proofs.context.FixupContext.leftmost_fixup_with_operator.Tie as tie
+
+either-requires : tie.Need-either-requires
+either-requires c κs = search needs
+
+either-requires-2 : tie.Need-either-requires-2
+either-requires-2 c κs = search needs
+
+returns : tie.Need-returns
+returns c = cc
+
+pub leftmost-fixup-with-operator-spec : {M : Type 1} → statement M
+leftmost-fixup-with-operator-spec = tie.close (tie.spec either-requires either-requires-2 returns)

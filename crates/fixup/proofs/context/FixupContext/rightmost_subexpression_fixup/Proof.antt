@@ -1,0 +1,16 @@
+-- `fixup::context::FixupContext::rightmost_subexpression_fixup` meets its contract. Assumes nothing.
+use borrow.Author.Needs.{needs}
+use Rattle.fixup.proofs.context.FixupContext.rightmost_subexpression_fixup.Statement.{statement}
+use Rattle.fixup.proofs.context.FixupContext.rightmost_subexpression_fixup.Tie as tie
+
+and-not-requires : tie.Need-and-not-requires
+and-not-requires c κs = search needs
+
+both-requires : tie.Need-both-requires
+both-requires c κs = search needs
+
+returns : tie.Need-returns
+returns c = cc
+
+pub rightmost-subexpression-fixup-spec : {M : Type 1} → statement M
+rightmost-subexpression-fixup-spec = tie.close (tie.spec and-not-requires both-requires returns)

@@ -1,0 +1,43 @@
+-- `fixup::look::is_cast_to_path` meets its contract. Assumes nothing.
+use mathlib.Core.Path.{ap, _∙_}
+use mathlib.Core.Bool.{false}
+use mathlib.Core.List.{[], _∷_}
+use Rattle.tree.specs.Shapes.{shapeRows, secondOf}
+use Rattle.tree.proofs.Shapes.{shape-is, root-arm, root-rest}
+use Rattle.fixup.specs.Fixup.{castToPathRows}
+use Rattle.fixup.specs.Steps.{pathOf}
+use Rattle.fixup.proofs.Steps.{path-of}
+use borrow.Author.Needs.{needs}
+use Rattle.fixup.proofs.look.is_cast_to_path.Statement.{statement}
+use Rattle.fixup.proofs.look.is_cast_to_path.Tie as tie
+
+shape-at-requires : tie.Need-shape-at-requires
+shape-at-requires c κs = search needs
+
+form-at-requires : tie.Need-form-at-requires
+form-at-requires c κs = search needs
+
+second-requires : tie.Need-second-requires
+second-requires c κs = search needs
+
+ends-in-path-requires : tie.Need-ends-in-path-requires
+ends-in-path-requires c κs = search needs
+
+returns : tie.Need-returns
+unfolding castToPathRows shapeRows secondOf
+returns c = c .ends-in-path .ensures ∙ ap (pathOf (c .before .before .before .before .before .before .args .table .now) (c .before .before .before .before .before .before .args .count)) (c .before .second .ensures ∙ ap secondOf (c .before .before .before .before .shape-at .ensures ∙ shape-is _ _ _ _ (c .before .before .before .form-at .ensures) (9 ∷ []) (c .before .before .match .keys1) 1 tt tt)) ∙ path-of _ _ _ ∙ root-arm _ _ _ castToPathRows false _ (c .before .before .before .form-at .ensures) tt 0 tt (c .before .before .match .keys1)
+
+returns-2 : tie.Need-returns-2
+unfolding castToPathRows
+returns-2 c = root-rest _ _ _ castToPathRows false _ (c .before .form-at .ensures) (c .match .rest)
+
+pub is-cast-to-path-spec : {M : Type 1} → statement M
+is-cast-to-path-spec =
+    tie.close
+    (tie.spec
+    shape-at-requires
+    form-at-requires
+    second-requires
+    ends-in-path-requires
+    returns
+    returns-2)

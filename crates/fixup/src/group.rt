@@ -1,0 +1,197 @@
+// What the context says of an expression: parenthesize, its precedence, and scan_left.
+use super::bools::and_not;
+use super::bools::either;
+use super::context::FixupContext;
+use super::look;
+use precedence::Precedence;
+use tree::forms;
+use tree::shape::form_at;
+use tree::shape::shape_at;
+use tree::table::cell;
+ghost use mathlib.Core.Path.{_≡_};
+ghost use mathlib.Core.Bool.{_&&_};
+ghost use Rattle.tree.specs.Trees.{treeAt};
+ghost use Rattle.fixup.specs.Fixup.{parenthesize, effective, leftOfBinary, scanLeft};
+ghost use Rattle.fixup.specs.Steps.{lookOf};
+
+// What parenthesize and precedence ask of an expression.
+enum Look {
+    // A statement would end behind it.
+    EndsStmt,
+    // It is a `let`.
+    Let,
+    // A match arm would end behind it.
+    EndsMatchArm,
+    // It is a struct literal.
+    Struct,
+    // Return or Yield without a value.
+    BareReturn,
+    // It would take a block behind it for its own.
+    OpenEnded,
+    // A block without attributes and label.
+    PlainBlock,
+    // Break, Return or Yield without a value.
+    BareJump,
+    // It extends to the end of the statement or group.
+    OpenAhead,
+    // Its type would take what follows for generic arguments.
+    CastToPath,
+}
+
+fn looks(question: Look, table: &[u16], count: u16, node: u16) -> bool
+    ensures { λ r. ⌜ r ≡ lookOf question (treeAt (now (table .entry)) count node) ⌝ }
+{
+    match question {
+        Look::EndsStmt => !classify::requires_semi_to_be_stmt(table, count, node),
+        Look::Let => look::is_let(table, count, node),
+        Look::EndsMatchArm => !classify::requires_comma_to_be_match_arm(table, count, node),
+        Look::Struct => look::is_struct(table, count, node),
+        Look::BareReturn => look::is_bare_return(table, count, node),
+        Look::OpenEnded => look::is_open_ended(table, count, node),
+        Look::PlainBlock => look::is_plain_block(table, count, node),
+        Look::BareJump => look::is_bare_jump(table, count, node),
+        Look::OpenAhead => look::is_open_ahead(table, count, node),
+        Look::CastToPath => look::is_cast_to_path(table, count, node),
+    }
+}
+
+// The question is put only where a flag of the context asks for it.
+fn flagged(flag: bool, question: Look, table: &[u16], count: u16, node: u16) -> bool
+    ensures { λ r. ⌜ r ≡ (flag && lookOf question (treeAt (now (table .entry)) count node)) ⌝ }
+{
+    if flag {
+        looks(question, table, count, node)
+    } else {
+        false
+    }
+}
+
+// Left of a Binary operator with a precedence of its own.
+fn left_of_binary(previous: Precedence, own: Precedence) -> bool
+    ensures { λ r. ⌜ r ≡ leftOfBinary previous own ⌝ }
+{
+    if own.rank() == Precedence::Assign.rank() {
+        previous.is_at_most(Precedence::Assign)
+    } else {
+        previous.is_below(own)
+    }
+}
+
+impl FixupContext {
+    // Whether parentheses are needed to head off the early termination of a statement or condition.
+    pub fn parenthesize(self, table: &[u16], count: u16, node: u16) -> bool
+        ensures { λ r. ⌜ r ≡ parenthesize self (treeAt (now (table .entry)) count node) ⌝ }
+    {
+        if flagged(
+            self.leftmost_subexpression_in_stmt,
+            Look::EndsStmt,
+            table,
+            count,
+            node,
+        ) {
+            return true;
+        }
+        if flagged(
+            either(self.stmt, self.leftmost_subexpression_in_stmt),
+            Look::Let,
+            table,
+            count,
+            node,
+        ) {
+            return true;
+        }
+        if flagged(
+            self.leftmost_subexpression_in_match_arm,
+            Look::EndsMatchArm,
+            table,
+            count,
+            node,
+        ) {
+            return true;
+        }
+        if flagged(self.condition, Look::Struct, table, count, node) {
+            return true;
+        }
+        if flagged(
+            self.rightmost_subexpression_in_condition,
+            Look::BareReturn,
+            table,
+            count,
+            node,
+        ) {
+            return true;
+        }
+        if flagged(
+            and_not(self.rightmost_subexpression_in_condition, self.condition),
+            Look::OpenEnded,
+            table,
+            count,
+            node,
+        ) {
+            return true;
+        }
+        flagged(
+            self.leftmost_subexpression_in_optional_operand,
+            Look::PlainBlock,
+            table,
+            count,
+            node,
+        )
+    }
+
+    // The effective precedence of a subexpression.
+    pub fn precedence(self, table: &[u16], count: u16, node: u16) -> Precedence
+        ensures { λ r. ⌜ r ≡ effective self (treeAt (now (table .entry)) count node) ⌝ }
+    {
+        if flagged(
+            self.next_operator_can_begin_expr,
+            Look::BareJump,
+            table,
+            count,
+            node,
+        ) {
+            return Precedence::Jump;
+        }
+        if flagged(
+            !self.next_operator_can_continue_expr,
+            Look::OpenAhead,
+            table,
+            count,
+            node,
+        ) {
+            return Precedence::Prefix;
+        }
+        if flagged(
+            self.next_operator_can_begin_generics,
+            Look::CastToPath,
+            table,
+            count,
+            node,
+        ) {
+            return Precedence::MIN;
+        }
+        Precedence::of(table, count, node)
+    }
+}
+
+// Whether the operator before the expression leaves it whole.
+pub fn scan_left(table: &[u16], count: u16, node: u16, fixup: FixupContext) -> bool
+    ensures { λ r. ⌜ r ≡ scanLeft (treeAt (now (table .entry)) count node) fixup ⌝ }
+{
+    let previous = fixup.previous_operator;
+    let shape = shape_at(table, count, node);
+    match form_at(table, count, node) {
+        forms::EXPR_ASSIGN => previous.is_at_most(Precedence::Assign),
+        forms::EXPR_BINARY => {
+            left_of_binary(previous, Precedence::of_binop(cell(table, node, 2)))
+        }
+        forms::EXPR_CAST => previous.is_below(Precedence::Cast),
+        forms::EXPR_RANGE => {
+            either(
+                look::is_absent(shape.first()),
+                previous.is_below(Precedence::Assign),
+            )
+        }
+        _ => true,
+    }
+}

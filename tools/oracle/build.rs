@@ -1,0 +1,58 @@
+//! Takes prettyplease's files and puts the recording lines into expr.rs.
+//!
+//! The files lie in `shared/docs/src/src` beside the repository's root folder;
+//! PRETTYPLEASE_SRC names another folder. None of their text is kept here but
+//! what it takes to find a place.
+//!
+//! With ORACLE_MUTANT=FILE:N the Nth change of src/mutation.rs is made to FILE.
+
+#[path = "src/mutation.rs"]
+#[allow(dead_code)]
+mod mutation;
+
+use std::path::Path;
+use std::{env, fs};
+
+/// Recording lines of expr.rs. Each goes behind the first opening brace after a
+/// text that occurs once, the head of a function.
+const RECORDING_LINES: [(&str, &str); 5] = [
+    ("fn expr(", "self.entered(expr, false, fixup);"),
+    ("fn expr_beginning_of_line(", "self.entered(expr, needs_paren, fixup);"),
+    ("fn prefix_subexpr(", "self.entered(expr, needs_paren, fixup);"),
+    ("fn subexpr(", "self.entered(expr, needs_paren, fixup);"),
+    ("&TokenStream, _fixup:", "self.verbatim();"),
+];
+
+fn main() {
+    println!("cargo:rerun-if-changed=build.rs");
+    println!("cargo:rerun-if-changed=src/mutation.rs");
+    println!("cargo:rerun-if-env-changed=PRETTYPLEASE_SRC");
+    println!("cargo:rerun-if-env-changed=ORACLE_MUTANT");
+    let mutant = env::var("ORACLE_MUTANT").ok();
+    let out = env::var("OUT_DIR").expect("cargo gives OUT_DIR");
+    let here = env::var("CARGO_MANIFEST_DIR").expect("cargo gives CARGO_MANIFEST_DIR");
+    let folder = mutation::source_folder(&here);
+    for file in mutation::FILES {
+        let path = folder.join(format!("{file}.rs.txt"));
+        println!("cargo:rerun-if-changed={}", path.display());
+        let mut text = mutation::source(&folder, file);
+        if let Some(number) = mutant.as_deref().and_then(|mutant| mutation::number(mutant, file)) {
+            text = mutation::mutants(file, &text)[number].apply(&text);
+        }
+        if file == "expr" {
+            for (place, line) in RECORDING_LINES {
+                text = with_line(&text, place, line);
+            }
+        }
+        fs::write(Path::new(&out).join(format!("{file}.rs")), text).expect("a writable OUT_DIR");
+    }
+}
+
+/// The text with a line behind the first opening brace after a place.
+fn with_line(text: &str, place: &str, line: &str) -> String {
+    let times = text.matches(place).count();
+    assert!(times == 1, "expected once in expr.rs, found {times} times: {place}");
+    let head = text.find(place).expect("found just now");
+    let at = head + text[head..].find('{').expect("the body of a function") + 1;
+    format!("{}\n        {line}{}", &text[..at], &text[at..])
+}

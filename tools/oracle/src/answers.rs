@@ -1,0 +1,130 @@
+//! What prettyplease's files answer about the nodes of an accepted tree.
+
+use crate::classify;
+use crate::fixup::FixupContext;
+use crate::forms::{self, Side};
+use crate::precedence::Precedence;
+use crate::recorder::{Recorder, Row};
+use crate::stand_in::algorithm::Printer;
+use crate::table;
+use crate::tree::{self, Built};
+use syn::{Expr, ExprCast, Type, TypeInfer};
+
+/// The answers for one node.
+#[derive(Copy, Clone, PartialEq, Eq, Debug)]
+pub enum NodeAnswers {
+    Expression(ExpressionAnswers),
+    Type(TypeAnswers),
+    Link,
+}
+
+/// The answers for an expression.
+#[derive(Copy, Clone, PartialEq, Eq, Debug)]
+pub struct ExpressionAnswers {
+    pub requires_semi_to_be_stmt: bool,
+    pub requires_comma_to_be_match_arm: bool,
+    pub expr_leading_label: bool,
+    pub expr_trailing_brace: bool,
+    /// `Precedence::of`, from 0 to 15.
+    pub precedence_of: u16,
+    pub row: Row,
+}
+
+/// The answers for a type.
+#[derive(Copy, Clone, PartialEq, Eq, Debug)]
+pub struct TypeAnswers {
+    pub trailing_unparameterized_path: bool,
+    pub type_trailing_brace: bool,
+}
+
+/// The answers for all nodes of a tree.
+#[derive(Clone, PartialEq, Eq, Debug)]
+pub struct Answers {
+    /// From node 1 on.
+    pub nodes: Vec<NodeAnswers>,
+}
+
+impl Answers {
+    /// The row of a node; zeros for types and links.
+    pub fn row(&self, node: u16) -> Row {
+        match self.nodes[node as usize - 1] {
+            NodeAnswers::Expression(answers) => answers.row,
+            _ => Row::default(),
+        }
+    }
+
+    /// Five cells a node, as the walk fills them.
+    pub fn rows(&self) -> Vec<u16> {
+        (1..=self.nodes.len() as u16).flat_map(|node| self.row(node).cells()).collect()
+    }
+}
+
+/// All answers for an accepted tree.
+pub fn answers(context: u16, count: u16, cells: &[u16]) -> Answers {
+    let mut nodes = vec![NodeAnswers::Link; count as usize];
+    let root = tree::build(cells, count, 1, |node, built| {
+        nodes[node as usize - 1] = match built {
+            Built::Expr(expr) => NodeAnswers::Expression(of_expression(expr)),
+            Built::Type(ty) => NodeAnswers::Type(of_type(ty)),
+            Built::Exprs(_) | Built::Types(_) => NodeAnswers::Link,
+        };
+    });
+    let Built::Expr(root) = root else {
+        panic!("the root is no expression");
+    };
+    let mut printer = Printer { recorder: Recorder::new(sides(count, cells)) };
+    printer.expr(&root, FixupContext::of_root(context));
+    for (at, row) in printer.recorder.rows().into_iter().enumerate() {
+        match (&mut nodes[at], row) {
+            (NodeAnswers::Expression(answers), Some(row)) => answers.row = row,
+            (NodeAnswers::Expression(_), None) => panic!("node {} is not printed", at + 1),
+            (_, Some(_)) => panic!("node {} is no expression", at + 1),
+            (_, None) => {}
+        }
+    }
+    Answers { nodes }
+}
+
+/// The sides of all nodes, from node 1 on.
+fn sides(count: u16, cells: &[u16]) -> Vec<Side> {
+    let mut sides = vec![Side::Neither; count as usize];
+    for number in 1..=count {
+        let node = table::node(cells, number);
+        for (place, &operand) in node.operands.iter().enumerate() {
+            if operand != 0 {
+                sides[operand as usize - 1] = forms::side(node.form, place);
+            }
+        }
+    }
+    sides
+}
+
+/// What can be asked of an expression without a context. The row comes later.
+fn of_expression(expr: &Expr) -> ExpressionAnswers {
+    ExpressionAnswers {
+        requires_semi_to_be_stmt: classify::requires_semi_to_be_stmt(expr),
+        requires_comma_to_be_match_arm: classify::requires_comma_to_be_match_arm(expr),
+        expr_leading_label: classify::expr_leading_label(expr),
+        expr_trailing_brace: classify::expr_trailing_brace(expr),
+        precedence_of: Precedence::of(expr).number(),
+        row: Row::default(),
+    }
+}
+
+/// type_trailing_brace is nested in expr_trailing_brace, which asks it about the
+/// type of a Cast.
+fn of_type(ty: &mut Type) -> TypeAnswers {
+    let trailing_unparameterized_path = classify::trailing_unparameterized_path(ty);
+    let taken = std::mem::replace(ty, Type::Infer(TypeInfer));
+    let cast = Expr::Cast(ExprCast {
+        node: 0,
+        attrs: Vec::new(),
+        expr: tree::inside(),
+        ty: Box::new(taken),
+    });
+    let type_trailing_brace = classify::expr_trailing_brace(&cast);
+    if let Expr::Cast(cast) = cast {
+        *ty = *cast.ty;
+    }
+    TypeAnswers { trailing_unparameterized_path, type_trailing_brace }
+}

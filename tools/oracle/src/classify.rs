@@ -1,0 +1,3 @@
+//! prettyplease's classify.rs.
+
+include!(concat!(env!("OUT_DIR"), "/classify.rs"));

@@ -1,0 +1,75 @@
+//! Makers of accepted trees.
+//!
+//! Every tree is named by a family, a seed and an index, and comes out the same
+//! at every run. No maker asks prettyplease's files anything.
+
+mod curb;
+mod dice;
+mod draft;
+mod random;
+mod small;
+mod spines;
+mod stem;
+
+pub use curb::{levels, LONGEST_NEST};
+pub use dice::Dice;
+pub use draft::{Draft, Label, Order, Slot};
+pub use random::{random, Profile};
+pub use small::SmallTrees;
+pub use spines::{spine, ENDS, NEXTS};
+pub use stem::{Fill, Stem};
+
+use crate::table::NodeTable;
+
+/// Families of trees.
+#[derive(Copy, Clone, PartialEq, Eq, Debug)]
+pub enum Family {
+    /// All forms, attributes, details and contexts alike.
+    Random,
+    /// Random trees of the forms that scan_right has arms for.
+    Scans,
+    /// Right spines over all ends below all next operators.
+    Spines,
+    /// Plain trees in context 0.
+    Plain,
+    /// The four above in turn.
+    Mixed,
+}
+
+impl Family {
+    pub const ALL: [Family; 5] =
+        [Family::Mixed, Family::Random, Family::Scans, Family::Spines, Family::Plain];
+
+    /// The name on the command line.
+    pub fn name(self) -> &'static str {
+        match self {
+            Family::Random => "random",
+            Family::Scans => "scans",
+            Family::Spines => "spines",
+            Family::Plain => "plain",
+            Family::Mixed => "mixed",
+        }
+    }
+
+    /// The family with that name.
+    pub fn named(name: &str) -> Option<Family> {
+        Family::ALL.into_iter().find(|family| family.name() == name)
+    }
+
+    /// A tree of the family.
+    pub fn tree(self, seed: u64, index: u64) -> NodeTable {
+        let dice = &mut Dice::new(seed, index);
+        let (draft, context) = match self {
+            Family::Random => (random(dice, Profile::All), dice.below(4)),
+            Family::Scans => (random(dice, Profile::Scans), dice.below(4)),
+            Family::Plain => (random(dice, Profile::Plain), 0),
+            Family::Spines => return spine(dice, index),
+            Family::Mixed => {
+                const PARTS: [Family; 4] =
+                    [Family::Random, Family::Scans, Family::Spines, Family::Plain];
+                return PARTS[(index % 4) as usize].tree(seed, index / 4);
+            }
+        };
+        draft.number(context as u16, Order::any(dice), dice)
+    }
+}

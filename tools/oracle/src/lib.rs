@@ -1,0 +1,45 @@
+//! The differential oracle: prettyplease 0.3.0's own precedence.rs, classify.rs,
+//! fixup.rs and expr.rs, compiled as they are over stand-in types, answer
+//! questions about the trees of document 01.
+//!
+//! - [`answers`] gives all answers for an accepted node table: those of
+//!   classify.rs and `Precedence::of` for each node, and the row of document 01
+//!   for each expression, recorded while the crate's `Printer::expr` prints.
+//! - [`direct`] asks single functions, the private ones of fixup.rs included.
+//! - [`generate`] makes accepted trees.
+//!
+//! `stand_in` and the path crates `syn` and `proc_macro2` stand in for what the
+//! four files lean on; `build.rs` takes the files and puts five recording lines
+//! into expr.rs.
+
+pub mod accept;
+mod answers;
+pub mod digest;
+pub mod direct;
+pub mod forms;
+pub mod generate;
+mod recorder;
+pub mod table;
+pub mod text;
+pub mod tree;
+
+mod stand_in;
+pub(crate) use stand_in::{algorithm, attr, iter, path, stmt, INDENT};
+
+// prettyplease's own files. Not all of their functions are asked.
+#[allow(dead_code, clippy::all)]
+mod classify;
+#[allow(dead_code, clippy::all)]
+mod expr;
+#[allow(dead_code, clippy::all)]
+mod fixup;
+#[allow(dead_code, clippy::all)]
+mod precedence;
+
+pub use answers::{answers, Answers, ExpressionAnswers, NodeAnswers, TypeAnswers};
+pub use direct::{
+    leftmost_precedence_of, parenthesize_of, precedence_of, rightmost_precedence_of, scan_left_of,
+    scan_right_of,
+};
+pub use recorder::Row;
+pub use table::NodeTable;
