@@ -10,7 +10,9 @@ use crate::table::{self, NodeTable};
 /// How many trees are asked.
 #[derive(Copy, Clone, PartialEq, Eq, Debug)]
 pub enum Extent {
+    /// Some 80,000, few of the small ones.
     Quick,
+    /// Some 8,000,000: all of the small ones but for three in four of `every`.
     Thorough,
 }
 
@@ -58,7 +60,7 @@ fn mix(digest: &mut u64, value: u64) {
 /// The digests of all sets of trees.
 pub fn digests(extent: Extent) -> Vec<Digest> {
     let (times, stride) = match extent {
-        Extent::Quick => (1, 40),
+        Extent::Quick => (1, 160),
         Extent::Thorough => (20, 1),
     };
     let mut digests = Vec::new();
@@ -75,11 +77,15 @@ pub fn digests(extent: Extent) -> Vec<Digest> {
     for (name, trees, stride) in [
         ("every", SmallTrees::every_label(3), 4 * stride),
         ("representative", SmallTrees::representative(4), stride),
-        ("narrow", SmallTrees::narrow(6), 4 * stride),
+        ("narrow", SmallTrees::narrow(6), stride),
     ] {
         let mut digest = Digest::new(name);
         for index in (0..trees.len()).step_by(stride) {
-            digest.add(&trees.tree((index / stride as u64 % 4) as u16, index));
+            let mut table = trees.tree(0, index);
+            for context in 0..4 {
+                table.context = context;
+                digest.add(&table);
+            }
         }
         digests.push(digest);
     }

@@ -6,7 +6,7 @@
 //! Without names all changes of all files are made, with `--every K` one in K.
 //! For each the oracle is built anew, in the folder `mutants` of the target
 //! folder, and its digests are compared with those of the unchanged files: first
-//! on few trees, then, if no answer about a tree differs, on twenty times as
+//! on few trees, then, if no answer about a tree differs, on a hundred times as
 //! many. A line for each says what showed it:
 //!
 //! - rows, with the sets of trees whose rows differ;
@@ -27,7 +27,7 @@ use std::process::{Command, Stdio};
 use std::time::{Duration, Instant};
 
 const HERE: &str = env!("CARGO_MANIFEST_DIR");
-const EXTENTS: [(&str, u64); 2] = [("quick", 60), ("thorough", 900)];
+const EXTENTS: [(&str, u64); 2] = [("quick", 60), ("thorough", 600)];
 
 /// What a built oracle prints for `digest`.
 #[derive(PartialEq)]
