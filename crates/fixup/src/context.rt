@@ -1,7 +1,7 @@
 // FixupContext: what is known of an expression's surroundings, and what an owner hands down.
-use super::bools::and_not;
-use super::bools::both;
-use super::bools::either;
+use bools::and_not;
+use bools::both;
+use bools::either;
 use precedence::Precedence;
 ghost use mathlib.Core.Path.{_≡_};
 ghost use Rattle.fixup.specs.Contexts.{NONE, newStmt, newMatchArm, newCondition, withOperator, withDot, rightmost};

@@ -1,8 +1,8 @@
 // What the context says of an expression: parenthesize, its precedence, and scan_left.
-use super::bools::and_not;
-use super::bools::either;
 use super::context::FixupContext;
 use super::look;
+use bools::and_not;
+use bools::either;
 use precedence::Precedence;
 use tree::forms;
 use tree::shape::form_at;

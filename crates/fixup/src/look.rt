@@ -1,5 +1,5 @@
 // What a node looks like from outside: the `matches!` tests of fixup.rs.
-use super::bools::both;
+use bools::both;
 use tree::forms;
 use tree::shape::form_at;
 use tree::shape::shape_at;
