@@ -19,8 +19,8 @@ use Rattle.tree.proofs.Unfold.{tree-zero, tree-past, unfolds}
 use Rattle.tree.proofs.Shapes.{form-in, form-none}
 use Rattle.tree.proofs.Walks.{leads}
 use Rattle.classify.specs.declared.ControlFlow.the-variants.{Break, Continue}
-use Rattle.classify.specs.Classify.{requiresComma, requiresSemi, lastTypeInPath, groupLabel, braceInPath, braceInBounds, typeTrailingBrace}
-use Rattle.classify.specs.Steps.{flowBy, typeBraceAt}
+use Rattle.classify.specs.Classify.{requiresComma, requiresSemi, lastTypeInPath, groupLabel, braceInPath, braceInBounds}
+use Rattle.classify.specs.Steps.{flowBy}
 
 flow-ends : (s : Step Bool) (x : Bool) → Break x ≡ flowBy s → s ≡ ends x
 flow-ends (ends y) x e = cc
@@ -37,11 +37,6 @@ module _ (asks : Label → Tree → Tree → Ask Bool) (missing : Bool) (cells :
 
   pub walk-goes : (n : ℕ) → Continue n ≡ flowBy (stepAt asks missing cells count i) → (i < n) × (n ≤ count) × (walk asks missing (treeAt cells count n) ≡ walk asks missing (treeAt cells count i))
   walk-goes n e = rw (flow-goes (stepAt asks missing cells count i) n e) at (leads asks missing cells count i)
-
-pub type-brace-at : (cells : List ℕ) (count o : ℕ) → typeBraceAt cells count (presence o) ≡ typeTrailingBrace (treeAt cells count o)
-unfolding presence typeTrailingBrace walk
-type-brace-at cells count zero = rw (tree-zero cells count)
-type-brace-at cells count (suc n) = refl
 
 -- ---- what a detail or attributes ask, of a node with one operand
 

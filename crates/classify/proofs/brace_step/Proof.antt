@@ -6,12 +6,12 @@ use Prim.Native.Nat.{ℕ}
 use lib.Dec.{eqb}
 use Rattle.tree.specs.Shapes.{shapeRows, firstOf, secondOf}
 use Rattle.tree.specs.Trees.{Label, labelAt}
-use Rattle.tree.specs.Walks.{answer, into}
+use Rattle.tree.specs.Walks.{answer, into, ofOperand}
+use Rattle.tree.proofs.Walks.{of-operand}
 use Rattle.tree.proofs.Shapes.{shape-is, form-arm, form-rest}
-use Rattle.classify.specs.Classify.{braceRows, braceAsks}
-use Rattle.classify.specs.Steps.{flowBy, typeBraceAt}
+use Rattle.classify.specs.Classify.{typeTrailingBrace, braceRows, braceAsks}
+use Rattle.classify.specs.Steps.{flowBy}
 use Rattle.classify.specs.declared.ControlFlow.the-variants.{Break}
-use Rattle.classify.proofs.Steps.{type-brace-at}
 use borrow.Author.Needs.{needs}
 use Rattle.classify.proofs.brace_step.Statement.{statement}
 use Rattle.classify.proofs.brace_step.Tie as tie
@@ -71,7 +71,7 @@ returns-4 c = c .go-on3 .ensures ∙ ap flowBy (ap (into false) (c .before .firs
 returns-5 : tie.Need-returns-5
 unfolding braceAsks braceRows shapeRows secondOf
 returns-5 c =
-    ap Break (c .cast-brace .ensures ∙ ap (typeBraceAt (c .before .before .before .before .before .before .args .table .now) (c .before .before .before .before .before .before .args .count)) (c .before .second2 .ensures ∙ ap secondOf (c .before .before .before .before .shape-at .ensures ∙ shape-is _ _ _ _ (c .before .before .before .form-at .ensures) (9 ∷ []) (c .before .before .match .keys5) 1 tt tt)) ∙ type-brace-at _ _ _)
+    ap Break (c .cast-brace .ensures ∙ ap (ofOperand typeTrailingBrace (c .before .before .before .before .before .before .args .table .now) (c .before .before .before .before .before .before .args .count)) (c .before .second2 .ensures ∙ ap secondOf (c .before .before .before .before .shape-at .ensures ∙ shape-is _ _ _ _ (c .before .before .before .form-at .ensures) (9 ∷ []) (c .before .before .match .keys5) 1 tt tt)) ∙ of-operand typeTrailingBrace _ _ _)
     ∙ ap flowBy (form-arm _ _ _ braceRows (λ (l : Label). answer false) false _ (c .before .before .before .form-at .ensures) tt 4 tt (c .before .before .match .keys5) _ refl)
 
 returns-6 : tie.Need-returns-6

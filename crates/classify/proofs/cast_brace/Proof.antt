@@ -1,4 +1,6 @@
 -- `classify::cast_brace` meets its contract. Assumes nothing.
+use Rattle.tree.specs.Walks.{walk}
+use Rattle.classify.specs.Classify.{typeTrailingBrace}
 use borrow.Author.Needs.{needs}
 use Rattle.classify.proofs.cast_brace.Statement.{statement}
 use Rattle.classify.proofs.cast_brace.Tie as tie
@@ -10,6 +12,7 @@ enum-told : tie.Need-enum-told
 enum-told c = search needs
 
 returns : tie.Need-returns
+unfolding typeTrailingBrace walk
 returns c = rw (c .enum-told .given .1)
 
 type-trailing-brace-requires : tie.Need-type-trailing-brace-requires

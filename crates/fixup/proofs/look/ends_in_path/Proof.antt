@@ -1,4 +1,6 @@
 -- `fixup::look::ends_in_path` meets its contract. Assumes nothing.
+use Rattle.tree.specs.Walks.{walk}
+use Rattle.classify.specs.Classify.{trailingPath}
 use borrow.Author.Needs.{needs}
 use Rattle.fixup.proofs.look.ends_in_path.Statement.{statement}
 use Rattle.fixup.proofs.look.ends_in_path.Tie as tie
@@ -10,6 +12,7 @@ enum-told : tie.Need-enum-told
 enum-told c = search needs
 
 returns : tie.Need-returns
+unfolding trailingPath walk
 returns c = rw (c .enum-told .given .1)
 
 trailing-unparameterized-path-requires : tie.Need-trailing-unparameterized-path-requires

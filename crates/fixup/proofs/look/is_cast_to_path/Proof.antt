@@ -3,10 +3,11 @@ use mathlib.Core.Path.{ap, _∙_}
 use mathlib.Core.Bool.{false}
 use mathlib.Core.List.{[], _∷_}
 use Rattle.tree.specs.Shapes.{shapeRows, secondOf}
+use Rattle.tree.specs.Walks.{ofOperand}
+use Rattle.tree.proofs.Walks.{of-operand}
 use Rattle.tree.proofs.Shapes.{shape-is, root-arm, root-rest}
+use Rattle.classify.specs.Classify.{trailingPath}
 use Rattle.fixup.specs.Fixup.{castToPathRows}
-use Rattle.fixup.specs.Steps.{pathOf}
-use Rattle.fixup.proofs.Steps.{path-of}
 use borrow.Author.Needs.{needs}
 use Rattle.fixup.proofs.look.is_cast_to_path.Statement.{statement}
 use Rattle.fixup.proofs.look.is_cast_to_path.Tie as tie
@@ -25,7 +26,7 @@ ends-in-path-requires c κs = search needs
 
 returns : tie.Need-returns
 unfolding castToPathRows shapeRows secondOf
-returns c = c .ends-in-path .ensures ∙ ap (pathOf (c .before .before .before .before .before .before .args .table .now) (c .before .before .before .before .before .before .args .count)) (c .before .second .ensures ∙ ap secondOf (c .before .before .before .before .shape-at .ensures ∙ shape-is _ _ _ _ (c .before .before .before .form-at .ensures) (9 ∷ []) (c .before .before .match .keys1) 1 tt tt)) ∙ path-of _ _ _ ∙ root-arm _ _ _ castToPathRows false _ (c .before .before .before .form-at .ensures) tt 0 tt (c .before .before .match .keys1)
+returns c = c .ends-in-path .ensures ∙ ap (ofOperand trailingPath (c .before .before .before .before .before .before .args .table .now) (c .before .before .before .before .before .before .args .count)) (c .before .second .ensures ∙ ap secondOf (c .before .before .before .before .shape-at .ensures ∙ shape-is _ _ _ _ (c .before .before .before .form-at .ensures) (9 ∷ []) (c .before .before .match .keys1) 1 tt tt)) ∙ of-operand trailingPath _ _ _ ∙ root-arm _ _ _ castToPathRows false _ (c .before .before .before .form-at .ensures) tt 0 tt (c .before .before .match .keys1)
 
 returns-2 : tie.Need-returns-2
 unfolding castToPathRows
