@@ -47,3 +47,13 @@ or-here b e = rw e
 
 pub or-next : {a : Bool} (b : Bool) → a ≡ false → a || b ≡ b
 or-next b e = rw e
+
+pub and-here : {a : Bool} (b : Bool) → a ≡ true → a && b ≡ b
+and-here b e = rw e
+
+-- two tests joined, by what each of them says
+pub and-by : {a b c d r v : Bool} → a ≡ c → b ≡ d → r ≡ (a && b) → r ≡ v → c && d ≡ v
+and-by p q e h = cc
+
+pub or-by : {a b c d r v : Bool} → a ≡ c → b ≡ d → r ≡ (a || b) → r ≡ v → c || d ≡ v
+or-by p q e h = cc

@@ -1,0 +1,142 @@
+-- scan_right at a node of a table, by what its operand answers. Assumes nothing.
+use mathlib.Core.Path.{_≡_, refl, sym, ap, _∙_}
+use mathlib.Core.Bool.{Bool, true, false, not, _&&_}
+use mathlib.Core.List.{List}
+use Prim.Native.Nat.{ℕ, _≤_, _<_}
+use native.Mathlib.Omega.{arith}
+use native.Mathlib.Decide.{decLe}
+use Rattle.laws.specs.Choice.{pick}
+use Rattle.laws.proofs.Choice.{pick-true, pick-false}
+use Rattle.tree.specs.declared.table.Operand.the-variants.{Absent, Present}
+use Rattle.tree.specs.Trees.{Tree, none, node, labelAt, operandAt, treeAt}
+use Rattle.tree.specs.Shapes.{presence}
+use Rattle.tree.specs.Walks.{isThere, atRoot}
+use Rattle.tree.proofs.Unfold.{tree-zero, tree-past, unfolds}
+use Rattle.tree.proofs.Walks.{present-above, absent-zero}
+use Rattle.precedence.specs.declared.Precedence.{Precedence}
+use Rattle.precedence.specs.declared.Precedence.the-variants as level
+use Rattle.fixup.specs.declared.context.FixupContext.{FixupContext}
+use Rattle.fixup.specs.Fixup.{parenthesize, effective, scanLeft}
+use Rattle.scan.specs.declared.Scan.{Scan}
+use Rattle.scan.specs.declared.Scan.the-variants.{Consume}
+use Rattle.scan.specs.declared.answer.Leave.{Leave}
+use Rattle.scan.specs.declared.answer.Leave.the-variants.{Answer, Ask}
+use Rattle.scan.specs.declared.arm.Arm.{Arm}
+use Rattle.scan.specs.declared.arm.Arm.the-variants.{Assign, Binary, Prefix, Range, Break, Return, Closure, Let, Group, Closed}
+use Rattle.scan.specs.declared.visit.Visit.{Visit}
+use Rattle.scan.specs.Scans.{consumes, consumeBy, armOf, armRows, operandBy, leafScan, early, visitBy, leaveBy, settleBy, finish, notConsume, loose, scanned, rightBy, scanBy, nowhere, scanRight, rightmostPrecedence}
+use Rattle.scan.specs.Steps.{operandNumber}
+
+module _ (cells : List ℕ) (count : ℕ) where
+  -- an arm's operand: its number's tree, and that tree's scans
+  operand-scans : (arm : Arm) (i : ℕ) (x : FixupContext) (p : Precedence) (f b : ℕ)
+      → scanBy arm (operandBy arm none (treeAt cells count (operandAt cells count i 3)) (treeAt cells count (operandAt cells count i 4))) (operandBy arm nowhere (scanRight (treeAt cells count (operandAt cells count i 3))) (scanRight (treeAt cells count (operandAt cells count i 4)))) x p f b
+      ≡ scanBy arm (treeAt cells count (operandNumber arm cells count i)) (scanRight (treeAt cells count (operandNumber arm cells count i))) x p f b
+  unfolding scanBy pick
+  operand-scans Assign i x p f b = refl
+  operand-scans (Binary q) i x p f b = refl
+  operand-scans Prefix i x p f b = refl
+  operand-scans Range i x p f b = refl
+  operand-scans (Break lost) i x p f b = refl
+  operand-scans Return i x p f b = refl
+  operand-scans Closure i x p f b = rw (tree-zero cells count)
+  operand-scans Let i x p f b = refl
+  operand-scans Group i x p f b = refl
+  operand-scans Closed i x p f b = rw (tree-zero cells count)
+
+  -- an operand that is present is a node after its owner
+  operand-above : (arm : Arm) (i n : ℕ) → presence (operandNumber arm cells count i) ≡ Present n → (operandNumber arm cells count i ≡ n) × (i < n) × (n ≤ count)
+  unfolding presence
+  operand-above Assign i n e = present-above count i _ n e
+  operand-above (Binary q) i n e = present-above count i _ n e
+  operand-above Prefix i n e = present-above count i _ n e
+  operand-above Range i n e = present-above count i _ n e
+  operand-above (Break lost) i n e = present-above count i _ n e
+  operand-above Return i n e = present-above count i _ n e
+  operand-above Closure i n e = absurd (let z : _≡_ {A = ℕ} 0 1 = cc in omega arith)
+  operand-above Let i n e = present-above count i _ n e
+  operand-above Group i n e = present-above count i _ n e
+  operand-above Closed i n e = absurd (let z : _≡_ {A = ℕ} 0 1 = cc in omega arith)
+
+  module _ (i : ℕ) (x : FixupContext) (p : Precedence) (f b : ℕ) where
+    abbrev here : Tree
+    here = treeAt cells count i
+
+    abbrev next : Precedence
+    next = x .«next_operator»
+
+    abbrev goes-on : Arm → Scan
+    goes-on arm = scanBy arm (treeAt cells count (operandNumber arm cells count i)) (scanRight (treeAt cells count (operandNumber arm cells count i))) x p f b
+
+    nowhere-scans : here ≡ none → scanRight here x p f b ≡ pick (parenthesize x here) (consumeBy p next) (goes-on (armOf here))
+    unfolding scanRight armOf atRoot
+    nowhere-scans e = rw e (ap (pick (parenthesize x none) (consumeBy p next)) (operand-scans Closed i x p f b))
+
+    inside-scans : 1 ≤ i → i ≤ count → scanRight here x p f b ≡ pick (parenthesize x here) (consumeBy p next) (goes-on (armOf here))
+    unfolding scanRight
+    inside-scans h k = rw (unfolds cells count i h k) (ap (pick _ (consumeBy p next)) (operand-scans (armOf _) i x p f b))
+
+    node-scans : scanRight here x p f b ≡ pick (parenthesize x here) (consumeBy p next) (goes-on (armOf here))
+    node-scans = low (decLe 1 i) (decLe i count)
+      where
+        low : Dec (1 ≤ i) → Dec (i ≤ count) → scanRight here x p f b ≡ pick (parenthesize x here) (consumeBy p next) (goes-on (armOf here))
+        low (yes h) (yes k) = inside-scans h k
+        low (yes h) (no k) = nowhere-scans (tree-past cells count i (omega arith))
+        low (no h) d = nowhere-scans (let z : i ≡ 0 = omega arith in rw z (tree-zero cells count))
+
+    pub scan-grouped : parenthesize x here ≡ true → scanRight here x p f b ≡ consumeBy p next
+    scan-grouped g = node-scans ∙ pick-true _ _ g
+
+    module _ (bare : parenthesize x here ≡ false) (arm : Arm) (is : arm ≡ armOf here) where
+      bare-scans : scanRight here x p f b ≡ goes-on arm
+      bare-scans = node-scans ∙ pick-false _ _ bare ∙ rw is
+
+      pub scan-leaf : presence (operandNumber arm cells count i) ≡ Absent → scanRight here x p f b ≡ leafScan arm (x .«next_operator_can_begin_expr») p next
+      unfolding scanBy pick
+      scan-leaf e = bare-scans ∙ rw (absent-zero _ e, tree-zero cells count)
+
+      module _ (n : ℕ) (present : presence (operandNumber arm cells count i) ≡ Present n) where
+        pub operand-after : (i < n) × (n ≤ count)
+        operand-after = let s = operand-above arm i n present in (s .1, s .2)
+
+        abbrev v : Visit
+        v = visitBy arm x p f b
+
+        present-scans : scanRight here x p f b
+            ≡ pick (early arm next (consumes p next) f b) Consume
+            (finish
+            (leaveBy arm p next (scanRight (treeAt cells count n) (v .context) (v .precedence) (v .«fail_offset») (v .«bailout_offset»)))
+            (settleBy arm p next (rightmostPrecedence (treeAt cells count n) (v .context))))
+        unfolding scanBy rightmostPrecedence
+        present-scans =
+            let s = operand-above arm i n present in
+            bare-scans ∙ rw (s .0) (pick-false _ _ (rw (unfolds cells count n (omega arith) (s .2))))
+
+        pub scan-early : early arm next (consumes p next) f b ≡ true → scanRight here x p f b ≡ Consume
+        scan-early e = present-scans ∙ pick-true _ _ e
+
+        module _ (late : early arm next (consumes p next) f b ≡ false) (w : Visit) (visits : w ≡ v) (s : Scan) (scans : s ≡ scanRight (treeAt cells count n) (w .context) (w .precedence) (w .«fail_offset») (w .«bailout_offset»)) (l : Leave) (leaves : l ≡ leaveBy arm p next s) where
+          left-by : scanRight here x p f b ≡ finish l (settleBy arm p next (rightmostPrecedence (treeAt cells count n) (w .context)))
+          left-by = present-scans ∙ pick-false _ _ late ∙ rw (← visits, ← scans, ← leaves)
+
+          pub scan-answers : (a : Scan) → l ≡ Answer a → scanRight here x p f b ≡ a
+          scan-answers a e = left-by ∙ rw e
+
+          pub scan-settles : l ≡ Ask → (r : Precedence) → r ≡ rightmostPrecedence (treeAt cells count n) (w .context) → scanRight here x p f b ≡ settleBy arm p next r
+          scan-settles e r q = left-by ∙ rw (e, ← q)
+
+-- ---- the precedences that ask the scan, by the outcomes of their tests
+
+module _ (t : Tree) (x : FixupContext) (d : Precedence) (is : d ≡ effective x t) where
+  pub right-unscanned : loose x d && scanned x ≡ false → d ≡ rightmostPrecedence t x
+  unfolding rightmostPrecedence rightBy
+  right-unscanned e = is ∙ sym (pick-false _ _ (rw (← is, e)))
+
+  module _ (asks : loose x d && scanned x ≡ true) (s : Scan) (scans : s ≡ scanRight t x (x .«previous_operator») 1 0) where
+    pub right-grouped : notConsume s && scanLeft t x ≡ true → level.Prefix ≡ rightmostPrecedence t x
+    unfolding rightmostPrecedence rightBy
+    right-grouped e = sym (pick-true _ _ (rw (← is, asks, ← scans) e))
+
+    pub right-consumed : notConsume s && scanLeft t x ≡ false → d ≡ rightmostPrecedence t x
+    unfolding rightmostPrecedence rightBy
+    right-consumed e = is ∙ sym (pick-false _ _ (rw (← is, asks, ← scans) e))

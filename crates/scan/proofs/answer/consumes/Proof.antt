@@ -1,0 +1,21 @@
+-- `scan::answer::consumes` meets its contract. Assumes nothing.
+use Rattle.scan.specs.Scans.{consumes}
+use borrow.Author.Needs.{needs}
+use Rattle.scan.proofs.answer.consumes.Statement.{statement}
+use Rattle.scan.proofs.answer.consumes.Tie as tie
+
+binds-requires : tie.Need-binds-requires
+binds-requires c κs = search needs
+
+is-requires : tie.Need-is-requires
+is-requires c κs = search needs
+
+either-requires : tie.Need-either-requires
+either-requires c κs = search needs
+
+returns : tie.Need-returns
+unfolding consumes
+returns c = cc
+
+pub consumes-spec : {M : Type 1} → statement M
+consumes-spec = tie.close (tie.spec binds-requires is-requires either-requires returns)

@@ -1,0 +1,25 @@
+-- `scan::leave::bare_scan` meets its contract. Assumes nothing.
+use Rattle.scan.specs.Scans.{bareScan}
+use borrow.Author.Needs.{needs}
+use Rattle.scan.proofs.leave.bare_scan.Statement.{statement}
+use Rattle.scan.proofs.leave.bare_scan.Tie as tie
+
+is-requires : tie.Need-is-requires
+is-requires c κs = search needs
+
+is-below-requires : tie.Need-is-below-requires
+is-below-requires c κs = search needs
+
+both-requires : tie.Need-both-requires
+both-requires c κs = search needs
+
+choose-requires : tie.Need-choose-requires
+choose-requires c κs = search needs
+
+returns : tie.Need-returns
+unfolding bareScan
+returns c = cc
+
+pub bare-scan-spec : {M : Type 1} → statement M
+bare-scan-spec =
+    tie.close (tie.spec is-requires is-below-requires both-requires choose-requires returns)

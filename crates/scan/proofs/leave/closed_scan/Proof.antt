@@ -1,0 +1,51 @@
+-- `scan::leave::closed_scan` meets its contract. Assumes nothing.
+use Rattle.scan.specs.Scans.{closedScan}
+use borrow.Author.Needs.{needs}
+use Rattle.scan.proofs.leave.closed_scan.Statement.{statement}
+use Rattle.scan.proofs.leave.closed_scan.Tie as tie
+
+is-assign-or-range-requires : tie.Need-is-assign-or-range-requires
+is-assign-or-range-requires c κs = search needs
+
+is-requires : tie.Need-is-requires
+is-requires c κs = search needs
+
+both-requires : tie.Need-both-requires
+both-requires c κs = search needs
+
+is-requires-2 : tie.Need-is-requires-2
+is-requires-2 c κs = search needs
+
+is-below-requires : tie.Need-is-below-requires
+is-below-requires c κs = search needs
+
+both-requires-2 : tie.Need-both-requires-2
+both-requires-2 c κs = search needs
+
+either-requires : tie.Need-either-requires
+either-requires c κs = search needs
+
+consume-by-requires : tie.Need-consume-by-requires
+consume-by-requires c κs = search needs
+
+choose-requires : tie.Need-choose-requires
+choose-requires c κs = search needs
+
+returns : tie.Need-returns
+unfolding closedScan
+returns c = cc
+
+pub closed-scan-spec : {M : Type 1} → statement M
+closed-scan-spec =
+    tie.close
+    (tie.spec
+    is-assign-or-range-requires
+    is-requires
+    both-requires
+    is-requires-2
+    is-below-requires
+    both-requires-2
+    either-requires
+    consume-by-requires
+    choose-requires
+    returns)

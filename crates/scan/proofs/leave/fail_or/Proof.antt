@@ -1,0 +1,18 @@
+-- `scan::leave::fail_or` meets its contract. Assumes nothing.
+use Rattle.scan.specs.Scans.{failOr}
+use borrow.Author.Needs.{needs}
+use Rattle.scan.proofs.leave.fail_or.Statement.{statement}
+use Rattle.scan.proofs.leave.fail_or.Tie as tie
+
+is-requires : tie.Need-is-requires
+is-requires c κs = search needs
+
+choose-requires : tie.Need-choose-requires
+choose-requires c κs = search needs
+
+returns : tie.Need-returns
+unfolding failOr
+returns c = cc
+
+pub fail-or-spec : {M : Type 1} → statement M
+fail-or-spec = tie.close (tie.spec is-requires choose-requires returns)

@@ -1,0 +1,39 @@
+-- `scan::right::is_scanned` meets its contract. Assumes nothing.
+use Rattle.scan.specs.Scans.{scanned}
+use borrow.Author.Needs.{needs}
+use Rattle.scan.proofs.right.is_scanned.Statement.{statement}
+use Rattle.scan.proofs.right.is_scanned.Tie as tie
+
+is-requires : tie.Need-is-requires
+is-requires c κs = search needs
+
+is-requires-2 : tie.Need-is-requires-2
+is-requires-2 c κs = search needs
+
+is-requires-3 : tie.Need-is-requires-3
+is-requires-3 c κs = search needs
+
+either-requires : tie.Need-either-requires
+either-requires c κs = search needs
+
+either-requires-2 : tie.Need-either-requires-2
+either-requires-2 c κs = search needs
+
+either-requires-3 : tie.Need-either-requires-3
+either-requires-3 c κs = search needs
+
+returns : tie.Need-returns
+unfolding scanned
+returns c = cc
+
+pub is-scanned-spec : {M : Type 1} → statement M
+is-scanned-spec =
+    tie.close
+    (tie.spec
+    is-requires
+    is-requires-2
+    is-requires-3
+    either-requires
+    either-requires-2
+    either-requires-3
+    returns)

@@ -1,0 +1,21 @@
+-- `scan::visit::fail_handed` meets its contract. Assumes nothing.
+use mathlib.Core.Path.{sym, _∙_}
+use Rattle.laws.proofs.Choice.{pick-true, pick-false}
+use Rattle.scan.specs.Scans.{failHanded}
+use borrow.Author.Needs.{needs}
+use Rattle.scan.proofs.visit.fail_handed.Statement.{statement}
+use Rattle.scan.proofs.visit.fail_handed.Tie as tie
+
+is-requires : tie.Need-is-requires
+is-requires c κs = search needs
+
+returns : tie.Need-returns
+unfolding failHanded
+returns c = sym (pick-true _ _ (cc))
+
+returns-2 : tie.Need-returns-2
+unfolding failHanded
+returns-2 c = sym (pick-false _ _ (cc))
+
+pub fail-handed-spec : {M : Type 1} → statement M
+fail-handed-spec = tie.close (tie.spec is-requires returns returns-2)

@@ -1,0 +1,25 @@
+-- `scan::visit::is_enough` meets its contract. Assumes nothing.
+use Rattle.scan.specs.Scans.{enough}
+use borrow.Author.Needs.{needs}
+use Rattle.scan.proofs.visit.is_enough.Statement.{statement}
+use Rattle.scan.proofs.visit.is_enough.Tie as tie
+
+is-requires : tie.Need-is-requires
+is-requires c κs = search needs
+
+either-requires : tie.Need-either-requires
+either-requires c κs = search needs
+
+both-requires : tie.Need-both-requires
+both-requires c κs = search needs
+
+choose-requires : tie.Need-choose-requires
+choose-requires c κs = search needs
+
+returns : tie.Need-returns
+unfolding enough
+returns c = cc
+
+pub is-enough-spec : {M : Type 1} → statement M
+is-enough-spec =
+    tie.close (tie.spec is-requires either-requires both-requires choose-requires returns)
