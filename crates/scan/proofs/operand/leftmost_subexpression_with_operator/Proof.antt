@@ -1,0 +1,21 @@
+-- `scan::operand::leftmost_subexpression_with_operator` meets its contract. Assumes nothing.
+use borrow.Author.Needs.{needs}
+use Rattle.scan.proofs.operand.leftmost_subexpression_with_operator.Statement.{statement}
+use Rattle.scan.proofs.operand.leftmost_subexpression_with_operator.Tie as tie
+
+leftmost-fixup-with-operator-requires : tie.Need-leftmost-fixup-with-operator-requires
+leftmost-fixup-with-operator-requires c κs = search needs
+
+leftmost-subexpression-precedence-requires : tie.Need-leftmost-subexpression-precedence-requires
+leftmost-subexpression-precedence-requires c κs = search needs
+
+returns : tie.Need-returns
+returns c = cc
+
+pub leftmost-subexpression-with-operator-spec : {M : Type 1} → statement M
+leftmost-subexpression-with-operator-spec =
+    tie.close
+    (tie.spec
+    leftmost-fixup-with-operator-requires
+    leftmost-subexpression-precedence-requires
+    returns)

@@ -1,0 +1,21 @@
+-- `scan::operand::rightmost_subexpression` meets its contract. Assumes nothing.
+use borrow.Author.Needs.{needs}
+use Rattle.scan.proofs.operand.rightmost_subexpression.Statement.{statement}
+use Rattle.scan.proofs.operand.rightmost_subexpression.Tie as tie
+
+rightmost-subexpression-fixup-requires : tie.Need-rightmost-subexpression-fixup-requires
+rightmost-subexpression-fixup-requires c κs = search needs
+
+rightmost-subexpression-precedence-requires : tie.Need-rightmost-subexpression-precedence-requires
+rightmost-subexpression-precedence-requires c κs = search needs
+
+returns : tie.Need-returns
+returns c = cc
+
+pub rightmost-subexpression-spec : {M : Type 1} → statement M
+rightmost-subexpression-spec =
+    tie.close
+    (tie.spec
+    rightmost-subexpression-fixup-requires
+    rightmost-subexpression-precedence-requires
+    returns)
