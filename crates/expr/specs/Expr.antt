@@ -14,7 +14,7 @@ use Rattle.classify.specs.Classify.{leadingLabel}
 use Rattle.fixup.specs.declared.context.FixupContext.{FixupContext}
 use Rattle.fixup.specs.Contexts.{NONE}
 use Rattle.expr.specs.declared.Handed.{Handed}
-use Rattle.expr.specs.Handed.{under, upTo, never, grouped, beforeOperator, beforeDot, atEnd, neither}
+use Rattle.expr.specs.Handed.{under, upTo, never, grouped, beforeOperator, beforeDot, atEnd, afterPrefix, neither}
 
 -- ---- expr_binary
 
@@ -54,12 +54,12 @@ binaryLeft x op = beforeOperator x (canBeginExpr op) (canBeginGenerics op) (ofBi
 unfoldable pub binaryRight : FixupContext → ℕ → Handed
 binaryRight x op = atEnd x false false (ofBinop op) (rightTest (ofBinop op))
 
--- ---- expr_break: without a label of its own, before a value whose first token is a label
+-- ---- expr_break: without a label of its own ("Break: 1 labelled"), before a value whose first token is a label
 
 unfoldable pub breakTest : ℕ → Tree → ℕ
 breakTest detail value = grouped (eqb detail 0 && leadingLabel value)
 
--- ---- expr_call: a Field is grouped where its member is named, anything else by its precedence
+-- ---- expr_call: a Field by its member alone ("Field: 0 named, 1 numbered"), anything else by its precedence
 
 unfoldable pub callRows : Label → Tree → Tree → List (Row ℕ)
 callRows l a b = row (ExprField ∷ []) (grouped (eqb (l .detail) 0)) ∷ []
@@ -67,7 +67,7 @@ callRows l a b = row (ExprField ∷ []) (grouped (eqb (l .detail) 0)) ∷ []
 unfoldable pub callTest : Tree → ℕ
 callTest t = atRoot callRows (under Unambiguous) t
 
--- ---- the operand at the first place
+-- ---- the operand at the first place. x is the owner's own context, NONE where the owner has an outer pair
 
 unfoldable pub firstRows : FixupContext → Label → Tree → Tree → List (Row Handed)
 firstRows x l a b =
@@ -83,27 +83,27 @@ firstRows x l a b =
     row (ExprCall ∷ []) (beforeOperator x true false Unambiguous (callTest a)) ∷
     -- expr_cast
     row (ExprCast ∷ []) (beforeOperator x false false Cast (under Cast)) ∷
-    -- expr_closure
+    -- expr_closure: the body, which is a plain Block where an output is written (10)
     row (ExprClosure ∷ []) (atEnd x false false Jump never) ∷
     -- expr_group
     row (ExprGroup ∷ []) (neither x) ∷
     -- expr_index
     row (ExprIndex ∷ []) (beforeOperator x true false Unambiguous (under Unambiguous)) ∷
     -- expr_let
-    row (ExprLet ∷ []) (atEnd x false false Let (under Let)) ∷
+    row (ExprLet ∷ []) (afterPrefix x Let) ∷
     -- expr_paren
     row (ExprParen ∷ []) (neither NONE) ∷
-    -- expr_range: its start
+    -- expr_range: the start
     row (ExprRange ∷ []) (beforeOperator x true false Range (upTo Range)) ∷
     -- expr_raw_addr, expr_unary
-    row (ExprRawAddr ∷ ExprUnary ∷ []) (atEnd x false false Prefix (under Prefix)) ∷
+    row (ExprRawAddr ∷ ExprUnary ∷ []) (afterPrefix x Prefix) ∷
     -- expr_reference
-    row (ExprReference ∷ []) (atEnd x false false Prefix (under Prefix)) ∷
+    row (ExprReference ∷ []) (afterPrefix x Prefix) ∷
     -- expr_return, expr_yield
     row (ExprReturn ∷ ExprYield ∷ []) (atEnd x true false Jump never) ∷
     []
 
--- call_args: a list's item. All other forms have no expression there
+-- call_args: an item of a list. All other forms have no expression there
 unfoldable pub handsFirst : FixupContext → Tree → Handed
 handsFirst x t = atRoot (firstRows x) (neither NONE) t
 
@@ -117,7 +117,7 @@ secondRows x l a b =
     row (ExprBinary ∷ []) (binaryRight x (l .detail)) ∷
     -- expr_index: the index
     row (ExprIndex ∷ []) (neither NONE) ∷
-    -- expr_range: its end
+    -- expr_range: the end
     row (ExprRange ∷ []) (atEnd x false true Range (upTo Range)) ∷
     []
 

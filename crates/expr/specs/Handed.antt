@@ -1,5 +1,5 @@
 -- What an operand gets from its owner: a context, the side on which it stands, and the owner's grouping test.
-use mathlib.Core.Bool.{Bool}
+use mathlib.Core.Bool.{Bool, false}
 use Prim.Native.Nat.{ℕ, suc}
 use Rattle.laws.specs.Choice.{pick}
 use Rattle.precedence.specs.declared.Precedence.{Precedence}
@@ -42,6 +42,10 @@ beforeDot x test = record { fixup = withDot x; side = Left; below = test }
 -- rightmost_subexpression_fixup
 unfoldable pub atEnd : FixupContext → Bool → Bool → Precedence → ℕ → Handed
 atEnd x reset optional previous test = record { fixup = rightmost x reset optional previous; side = Right; below = test }
+
+-- rightmost_subexpression, and the test '< its operator'
+unfoldable pub afterPrefix : FixupContext → Precedence → Handed
+afterPrefix x previous = atEnd x false false previous (under previous)
 
 -- no such function, and no test
 unfoldable pub neither : FixupContext → Handed

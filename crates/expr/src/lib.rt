@@ -9,8 +9,7 @@ use tree::table::Operand;
 use tree::table::cell;
 ghost use mathlib.Core.Path.{_≡_};
 ghost use Rattle.tree.specs.Trees.{treeAt};
-ghost use Rattle.precedence.specs.declared.Precedence.the-variants.{Jump};
-ghost use Rattle.expr.specs.Handed.{upTo, grouped, beforeOperator, beforeDot, atEnd, neither};
+ghost use Rattle.expr.specs.Handed.{upTo, grouped, beforeOperator, beforeDot, atEnd, afterPrefix, neither};
 ghost use Rattle.expr.specs.Expr.{canBeginExpr, canBeginGenerics, leftTest, rightTest, binaryLeft, binaryRight, breakTest, callTest, handsFirst, handsSecond};
 ghost use Rattle.expr.specs.Steps.{treeOf};
 
@@ -95,6 +94,13 @@ fn at_end(
         side: Side::Right,
         below: below,
     }
+}
+
+// An operand handed what rightmost_subexpression makes, with the test '< operator'.
+fn after_prefix(fixup: FixupContext, operator: Precedence) -> Handed
+    ensures { λ r. ⌜ r ≡ afterPrefix fixup operator ⌝ }
+{
+    at_end(fixup, false, false, operator, operator.rank())
 }
 
 // An operand that neither begins nor ends its owner, or is all of it.
@@ -202,7 +208,7 @@ fn call_test(table: &[u16], count: u16, func: Operand) -> u16
     }
 }
 
-// What the operand at the first place gets from its owner, whose own context is `fixup`.
+// What the operand at the first place gets from its owner. `fixup` is the owner's own context, NONE where the owner has an outer pair.
 pub fn first_operand(fixup: FixupContext, table: &[u16], count: u16, node: u16) -> Handed
     ensures { λ r. ⌜ r ≡ handsFirst fixup (treeAt (now (table .entry)) count node) ⌝ }
 {
@@ -247,7 +253,7 @@ pub fn first_operand(fixup: FixupContext, table: &[u16], count: u16, node: u16) 
             Precedence::Cast,
             Precedence::Cast.rank(),
         ),
-        // expr_closure
+        // expr_closure: the body
         forms::EXPR_CLOSURE => at_end(fixup, false, false, Precedence::Jump, NEVER),
         // expr_group
         forms::EXPR_GROUP => neither(fixup),
@@ -260,10 +266,10 @@ pub fn first_operand(fixup: FixupContext, table: &[u16], count: u16, node: u16) 
             Precedence::Unambiguous.rank(),
         ),
         // expr_let
-        forms::EXPR_LET => at_end(fixup, false, false, Precedence::Let, Precedence::Let.rank()),
+        forms::EXPR_LET => after_prefix(fixup, Precedence::Let),
         // expr_paren
         forms::EXPR_PAREN => neither(none),
-        // expr_range
+        // expr_range: the start
         forms::EXPR_RANGE => before_operator(
             fixup,
             true,
@@ -272,35 +278,19 @@ pub fn first_operand(fixup: FixupContext, table: &[u16], count: u16, node: u16) 
             up_to(Precedence::Range),
         ),
         // expr_raw_addr, expr_unary
-        forms::EXPR_RAW_ADDR | forms::EXPR_UNARY => {
-            at_end(
-                fixup,
-                false,
-                false,
-                Precedence::Prefix,
-                Precedence::Prefix.rank(),
-            )
-        }
+        forms::EXPR_RAW_ADDR | forms::EXPR_UNARY => after_prefix(fixup, Precedence::Prefix),
         // expr_reference
-        forms::EXPR_REFERENCE => {
-            at_end(
-                fixup,
-                false,
-                false,
-                Precedence::Prefix,
-                Precedence::Prefix.rank(),
-            )
-        }
+        forms::EXPR_REFERENCE => after_prefix(fixup, Precedence::Prefix),
         // expr_return, expr_yield
         forms::EXPR_RETURN | forms::EXPR_YIELD => {
             at_end(fixup, true, false, Precedence::Jump, NEVER)
         }
-        // call_args; all other forms have no expression there
+        // call_args: an item of a list; all other forms have no expression there
         _ => neither(none),
     }
 }
 
-// What the operand at the second place gets from its owner, whose own context is `fixup`.
+// What the operand at the second place gets from its owner. `fixup` is as above.
 pub fn second_operand(fixup: FixupContext, table: &[u16], count: u16, node: u16) -> Handed
     ensures { λ r. ⌜ r ≡ handsSecond fixup (treeAt (now (table .entry)) count node) ⌝ }
 {
@@ -310,9 +300,9 @@ pub fn second_operand(fixup: FixupContext, table: &[u16], count: u16, node: u16)
         forms::EXPR_ASSIGN => at_end(fixup, false, false, Precedence::Assign, NEVER),
         // expr_binary
         forms::EXPR_BINARY => binary_right(fixup, cell(table, node, 2)),
-        // expr_index
+        // expr_index: the index
         forms::EXPR_INDEX => neither(none),
-        // expr_range
+        // expr_range: the end
         forms::EXPR_RANGE => at_end(
             fixup,
             false,

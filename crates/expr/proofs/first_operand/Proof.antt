@@ -5,7 +5,7 @@ use mathlib.Core.List.{[], _∷_}
 use Rattle.tree.specs.Trees.{labelAt}
 use Rattle.tree.specs.Shapes.{shapeRows, firstOf}
 use Rattle.tree.proofs.Shapes.{shape-is, root-arm, root-rest}
-use Rattle.precedence.specs.declared.Precedence.the-variants.{Jump, Assign, Range, Let, Cast, Prefix, Unambiguous}
+use Rattle.precedence.specs.declared.Precedence.the-variants.{Jump, Assign, Range, Cast, Unambiguous}
 use Rattle.fixup.specs.Contexts.{NONE}
 use Rattle.expr.specs.Handed.{beforeOperator, beforeDot, atEnd, neither}
 use Rattle.expr.specs.Expr.{binaryLeft, breakTest, callTest, firstRows, handsFirst}
@@ -81,11 +81,8 @@ rank-requires-3 c κs = search needs
 before-operator-requires-4 : tie.Need-before-operator-requires-4
 before-operator-requires-4 c κs = search needs
 
-rank-requires-4 : tie.Need-rank-requires-4
-rank-requires-4 c κs = search needs
-
-at-end-requires-3 : tie.Need-at-end-requires-3
-at-end-requires-3 c κs = search needs
+after-prefix-requires : tie.Need-after-prefix-requires
+after-prefix-requires c κs = search needs
 
 neither-requires-2 : tie.Need-neither-requires-2
 neither-requires-2 c κs = search needs
@@ -96,20 +93,14 @@ up-to-requires-2 c κs = search needs
 before-operator-requires-5 : tie.Need-before-operator-requires-5
 before-operator-requires-5 c κs = search needs
 
-rank-requires-5 : tie.Need-rank-requires-5
-rank-requires-5 c κs = search needs
+after-prefix-requires-2 : tie.Need-after-prefix-requires-2
+after-prefix-requires-2 c κs = search needs
 
-at-end-requires-4 : tie.Need-at-end-requires-4
-at-end-requires-4 c κs = search needs
+after-prefix-requires-3 : tie.Need-after-prefix-requires-3
+after-prefix-requires-3 c κs = search needs
 
-rank-requires-6 : tie.Need-rank-requires-6
-rank-requires-6 c κs = search needs
-
-at-end-requires-5 : tie.Need-at-end-requires-5
-at-end-requires-5 c κs = search needs
-
-at-end-requires-6 : tie.Need-at-end-requires-6
-at-end-requires-6 c κs = search needs
+at-end-requires-3 : tie.Need-at-end-requires-3
+at-end-requires-3 c κs = search needs
 
 neither-requires-3 : tie.Need-neither-requires-3
 neither-requires-3 c κs = search needs
@@ -158,7 +149,7 @@ returns-9 c = c .before-operator4 .ensures ∙ ap (beforeOperator (c .before .be
 
 returns-10 : tie.Need-returns-10
 unfolding handsFirst firstRows
-returns-10 c = c .at-end3 .ensures ∙ ap (atEnd (c .before .before .before .before .before .before .before .args .fixup) false false Let) (c .before .rank4 .ensures) ∙ root-arm _ _ _ (firstRows (c .before .before .before .before .before .before .before .args .fixup)) (neither NONE) _ (c .before .before .before .form-at .ensures) tt 9 tt (c .before .before .match .keys10)
+returns-10 c = c .after-prefix .ensures ∙ root-arm _ _ _ (firstRows (c .before .before .before .before .before .before .args .fixup)) (neither NONE) _ (c .before .before .form-at .ensures) tt 9 tt (c .before .match .keys10)
 
 returns-11 : tie.Need-returns-11
 unfolding handsFirst firstRows
@@ -170,15 +161,15 @@ returns-12 c = c .before-operator5 .ensures ∙ ap (beforeOperator (c .before .b
 
 returns-13 : tie.Need-returns-13
 unfolding handsFirst firstRows
-returns-13 c = c .at-end4 .ensures ∙ ap (atEnd (c .before .before .before .before .before .before .before .args .fixup) false false Prefix) (c .before .rank5 .ensures) ∙ root-arm _ _ _ (firstRows (c .before .before .before .before .before .before .before .args .fixup)) (neither NONE) _ (c .before .before .before .form-at .ensures) tt 12 tt (c .before .before .match .keys13)
+returns-13 c = c .after-prefix2 .ensures ∙ root-arm _ _ _ (firstRows (c .before .before .before .before .before .before .args .fixup)) (neither NONE) _ (c .before .before .form-at .ensures) tt 12 tt (c .before .match .keys13)
 
 returns-14 : tie.Need-returns-14
 unfolding handsFirst firstRows
-returns-14 c = c .at-end5 .ensures ∙ ap (atEnd (c .before .before .before .before .before .before .before .args .fixup) false false Prefix) (c .before .rank6 .ensures) ∙ root-arm _ _ _ (firstRows (c .before .before .before .before .before .before .before .args .fixup)) (neither NONE) _ (c .before .before .before .form-at .ensures) tt 13 tt (c .before .before .match .keys14)
+returns-14 c = c .after-prefix3 .ensures ∙ root-arm _ _ _ (firstRows (c .before .before .before .before .before .before .args .fixup)) (neither NONE) _ (c .before .before .form-at .ensures) tt 13 tt (c .before .match .keys14)
 
 returns-15 : tie.Need-returns-15
 unfolding handsFirst firstRows
-returns-15 c = c .at-end6 .ensures ∙ root-arm _ _ _ (firstRows (c .before .before .before .before .before .before .args .fixup)) (neither NONE) _ (c .before .before .form-at .ensures) tt 14 tt (c .before .match .keys15)
+returns-15 c = c .at-end3 .ensures ∙ root-arm _ _ _ (firstRows (c .before .before .before .before .before .before .args .fixup)) (neither NONE) _ (c .before .before .form-at .ensures) tt 14 tt (c .before .match .keys15)
 
 returns-16 : tie.Need-returns-16
 unfolding handsFirst firstRows
@@ -210,16 +201,13 @@ first-operand-spec =
     neither-requires
     rank-requires-3
     before-operator-requires-4
-    rank-requires-4
-    at-end-requires-3
+    after-prefix-requires
     neither-requires-2
     up-to-requires-2
     before-operator-requires-5
-    rank-requires-5
-    at-end-requires-4
-    rank-requires-6
-    at-end-requires-5
-    at-end-requires-6
+    after-prefix-requires-2
+    after-prefix-requires-3
+    at-end-requires-3
     neither-requires-3
     returns
     returns-2
