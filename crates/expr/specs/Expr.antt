@@ -40,11 +40,11 @@ genericsBeginners =
 unfoldable pub canBeginGenerics : ℕ → Bool
 canBeginGenerics op = lookup genericsBeginners false op
 
--- left_needs_group
+-- left_needs_group: '<= Range' for an assigning operator, '<=' its own precedence for a comparison, otherwise '<'
 unfoldable pub leftTest : Precedence → ℕ
 leftTest p = pick (same p Assign) (upTo Range) (pick (same p Compare) (upTo p) (under p))
 
--- right_needs_group
+-- right_needs_group: never for an assigning operator, otherwise '<=' its own precedence
 unfoldable pub rightTest : Precedence → ℕ
 rightTest p = pick (same p Assign) never (upTo p)
 

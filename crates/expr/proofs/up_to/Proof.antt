@@ -1,5 +1,4 @@
 -- `expr::up_to` meets its contract. Assumes nothing.
-use native.Mathlib.Omega.{arith}
 use Rattle.expr.proofs.Tests.{rank-most}
 use borrow.Author.Needs.{needs}
 use Rattle.expr.proofs.up_to.Statement.{statement}
