@@ -1,0 +1,126 @@
+-- prettyplease's expr.rs, owner by owner: what it hands to the operand at its first place, and to the one at its second.
+use mathlib.Core.Bool.{Bool, true, false, _&&_}
+use mathlib.Core.List.{List, [], _∷_}
+use Prim.Native.Nat.{ℕ}
+use lib.Dec.{eqb}
+use Rattle.laws.specs.Choice.{pick, Row, row, lookup}
+use Rattle.tree.specs.Forms.{ExprAssign, ExprAwait, ExprBinary, ExprBreak, ExprCall, ExprCast, ExprClosure, ExprField, ExprGroup, ExprIndex, ExprLet, ExprMethodCall, ExprParen, ExprRange, ExprRawAddr, ExprReference, ExprReturn, ExprTry, ExprUnary, ExprYield}
+use Rattle.tree.specs.Trees.{Label, Tree}
+use Rattle.tree.specs.Walks.{atRoot}
+use Rattle.precedence.specs.declared.Precedence.{Precedence}
+use Rattle.precedence.specs.declared.Precedence.the-variants.{Jump, Assign, Range, Let, Compare, Cast, Prefix, Unambiguous}
+use Rattle.precedence.specs.Precedences.{same, ofBinop}
+use Rattle.classify.specs.Classify.{leadingLabel}
+use Rattle.fixup.specs.declared.context.FixupContext.{FixupContext}
+use Rattle.fixup.specs.Contexts.{NONE}
+use Rattle.expr.specs.declared.Handed.{Handed}
+use Rattle.expr.specs.Handed.{under, upTo, never, grouped, beforeOperator, beforeDot, atEnd, afterPrefix, neither}
+
+-- ---- expr_binary
+
+-- the operators whose token can begin an expression, by document 01's numbers
+unfoldable pub exprBeginners : List (Row Bool)
+exprBeginners =
+    -- Sub, And, BitAnd, Shl, Lt
+    row (1 ∷ 5 ∷ 8 ∷ 10 ∷ 13 ∷ []) true ∷
+    -- Mul, Or, BitOr
+    row (2 ∷ 6 ∷ 9 ∷ []) true ∷
+    []
+
+unfoldable pub canBeginExpr : ℕ → Bool
+canBeginExpr op = lookup exprBeginners false op
+
+-- the operators whose token can begin generic arguments
+unfoldable pub genericsBeginners : List (Row Bool)
+genericsBeginners =
+    -- Shl, Lt
+    row (10 ∷ 13 ∷ []) true ∷
+    []
+
+unfoldable pub canBeginGenerics : ℕ → Bool
+canBeginGenerics op = lookup genericsBeginners false op
+
+-- left_needs_group: '<= Range' for an assigning operator, '<=' its own precedence for a comparison, otherwise '<'
+unfoldable pub leftTest : Precedence → ℕ
+leftTest p = pick (same p Assign) (upTo Range) (pick (same p Compare) (upTo p) (under p))
+
+-- right_needs_group: never for an assigning operator, otherwise '<=' its own precedence
+unfoldable pub rightTest : Precedence → ℕ
+rightTest p = pick (same p Assign) never (upTo p)
+
+unfoldable pub binaryLeft : FixupContext → ℕ → Handed
+binaryLeft x op = beforeOperator x (canBeginExpr op) (canBeginGenerics op) (ofBinop op) (leftTest (ofBinop op))
+
+unfoldable pub binaryRight : FixupContext → ℕ → Handed
+binaryRight x op = atEnd x false false (ofBinop op) (rightTest (ofBinop op))
+
+-- ---- expr_break: without a label of its own ("Break: 1 labelled"), before a value whose first token is a label
+
+unfoldable pub breakTest : ℕ → Tree → ℕ
+breakTest detail value = grouped (eqb detail 0 && leadingLabel value)
+
+-- ---- expr_call: a Field by its member alone ("Field: 0 named, 1 numbered"), anything else by its precedence
+
+unfoldable pub callRows : Label → Tree → Tree → List (Row ℕ)
+callRows l a b = row (ExprField ∷ []) (grouped (eqb (l .detail) 0)) ∷ []
+
+unfoldable pub callTest : Tree → ℕ
+callTest t = atRoot callRows (under Unambiguous) t
+
+-- ---- the operand at the first place. x is the owner's own context, NONE where the owner has an outer pair
+
+unfoldable pub firstRows : FixupContext → Label → Tree → Tree → List (Row Handed)
+firstRows x l a b =
+    -- expr_assign
+    row (ExprAssign ∷ []) (beforeOperator x false false Assign (upTo Range)) ∷
+    -- expr_await, expr_field, expr_method_call, expr_try
+    row (ExprAwait ∷ ExprField ∷ ExprMethodCall ∷ ExprTry ∷ []) (beforeDot x (under Unambiguous)) ∷
+    -- expr_binary
+    row (ExprBinary ∷ []) (binaryLeft x (l .detail)) ∷
+    -- expr_break
+    row (ExprBreak ∷ []) (atEnd x true true Jump (breakTest (l .detail) a)) ∷
+    -- expr_call
+    row (ExprCall ∷ []) (beforeOperator x true false Unambiguous (callTest a)) ∷
+    -- expr_cast
+    row (ExprCast ∷ []) (beforeOperator x false false Cast (under Cast)) ∷
+    -- expr_closure: the body, which is a plain Block where an output is written (10)
+    row (ExprClosure ∷ []) (atEnd x false false Jump never) ∷
+    -- expr_group
+    row (ExprGroup ∷ []) (neither x) ∷
+    -- expr_index
+    row (ExprIndex ∷ []) (beforeOperator x true false Unambiguous (under Unambiguous)) ∷
+    -- expr_let
+    row (ExprLet ∷ []) (afterPrefix x Let) ∷
+    -- expr_paren
+    row (ExprParen ∷ []) (neither NONE) ∷
+    -- expr_range: the start
+    row (ExprRange ∷ []) (beforeOperator x true false Range (upTo Range)) ∷
+    -- expr_raw_addr, expr_unary
+    row (ExprRawAddr ∷ ExprUnary ∷ []) (afterPrefix x Prefix) ∷
+    -- expr_reference
+    row (ExprReference ∷ []) (afterPrefix x Prefix) ∷
+    -- expr_return, expr_yield
+    row (ExprReturn ∷ ExprYield ∷ []) (atEnd x true false Jump never) ∷
+    []
+
+-- call_args: an item of a list. All other forms have no expression there
+unfoldable pub handsFirst : FixupContext → Tree → Handed
+handsFirst x t = atRoot (firstRows x) (neither NONE) t
+
+-- ---- the operand at the second place
+
+unfoldable pub secondRows : FixupContext → Label → Tree → Tree → List (Row Handed)
+secondRows x l a b =
+    -- expr_assign
+    row (ExprAssign ∷ []) (atEnd x false false Assign never) ∷
+    -- expr_binary
+    row (ExprBinary ∷ []) (binaryRight x (l .detail)) ∷
+    -- expr_index: the index
+    row (ExprIndex ∷ []) (neither NONE) ∷
+    -- expr_range: the end
+    row (ExprRange ∷ []) (atEnd x false true Range (upTo Range)) ∷
+    []
+
+-- all other forms have no expression there
+unfoldable pub handsSecond : FixupContext → Tree → Handed
+handsSecond x t = atRoot (secondRows x) (neither NONE) t
