@@ -7,7 +7,7 @@ use tree::table::cell;
 ghost use mathlib.Core.Path.{_≡_};
 ghost use mathlib.Core.Bool.{true, false};
 ghost use Rattle.tree.specs.Trees.{treeAt};
-ghost use Rattle.tree.specs.Walks.{ofOperand, into, stepBy, stepAt};
+ghost use Rattle.tree.specs.Walks.{treeOf, into, stepBy, stepAt};
 ghost use Rattle.classify.specs.Classify.{commaAsks, requiresComma, requiresSemi, lastTypeInPath, pathAsks, trailingPath, groupLabel, labelAsks, leadingLabel, braceInPath, braceInBounds, typeBraceAsks, typeTrailingBrace, braceAsks, trailingBrace};
 ghost use Rattle.classify.specs.Steps.{flowBy};
 
@@ -206,7 +206,7 @@ pub fn type_trailing_brace(table: &[u16], count: u16, node: u16) -> bool
 
 // A Cast ends where its type ends.
 fn cast_brace(table: &[u16], count: u16, ty: Operand) -> bool
-    ensures { λ r. ⌜ r ≡ ofOperand typeTrailingBrace (now (table .entry)) count ty ⌝ }
+    ensures { λ r. ⌜ r ≡ typeTrailingBrace (treeOf (now (table .entry)) count ty) ⌝ }
 {
     let Operand::Present(number) = ty else {
         return false;

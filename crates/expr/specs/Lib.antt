@@ -1,3 +1,2 @@
 pub mod Handed
 pub mod Expr
-pub mod Steps

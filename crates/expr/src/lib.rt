@@ -9,9 +9,9 @@ use tree::table::Operand;
 use tree::table::cell;
 ghost use mathlib.Core.Path.{_≡_};
 ghost use Rattle.tree.specs.Trees.{treeAt};
+ghost use Rattle.tree.specs.Walks.{treeOf};
 ghost use Rattle.expr.specs.Handed.{upTo, grouped, beforeOperator, beforeDot, atEnd, afterPrefix, neither};
 ghost use Rattle.expr.specs.Expr.{canBeginExpr, canBeginGenerics, leftTest, rightTest, binaryLeft, binaryRight, breakTest, callTest, handsFirst, handsSecond};
-ghost use Rattle.expr.specs.Steps.{treeOf};
 
 // Which function of fixup.rs gives an operand's precedence.
 pub enum Side {

@@ -8,7 +8,7 @@ use tree::table::cell;
 ghost use mathlib.Core.Path.{_≡_};
 ghost use mathlib.Core.Bool.{not};
 ghost use Rattle.tree.specs.Trees.{treeAt};
-ghost use Rattle.tree.specs.Walks.{isPresent, ofOperand};
+ghost use Rattle.tree.specs.Walks.{isPresent, treeOf};
 ghost use Rattle.classify.specs.Classify.{trailingPath};
 ghost use Rattle.fixup.specs.Fixup.{isLet, isStruct, isBareReturn, isOpenEnded, isPlainBlock, isBareJump, isOpenAhead, isCastToPath};
 
@@ -104,7 +104,7 @@ pub fn is_open_ahead(table: &[u16], count: u16, node: u16) -> bool
 
 // Whether a type that is an operand ends in a path without arguments.
 fn ends_in_path(table: &[u16], count: u16, ty: Operand) -> bool
-    ensures { λ r. ⌜ r ≡ ofOperand trailingPath (now (table .entry)) count ty ⌝ }
+    ensures { λ r. ⌜ r ≡ trailingPath (treeOf (now (table .entry)) count ty) ⌝ }
 {
     let Operand::Present(number) = ty else {
         return false;

@@ -11,7 +11,7 @@ ghost use mathlib.Core.Path.{_≡_};
 ghost use Rattle.tree.specs.Trees.{treeAt};
 ghost use Rattle.tree.specs.Shapes.{presence};
 ghost use Rattle.scan.specs.Scans.{plain, armOf};
-ghost use Rattle.tree.specs.Walks.{ofOperand};
+ghost use Rattle.tree.specs.Walks.{treeOf};
 ghost use Rattle.classify.specs.Classify.{leadingLabel};
 ghost use Rattle.scan.specs.Steps.{operandNumber};
 
@@ -42,7 +42,7 @@ fn plain(attributes: u16, arm: Arm) -> Arm
 }
 
 fn leading_label(table: &[u16], count: u16, value: Operand) -> bool
-    ensures { λ r. ⌜ r ≡ ofOperand leadingLabel (now (table .entry)) count value ⌝ }
+    ensures { λ r. ⌜ r ≡ leadingLabel (treeOf (now (table .entry)) count value) ⌝ }
 {
     let Operand::Present(number) = value else {
         return false;

@@ -12,7 +12,7 @@ use Rattle.tree.specs.declared.table.Operand.{Operand}
 use Rattle.tree.specs.declared.table.Operand.the-variants.{Absent, Present}
 use Rattle.tree.specs.Trees.{Label, Tree, none, node, labelAt, operandOf, operandAt, treeAt}
 use Rattle.tree.specs.Shapes.{presence}
-use Rattle.tree.specs.Walks.{Ask, answer, first, second, follow, isThere, walk, isPresent, ofOperand, Step, ends, goes, into, stepBy, stepAt}
+use Rattle.tree.specs.Walks.{Ask, answer, first, second, follow, isThere, walk, isPresent, treeOf, Step, ends, goes, into, stepBy, stepAt}
 use Rattle.tree.proofs.Unfold.{Standing, absent, present, standing, tree-zero, tree-past, unfolds}
 
 -- ---- operands that are there
@@ -48,10 +48,10 @@ unfolding presence
 absent-zero zero e = refl
 absent-zero (suc n) e = absurd (let z : _≡_ {A = ℕ} 0 1 = cc in omega arith)
 
-pub of-operand : {A : Type 0} (f : Tree → A) (cells : List ℕ) (count o : ℕ) → ofOperand f cells count (presence o) ≡ f (treeAt cells count o)
+pub tree-of : (cells : List ℕ) (count o : ℕ) → treeOf cells count (presence o) ≡ treeAt cells count o
 unfolding presence
-of-operand f cells count zero = rw (tree-zero cells count)
-of-operand f cells count (suc n) = refl
+tree-of cells count zero = sym (tree-zero cells count)
+tree-of cells count (suc n) = refl
 
 -- ---- steps
 

@@ -35,10 +35,10 @@ abbrev pub isPresent : Operand → Bool
 isPresent Absent = false
 isPresent (Present n) = true
 
--- a question about the tree at an operand
-abbrev pub ofOperand : {A : Type 0} → (Tree → A) → List ℕ → ℕ → Operand → A
-ofOperand f cells count Absent = f none
-ofOperand f cells count (Present n) = f (treeAt cells count n)
+-- the tree at an operand
+abbrev pub treeOf : List ℕ → ℕ → Operand → Tree
+treeOf cells count Absent = none
+treeOf cells count (Present n) = treeAt cells count n
 
 -- a step: the answer, or the number of the node that is asked next
 pub data Step (A : Type 0) : Type 0 where

@@ -9,8 +9,8 @@ use Rattle.precedence.specs.declared.Precedence.the-variants.{Jump, Assign, Ran
 use Rattle.fixup.specs.Contexts.{NONE}
 use Rattle.expr.specs.Handed.{beforeOperator, beforeDot, atEnd, neither}
 use Rattle.expr.specs.Expr.{binaryLeft, breakTest, callTest, firstRows, handsFirst}
-use Rattle.expr.specs.Steps.{treeOf}
-use Rattle.expr.proofs.Steps.{tree-of}
+use Rattle.tree.specs.Walks.{treeOf}
+use Rattle.tree.proofs.Walks.{tree-of}
 use borrow.Author.Needs.{needs}
 use Rattle.expr.proofs.first_operand.Statement.{statement}
 use Rattle.expr.proofs.first_operand.Tie as tie

@@ -2,9 +2,10 @@
 use mathlib.Core.Path.{ap, _∙_}
 use mathlib.Core.Bool.{false}
 use mathlib.Core.List.{[], _∷_}
+use Rattle.tree.specs.declared.table.Operand.{Operand}
 use Rattle.tree.specs.Shapes.{shapeRows, secondOf}
-use Rattle.tree.specs.Walks.{ofOperand}
-use Rattle.tree.proofs.Walks.{of-operand}
+use Rattle.tree.specs.Walks.{treeOf}
+use Rattle.tree.proofs.Walks.{tree-of}
 use Rattle.tree.proofs.Shapes.{shape-is, root-arm, root-rest}
 use Rattle.classify.specs.Classify.{trailingPath}
 use Rattle.fixup.specs.Fixup.{castToPathRows}
@@ -26,7 +27,7 @@ ends-in-path-requires c κs = search needs
 
 returns : tie.Need-returns
 unfolding castToPathRows shapeRows secondOf
-returns c = c .ends-in-path .ensures ∙ ap (ofOperand trailingPath (c .before .before .before .before .before .before .args .table .now) (c .before .before .before .before .before .before .args .count)) (c .before .second .ensures ∙ ap secondOf (c .before .before .before .before .shape-at .ensures ∙ shape-is _ _ _ _ (c .before .before .before .form-at .ensures) (9 ∷ []) (c .before .before .match .keys1) 1 tt tt)) ∙ of-operand trailingPath _ _ _ ∙ root-arm _ _ _ castToPathRows false _ (c .before .before .before .form-at .ensures) tt 0 tt (c .before .before .match .keys1)
+returns c = c .ends-in-path .ensures ∙ ap (λ (p : Operand). trailingPath (treeOf (c .before .before .before .before .before .before .args .table .now) (c .before .before .before .before .before .before .args .count) p)) (c .before .second .ensures ∙ ap secondOf (c .before .before .before .before .shape-at .ensures ∙ shape-is _ _ _ _ (c .before .before .before .form-at .ensures) (9 ∷ []) (c .before .before .match .keys1) 1 tt tt)) ∙ ap trailingPath (tree-of _ _ _) ∙ root-arm _ _ _ castToPathRows false _ (c .before .before .before .form-at .ensures) tt 0 tt (c .before .before .match .keys1)
 
 returns-2 : tie.Need-returns-2
 unfolding castToPathRows

@@ -4,11 +4,12 @@ use mathlib.Core.Bool.{Bool, _&&_}
 use mathlib.Core.List.{[], _∷_}
 use Prim.Native.Nat.{ℕ}
 use lib.Dec.{eqb}
+use Rattle.tree.specs.declared.table.Operand.{Operand}
 use Rattle.tree.specs.Shapes.{shapeRows, firstOf}
 use Rattle.tree.specs.Trees.{labelAt}
-use Rattle.tree.specs.Walks.{ofOperand}
+use Rattle.tree.specs.Walks.{treeOf}
 use Rattle.tree.proofs.Shapes.{shape-is, root-arm, root-rest}
-use Rattle.tree.proofs.Walks.{of-operand}
+use Rattle.tree.proofs.Walks.{tree-of}
 use Rattle.precedence.specs.declared.Precedence.{Precedence}
 use Rattle.precedence.specs.Precedences.{ofBinop}
 use Rattle.classify.specs.Classify.{leadingLabel}
@@ -88,8 +89,8 @@ returns-6 c =
     ∙ ap₂ (λ (d : ℕ) (b : Bool). eqb d 0 && b)
     (c .before .before .before .cell5 .ensures)
     (c .before .leading-label .ensures
-    ∙ ap (ofOperand leadingLabel (c .before .before .before .before .before .before .before .before .args .table .now) (c .before .before .before .before .before .before .before .before .args .count)) (c .before .before .first .ensures ∙ ap firstOf (c .before .before .before .before .before .before .shape-at .ensures ∙ shape-is _ _ _ _ (c .before .before .before .before .before .form-at .ensures) (7 ∷ []) (c .before .before .before .before .match .keys6) 2 tt tt))
-    ∙ of-operand leadingLabel _ _ _))
+    ∙ ap (λ (p : Operand). leadingLabel (treeOf (c .before .before .before .before .before .before .before .before .args .table .now) (c .before .before .before .before .before .before .before .before .args .count) p)) (c .before .before .first .ensures ∙ ap firstOf (c .before .before .before .before .before .before .shape-at .ensures ∙ shape-is _ _ _ _ (c .before .before .before .before .before .form-at .ensures) (7 ∷ []) (c .before .before .before .before .match .keys6) 2 tt tt))
+    ∙ ap leadingLabel (tree-of _ _ _)))
     ∙ root-arm _ _ _ armRows Closed _ (c .before .before .before .before .before .form-at .ensures) tt 5 tt (c .before .before .before .before .match .keys6)
 
 returns-7 : tie.Need-returns-7
