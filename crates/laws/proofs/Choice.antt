@@ -57,3 +57,7 @@ and-by p q e h = cc
 
 pub or-by : {a b c d r v : Bool} → a ≡ c → b ≡ d → r ≡ (a || b) → r ≡ v → c || d ≡ v
 or-by p q e h = cc
+
+-- a choice, by what its test and its two sides are
+pub pick-by : {A : Type 0} {b c : Bool} {x y z w : A} → b ≡ c → x ≡ z → y ≡ w → pick b x y ≡ pick c z w
+pick-by p q r = cc

@@ -61,34 +61,34 @@ closed-scan-requires-6 : tie.Need-closed-scan-requires-6
 closed-scan-requires-6 c κs = search needs
 
 returns : tie.Need-returns
-returns c = rw (c .before .enum-told .given .1) (cc)
+returns c = rw (c .before .enum-told .given .1) (c .closed-scan .ensures)
 
 returns-2 : tie.Need-returns-2
-returns-2 c = rw (c .before .enum-told2 .given .1) (cc)
+returns-2 c = rw (c .before .enum-told2 .given .1) (c .closed-scan2 .ensures)
 
 returns-3 : tie.Need-returns-3
-returns-3 c = rw (c .before .enum-told3 .given .1) (cc)
+returns-3 c = rw (c .before .enum-told3 .given .1) (c .closed-scan3 .ensures)
 
 returns-4 : tie.Need-returns-4
-returns-4 c = rw (c .before .enum-told4 .given .1) (cc)
+returns-4 c = rw (c .before .enum-told4 .given .1) (c .choose .ensures)
 
 returns-5 : tie.Need-returns-5
-returns-5 c = rw (c .before .enum-told5 .given .1) (cc)
+returns-5 c = rw (c .before .enum-told5 .given .1) (c .bare-scan .ensures)
 
 returns-6 : tie.Need-returns-6
-returns-6 c = rw (c .before .enum-told6 .given .1) (cc)
+returns-6 c = rw (c .before .enum-told6 .given .1) (c .bare-scan2 .ensures)
 
 returns-7 : tie.Need-returns-7
-returns-7 c = rw (c .enum-told7 .given .1) (cc)
+returns-7 c = rw (c .enum-told7 .given .1)
 
 returns-8 : tie.Need-returns-8
-returns-8 c = rw (c .before .enum-told8 .given .1) (cc)
+returns-8 c = rw (c .before .enum-told8 .given .1) (c .closed-scan4 .ensures)
 
 returns-9 : tie.Need-returns-9
-returns-9 c = rw (c .before .enum-told9 .given .1) (cc)
+returns-9 c = rw (c .before .enum-told9 .given .1) (c .closed-scan5 .ensures)
 
 returns-10 : tie.Need-returns-10
-returns-10 c = rw (c .before .enum-told10 .given .1) (cc)
+returns-10 c = rw (c .before .enum-told10 .given .1) (c .closed-scan6 .ensures)
 
 pub leaf-scan-spec : {M : Type 1} → statement M
 leaf-scan-spec =

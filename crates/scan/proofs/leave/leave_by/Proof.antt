@@ -19,13 +19,13 @@ enum-told-3 : tie.Need-enum-told-3
 enum-told-3 c = search needs
 
 returns : tie.Need-returns
-returns c = rw (c .before .enum-told .given .1) (cc)
+returns c = rw (c .before .enum-told .given .1) (c .leave-fail .ensures)
 
 returns-2 : tie.Need-returns-2
-returns-2 c = rw (c .before .enum-told2 .given .1) (cc)
+returns-2 c = rw (c .before .enum-told2 .given .1) (c .leave-bailout .ensures)
 
 returns-3 : tie.Need-returns-3
-returns-3 c = rw (c .enum-told3 .given .1) (cc)
+returns-3 c = rw (c .enum-told3 .given .1)
 
 pub leave-by-spec : {M : Type 1} → statement M
 leave-by-spec =

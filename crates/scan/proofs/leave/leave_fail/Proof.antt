@@ -1,4 +1,7 @@
 -- `scan::leave::leave_fail` meets its contract. Assumes nothing.
+use mathlib.Core.Path.{refl, ap, _∙_}
+use Rattle.laws.proofs.Choice.{pick-by}
+use Rattle.scan.specs.declared.answer.Leave.the-variants.{Answer}
 use borrow.Author.Needs.{needs}
 use Rattle.scan.proofs.leave.leave_fail.Statement.{statement}
 use Rattle.scan.proofs.leave.leave_fail.Tie as tie
@@ -52,34 +55,34 @@ enum-told-9 : tie.Need-enum-told-9
 enum-told-9 c = search needs
 
 returns : tie.Need-returns
-returns c = rw (c .before .enum-told .given .1) (cc)
+returns c = rw (c .before .enum-told .given .1) (ap Answer (c .fail-or .ensures))
 
 returns-2 : tie.Need-returns-2
-returns-2 c = rw (c .before .before .before .before .arm .given .1) (cc)
+returns-2 c = rw (c .before .before .before .before .arm .given .1) (c .ask-unless .ensures ∙ pick-by (c .before .before .is .ensures) (ap Answer (c .before .fail-or2 .ensures)) refl)
 
 returns-3 : tie.Need-returns-3
-returns-3 c = rw (c .enum-told2 .given .1) (cc)
+returns-3 c = rw (c .enum-told2 .given .1)
 
 returns-4 : tie.Need-returns-4
-returns-4 c = rw (c .enum-told3 .given .1) (cc)
+returns-4 c = rw (c .enum-told3 .given .1)
 
 returns-5 : tie.Need-returns-5
-returns-5 c = rw (c .enum-told4 .given .1) (cc)
+returns-5 c = rw (c .enum-told4 .given .1)
 
 returns-6 : tie.Need-returns-6
-returns-6 c = rw (c .enum-told5 .given .1) (cc)
+returns-6 c = rw (c .enum-told5 .given .1)
 
 returns-7 : tie.Need-returns-7
-returns-7 c = rw (c .enum-told6 .given .1) (cc)
+returns-7 c = rw (c .enum-told6 .given .1)
 
 returns-8 : tie.Need-returns-8
-returns-8 c = rw (c .before .before .enum-told7 .given .1) (cc)
+returns-8 c = rw (c .before .before .enum-told7 .given .1) (c .ask-unless2 .ensures ∙ pick-by (c .before .is-below .ensures) refl refl)
 
 returns-9 : tie.Need-returns-9
-returns-9 c = rw (c .enum-told8 .given .1) (cc)
+returns-9 c = rw (c .enum-told8 .given .1)
 
 returns-10 : tie.Need-returns-10
-returns-10 c = rw (c .enum-told9 .given .1) (cc)
+returns-10 c = rw (c .enum-told9 .given .1)
 
 pub leave-fail-spec : {M : Type 1} → statement M
 leave-fail-spec =

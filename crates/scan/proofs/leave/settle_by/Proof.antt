@@ -1,4 +1,6 @@
 -- `scan::leave::settle_by` meets its contract. Assumes nothing.
+use mathlib.Core.Path.{refl, _∙_}
+use Rattle.laws.proofs.Choice.{pick-by}
 use borrow.Author.Needs.{needs}
 use Rattle.scan.proofs.leave.settle_by.Statement.{statement}
 use Rattle.scan.proofs.leave.settle_by.Tie as tie
@@ -70,34 +72,34 @@ enum-told-9 : tie.Need-enum-told-9
 enum-told-9 c = search needs
 
 returns : tie.Need-returns
-returns c = rw (c .enum-told .given .1) (cc)
+returns c = rw (c .enum-told .given .1)
 
 returns-2 : tie.Need-returns-2
-returns-2 c = rw (c .before .before .before .before .before .arm .given .1) (cc)
+returns-2 c = rw (c .before .before .before .before .before .arm .given .1) (c .choose .ensures ∙ pick-by (c .before .before .before .is-at-most .ensures) (c .before .before .consume-by .ensures) (c .before .fail-or .ensures))
 
 returns-3 : tie.Need-returns-3
-returns-3 c = rw (c .before .before .before .before .enum-told2 .given .1) (cc)
+returns-3 c = rw (c .before .before .before .before .enum-told2 .given .1) (c .choose2 .ensures ∙ pick-by (c .before .before .before .is-below .ensures) (c .before .before .consume-by2 .ensures) (c .before .fail-or2 .ensures))
 
 returns-4 : tie.Need-returns-4
-returns-4 c = rw (c .before .before .enum-told3 .given .1) (cc)
+returns-4 c = rw (c .before .before .enum-told3 .given .1) (c .choose3 .ensures ∙ pick-by (c .before .is-at-most2 .ensures) refl refl)
 
 returns-5 : tie.Need-returns-5
-returns-5 c = rw (c .enum-told4 .given .1) (cc)
+returns-5 c = rw (c .enum-told4 .given .1)
 
 returns-6 : tie.Need-returns-6
-returns-6 c = rw (c .enum-told5 .given .1) (cc)
+returns-6 c = rw (c .enum-told5 .given .1)
 
 returns-7 : tie.Need-returns-7
-returns-7 c = rw (c .enum-told6 .given .1) (cc)
+returns-7 c = rw (c .enum-told6 .given .1)
 
 returns-8 : tie.Need-returns-8
-returns-8 c = rw (c .before .before .enum-told7 .given .1) (cc)
+returns-8 c = rw (c .before .before .enum-told7 .given .1) (c .choose4 .ensures ∙ pick-by (c .before .is-below2 .ensures) refl refl)
 
 returns-9 : tie.Need-returns-9
-returns-9 c = rw (c .enum-told8 .given .1) (cc)
+returns-9 c = rw (c .enum-told8 .given .1)
 
 returns-10 : tie.Need-returns-10
-returns-10 c = rw (c .enum-told9 .given .1) (cc)
+returns-10 c = rw (c .enum-told9 .given .1)
 
 pub settle-by-spec : {M : Type 1} → statement M
 settle-by-spec =

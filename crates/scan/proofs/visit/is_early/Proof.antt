@@ -1,4 +1,7 @@
 -- `scan::visit::is_early` meets its contract. Assumes nothing.
+use mathlib.Core.Path.{refl, ap₂, _∙_}
+use mathlib.Core.Bool.{_&&_, _||_}
+use Rattle.laws.proofs.Choice.{pick-by}
 use borrow.Author.Needs.{needs}
 use Rattle.scan.proofs.visit.is_early.Statement.{statement}
 use Rattle.scan.proofs.visit.is_early.Tie as tie
@@ -61,34 +64,34 @@ enum-told-8 : tie.Need-enum-told-8
 enum-told-8 c = search needs
 
 returns : tie.Need-returns
-returns c = rw (c .before .before .enum-told .given .1) (cc)
+returns c = rw (c .before .before .enum-told .given .1) (c .choose .ensures ∙ pick-by (c .before .is .ensures) refl refl)
 
 returns-2 : tie.Need-returns-2
-returns-2 c = rw (c .before .before .before .before .before .before .arm .given .1) (cc)
+returns-2 c = rw (c .before .before .before .before .before .before .arm .given .1) (c .either .ensures ∙ ap₂ _||_ (c .before .is-enough .ensures) (c .before .before .both .ensures ∙ ap₂ _&&_ (c .before .before .before .before .is2 .ensures) (c .before .before .before .is3 .ensures)))
 
 returns-3 : tie.Need-returns-3
-returns-3 c = rw (c .before .enum-told2 .given .1) (cc)
+returns-3 c = rw (c .before .enum-told2 .given .1) (c .is-enough2 .ensures)
 
 returns-4 : tie.Need-returns-4
-returns-4 c = rw (c .enum-told3 .given .1) (cc)
+returns-4 c = rw (c .enum-told3 .given .1)
 
 returns-5 : tie.Need-returns-5
-returns-5 c = rw (c .before .before .arm2 .given .1) (cc)
+returns-5 c = rw (c .before .before .arm2 .given .1) (c .either2 .ensures)
 
 returns-6 : tie.Need-returns-6
-returns-6 c = rw (c .enum-told4 .given .1) (cc)
+returns-6 c = rw (c .enum-told4 .given .1)
 
 returns-7 : tie.Need-returns-7
-returns-7 c = rw (c .enum-told5 .given .1) (cc)
+returns-7 c = rw (c .enum-told5 .given .1)
 
 returns-8 : tie.Need-returns-8
-returns-8 c = rw (c .enum-told6 .given .1) (cc)
+returns-8 c = rw (c .enum-told6 .given .1)
 
 returns-9 : tie.Need-returns-9
-returns-9 c = rw (c .enum-told7 .given .1) (cc)
+returns-9 c = rw (c .enum-told7 .given .1)
 
 returns-10 : tie.Need-returns-10
-returns-10 c = rw (c .enum-told8 .given .1) (cc)
+returns-10 c = rw (c .enum-told8 .given .1)
 
 pub is-early-spec : {M : Type 1} → statement M
 is-early-spec =

@@ -1,4 +1,8 @@
 -- `scan::visit::visit_of` meets its contract. Assumes nothing.
+use mathlib.Core.Path.{refl, ap, _∙_}
+use mathlib.Core.Bool.{Bool, not}
+use Rattle.scan.specs.Scans.{one}
+use Rattle.scan.proofs.Visits.{visit-by}
 use borrow.Author.Needs.{needs}
 use Rattle.scan.proofs.visit.visit_of.Statement.{statement}
 use Rattle.scan.proofs.visit.visit_of.Tie as tie
@@ -97,34 +101,34 @@ same-visit-requires-3 : tie.Need-same-visit-requires-3
 same-visit-requires-3 c κs = search needs
 
 returns : tie.Need-returns
-returns c = rw (c .before .before .enum-told .given .1) (cc)
+returns c = rw (c .before .before .enum-told .given .1) (visit-by (c .before .rightmost-subexpression-fixup .ensures) refl (c .fail-handed .ensures) refl)
 
 returns-2 : tie.Need-returns-2
-returns-2 c = rw (c .before .before .before .before .before .arm .given .1) (cc)
+returns-2 c = rw (c .before .before .before .before .before .arm .given .1) (visit-by (c .before .before .before .rightmost-subexpression-fixup2 .ensures) refl (c .before .before .fail-handed2 .ensures) (c .one .ensures ∙ ap one (c .before .consumes .ensures)))
 
 returns-3 : tie.Need-returns-3
-returns-3 c = rw (c .before .before .before .before .enum-told2 .given .1) (cc)
+returns-3 c = rw (c .before .before .before .before .enum-told2 .given .1) (visit-by (c .before .before .before .rightmost-subexpression-fixup3 .ensures) refl (c .before .before .fail-handed3 .ensures) (c .one2 .ensures ∙ ap one (c .before .consumes2 .ensures)))
 
 returns-4 : tie.Need-returns-4
-returns-4 c = rw (c .before .before .before .enum-told3 .given .1) (cc)
+returns-4 c = rw (c .before .before .before .enum-told3 .given .1) (visit-by (c .before .before .rightmost-subexpression-fixup4 .ensures) refl refl (c .one3 .ensures ∙ ap (λ (b : Bool). one (not b)) (c .before .is-assign-or-range .ensures)))
 
 returns-5 : tie.Need-returns-5
-returns-5 c = rw (c .before .enum-told4 .given .1) (cc)
+returns-5 c = rw (c .before .enum-told4 .given .1) (visit-by (c .rightmost-subexpression-fixup5 .ensures) refl refl refl)
 
 returns-6 : tie.Need-returns-6
-returns-6 c = rw (c .before .enum-told5 .given .1) (cc)
+returns-6 c = rw (c .before .enum-told5 .given .1) (visit-by (c .rightmost-subexpression-fixup6 .ensures) refl refl refl)
 
 returns-7 : tie.Need-returns-7
-returns-7 c = rw (c .before .before .before .enum-told6 .given .1) (cc)
+returns-7 c = rw (c .before .before .before .enum-told6 .given .1) (visit-by (c .before .before .rightmost-subexpression-fixup7 .ensures) refl refl (c .one4 .ensures ∙ ap (λ (b : Bool). one (not b)) (c .before .is-below .ensures)))
 
 returns-8 : tie.Need-returns-8
-returns-8 c = rw (c .before .enum-told7 .given .1) (cc)
+returns-8 c = rw (c .before .enum-told7 .given .1) (c .same-visit .ensures)
 
 returns-9 : tie.Need-returns-9
-returns-9 c = rw (c .before .enum-told8 .given .1) (cc)
+returns-9 c = rw (c .before .enum-told8 .given .1) (c .same-visit2 .ensures)
 
 returns-10 : tie.Need-returns-10
-returns-10 c = rw (c .before .enum-told9 .given .1) (cc)
+returns-10 c = rw (c .before .enum-told9 .given .1) (c .same-visit3 .ensures)
 
 pub visit-of-spec : {M : Type 1} → statement M
 visit-of-spec =
