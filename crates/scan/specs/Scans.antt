@@ -273,14 +273,21 @@ leftmostPrecedence t x = pick (bailsOut t x) level.Unambiguous (effective x t)
 
 -- ---- the precedence and the context of an operand
 
+abbrev pub operand : Precedence → FixupContext → Subexpression
+operand precedence fixup = record { precedence = precedence; fixup = fixup }
+
 -- leftmost_subexpression_with_operator
 abbrev pub leftmostWithOperator : FixupContext → Tree → Bool → Bool → Precedence → Subexpression
-leftmostWithOperator x t begins generics next = record { precedence = leftmostPrecedence t (withOperator x begins generics next); fixup = withOperator x begins generics next }
+leftmostWithOperator x t begins generics next =
+    let y = withOperator x begins generics next in
+    operand (leftmostPrecedence t y) y
 
 -- leftmost_subexpression_with_dot
 abbrev pub leftmostWithDot : FixupContext → Tree → Subexpression
-leftmostWithDot x t = record { precedence = leftmostPrecedence t (withDot x); fixup = withDot x }
+leftmostWithDot x t = operand (leftmostPrecedence t (withDot x)) (withDot x)
 
 -- rightmost_subexpression
 abbrev pub rightmostOperand : FixupContext → Tree → Precedence → Subexpression
-rightmostOperand x t previous = record { precedence = rightmostPrecedence t (rightmost x false false previous); fixup = rightmost x false false previous }
+rightmostOperand x t previous =
+    let y = rightmost x false false previous in
+    operand (rightmostPrecedence t y) y

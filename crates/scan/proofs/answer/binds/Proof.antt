@@ -1,6 +1,6 @@
 -- `scan::answer::binds` meets its contract. Assumes nothing.
 use mathlib.Core.Path.{sym, _∙_}
-use Rattle.laws.proofs.Choice.{pick-true, pick-false}
+use Rattle.laws.proofs.Choice.{pick-true, pick-false, or-by}
 use Rattle.scan.specs.Scans.{binds}
 use borrow.Author.Needs.{needs}
 use Rattle.scan.proofs.answer.binds.Statement.{statement}
@@ -20,14 +20,14 @@ is-at-most-requires c κs = search needs
 
 returns : tie.Need-returns
 unfolding binds
-returns c = c .is-at-most .ensures ∙ sym (pick-true _ _ (cc))
+returns c = c .is-at-most .ensures ∙ sym (pick-true _ _ (or-by (c .before .before .before .before .is .ensures) (c .before .before .before .is2 .ensures) (c .before .before .either .ensures) (c .before .if1 .taken)))
 
 is-below-requires : tie.Need-is-below-requires
 is-below-requires c κs = search needs
 
 returns-2 : tie.Need-returns-2
 unfolding binds
-returns-2 c = c .is-below .ensures ∙ sym (pick-false _ _ (cc))
+returns-2 c = c .is-below .ensures ∙ sym (pick-false _ _ (or-by (c .before .before .before .before .is .ensures) (c .before .before .before .is2 .ensures) (c .before .before .either .ensures) (c .before .if1 .left)))
 
 pub binds-spec : {M : Type 1} → statement M
 binds-spec =

@@ -11,11 +11,11 @@ consumes-requires c κs = search needs
 
 returns : tie.Need-returns
 unfolding consumeBy
-returns c = sym (pick-true _ _ (cc))
+returns c = sym (pick-true _ _ (sym (c .before .consumes .ensures) ∙ c .if1 .taken))
 
 returns-2 : tie.Need-returns-2
 unfolding consumeBy
-returns-2 c = sym (pick-false _ _ (cc))
+returns-2 c = sym (pick-false _ _ (sym (c .before .consumes .ensures) ∙ c .if1 .left))
 
 pub consume-by-spec : {M : Type 1} → statement M
 consume-by-spec = tie.close (tie.spec consumes-requires returns returns-2)

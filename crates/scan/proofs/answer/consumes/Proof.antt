@@ -1,4 +1,6 @@
 -- `scan::answer::consumes` meets its contract. Assumes nothing.
+use mathlib.Core.Path.{ap₂, _∙_}
+use mathlib.Core.Bool.{_||_}
 use Rattle.scan.specs.Scans.{consumes}
 use borrow.Author.Needs.{needs}
 use Rattle.scan.proofs.answer.consumes.Statement.{statement}
@@ -15,7 +17,7 @@ either-requires c κs = search needs
 
 returns : tie.Need-returns
 unfolding consumes
-returns c = cc
+returns c = c .either .ensures ∙ ap₂ _||_ (c .before .before .binds .ensures) (c .before .is .ensures)
 
 pub consumes-spec : {M : Type 1} → statement M
 consumes-spec = tie.close (tie.spec binds-requires is-requires either-requires returns)

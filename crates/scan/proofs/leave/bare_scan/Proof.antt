@@ -1,4 +1,7 @@
 -- `scan::leave::bare_scan` meets its contract. Assumes nothing.
+use mathlib.Core.Path.{refl, ap₂, _∙_}
+use mathlib.Core.Bool.{_&&_}
+use Rattle.laws.proofs.Choice.{pick-by}
 use Rattle.scan.specs.Scans.{bareScan}
 use borrow.Author.Needs.{needs}
 use Rattle.scan.proofs.leave.bare_scan.Statement.{statement}
@@ -18,7 +21,7 @@ choose-requires c κs = search needs
 
 returns : tie.Need-returns
 unfolding bareScan
-returns c = cc
+returns c = c .choose .ensures ∙ pick-by ((c .before .both .ensures) ∙ ap₂ _&&_ (c .before .before .before .is .ensures) (c .before .before .is-below .ensures)) refl refl
 
 pub bare-scan-spec : {M : Type 1} → statement M
 bare-scan-spec =

@@ -1,4 +1,7 @@
 -- `scan::leave::closed_scan` meets its contract. Assumes nothing.
+use mathlib.Core.Path.{refl, ap₂, _∙_}
+use mathlib.Core.Bool.{_&&_, _||_}
+use Rattle.laws.proofs.Choice.{pick-by}
 use Rattle.scan.specs.Scans.{closedScan}
 use borrow.Author.Needs.{needs}
 use Rattle.scan.proofs.leave.closed_scan.Statement.{statement}
@@ -33,7 +36,12 @@ choose-requires c κs = search needs
 
 returns : tie.Need-returns
 unfolding closedScan
-returns c = cc
+returns c =
+    c .choose .ensures
+    ∙ pick-by
+    ((c .before .before .either .ensures) ∙ ap₂ _||_ ((c .before .before .before .before .before .before .both .ensures) ∙ ap₂ _&&_ (c .before .before .before .before .before .before .before .before .is-assign-or-range .ensures) (c .before .before .before .before .before .before .before .is .ensures)) ((c .before .before .before .both2 .ensures) ∙ ap₂ _&&_ (c .before .before .before .before .before .is2 .ensures) (c .before .before .before .before .is-below .ensures)))
+    refl
+    (c .before .consume-by .ensures)
 
 pub closed-scan-spec : {M : Type 1} → statement M
 closed-scan-spec =

@@ -1,4 +1,6 @@
 -- `scan::leave::fail_or` meets its contract. Assumes nothing.
+use mathlib.Core.Path.{refl, _∙_}
+use Rattle.laws.proofs.Choice.{pick-by}
 use Rattle.scan.specs.Scans.{failOr}
 use borrow.Author.Needs.{needs}
 use Rattle.scan.proofs.leave.fail_or.Statement.{statement}
@@ -12,7 +14,7 @@ choose-requires c κs = search needs
 
 returns : tie.Need-returns
 unfolding failOr
-returns c = cc
+returns c = c .choose .ensures ∙ pick-by (c .before .is .ensures) refl refl
 
 pub fail-or-spec : {M : Type 1} → statement M
 fail-or-spec = tie.close (tie.spec is-requires choose-requires returns)

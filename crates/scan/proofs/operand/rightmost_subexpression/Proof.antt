@@ -1,4 +1,8 @@
 -- `scan::operand::rightmost_subexpression` meets its contract. Assumes nothing.
+use mathlib.Core.Path.{ap, _∙_}
+use Rattle.tree.specs.Trees.{treeAt}
+use Rattle.scan.specs.Scans.{rightmostPrecedence}
+use Rattle.scan.proofs.Visits.{operand-by}
 use borrow.Author.Needs.{needs}
 use Rattle.scan.proofs.operand.rightmost_subexpression.Statement.{statement}
 use Rattle.scan.proofs.operand.rightmost_subexpression.Tie as tie
@@ -10,7 +14,7 @@ rightmost-subexpression-precedence-requires : tie.Need-rightmost-subexpression-p
 rightmost-subexpression-precedence-requires c κs = search needs
 
 returns : tie.Need-returns
-returns c = cc
+returns c = operand-by ((c .rightmost-subexpression-precedence .ensures) ∙ ap (rightmostPrecedence (treeAt (c .before .before .before .args .table .now) (c .before .before .before .args .count) (c .before .before .before .args .node))) (c .before .rightmost-subexpression-fixup .ensures)) (c .before .rightmost-subexpression-fixup .ensures)
 
 pub rightmost-subexpression-spec : {M : Type 1} → statement M
 rightmost-subexpression-spec =

@@ -1,4 +1,7 @@
 -- `scan::right::is_loose` meets its contract. Assumes nothing.
+use mathlib.Core.Path.{ap₂, _∙_}
+use mathlib.Core.Bool.{_||_}
+use Rattle.laws.proofs.Choice.{pick-by}
 use Rattle.scan.specs.Scans.{loose}
 use borrow.Author.Needs.{needs}
 use Rattle.scan.proofs.right.is_loose.Statement.{statement}
@@ -30,7 +33,12 @@ choose-requires c κs = search needs
 
 returns : tie.Need-returns
 unfolding loose
-returns c = cc
+returns c =
+    c .choose .ensures
+    ∙ pick-by
+    ((c .before .before .before .either2 .ensures) ∙ ap₂ _||_ (c .before .before .before .before .before .before .before .is .ensures) ((c .before .before .before .before .either .ensures) ∙ ap₂ _||_ (c .before .before .before .before .before .before .is2 .ensures) (c .before .before .before .before .before .is3 .ensures)))
+    (c .before .before .is-below .ensures)
+    (c .before .is-at-most .ensures)
 
 pub is-loose-spec : {M : Type 1} → statement M
 is-loose-spec =

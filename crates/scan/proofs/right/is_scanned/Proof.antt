@@ -1,4 +1,6 @@
 -- `scan::right::is_scanned` meets its contract. Assumes nothing.
+use mathlib.Core.Path.{ap, ap₂, _∙_}
+use mathlib.Core.Bool.{Bool, not, _||_}
 use Rattle.scan.specs.Scans.{scanned}
 use borrow.Author.Needs.{needs}
 use Rattle.scan.proofs.right.is_scanned.Statement.{statement}
@@ -24,7 +26,9 @@ either-requires-3 c κs = search needs
 
 returns : tie.Need-returns
 unfolding scanned
-returns c = cc
+returns c =
+    c .either3 .ensures
+    ∙ ap (λ (b : Bool). b || not (c .before .before .before .before .before .before .before .args .fixup .«next_operator_can_begin_expr»)) ((c .before .before .either2 .ensures) ∙ ap₂ _||_ (c .before .before .before .before .before .before .is .ensures) ((c .before .before .before .either .ensures) ∙ ap₂ _||_ (c .before .before .before .before .before .is2 .ensures) (c .before .before .before .before .is3 .ensures)))
 
 pub is-scanned-spec : {M : Type 1} → statement M
 is-scanned-spec =

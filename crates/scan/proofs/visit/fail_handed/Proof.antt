@@ -11,11 +11,11 @@ is-requires c κs = search needs
 
 returns : tie.Need-returns
 unfolding failHanded
-returns c = sym (pick-true _ _ (cc))
+returns c = sym (pick-true _ _ (sym (c .before .is .ensures) ∙ c .if1 .taken))
 
 returns-2 : tie.Need-returns-2
 unfolding failHanded
-returns-2 c = sym (pick-false _ _ (cc))
+returns-2 c = sym (pick-false _ _ (sym (c .before .is .ensures) ∙ c .if1 .left))
 
 pub fail-handed-spec : {M : Type 1} → statement M
 fail-handed-spec = tie.close (tie.spec is-requires returns returns-2)

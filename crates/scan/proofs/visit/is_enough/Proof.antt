@@ -1,4 +1,8 @@
 -- `scan::visit::is_enough` meets its contract. Assumes nothing.
+use mathlib.Core.Path.{refl, ap, _∙_}
+use mathlib.Core.Bool.{_&&_}
+use lib.Dec.{leb}
+use Rattle.laws.proofs.Choice.{pick-by}
 use Rattle.scan.specs.Scans.{enough}
 use borrow.Author.Needs.{needs}
 use Rattle.scan.proofs.visit.is_enough.Statement.{statement}
@@ -18,7 +22,7 @@ choose-requires c κs = search needs
 
 returns : tie.Need-returns
 unfolding enough
-returns c = cc
+returns c = c .choose .ensures ∙ pick-by (c .before .before .before .is .ensures) ((c .before .both .ensures) ∙ ap (_&&_ (leb 2 (c .before .before .before .before .args .fail-offset))) (c .before .before .either .ensures)) refl
 
 pub is-enough-spec : {M : Type 1} → statement M
 is-enough-spec =
