@@ -61,7 +61,7 @@ pub const QUESTIONS: [Question; 6] = [
 ];
 
 /// How many contexts of any content each expression is asked in.
-const ANY: usize = 4;
+const ANY: usize = 8;
 
 /// The contexts that an expression is asked in: the four of a root, and some of
 /// any content. Half of these have few flags.
