@@ -1,11 +1,19 @@
--- What the crate's functions without a context say of a tree, by the number of the question.
-use mathlib.Core.Bool.{Bool}
+-- What the crate's functions say, by the number of the question; 65535 for a number that is no question's.
+use mathlib.Core.Bool.{Bool, not}
 use mathlib.Core.List.{List, [], _∷_}
 use Prim.Native.Nat.{ℕ}
+use lib.Dec.{eqb}
 use Rattle.laws.specs.Choice.{pick, Row, row, lookup}
 use Rattle.tree.specs.Trees.{Tree}
+use Rattle.precedence.specs.declared.Precedence.{Precedence}
 use Rattle.precedence.specs.Precedences.{rankOf, precedenceOf}
 use Rattle.classify.specs.Classify.{requiresSemi, requiresComma, leadingLabel, trailingBrace, trailingPath, typeTrailingBrace}
+use Rattle.fixup.specs.declared.context.FixupContext.{FixupContext}
+use Rattle.fixup.specs.Contexts.{NONE, newStmt, newMatchArm, newCondition, withOperator, withDot, rightmost}
+use Rattle.fixup.specs.Fixup.{parenthesize, effective, scanLeft}
+use Rattle.pack.specs.Cells.{flagsOf}
+
+-- ---- precedence.rs and classify.rs: a tree without a context
 
 unfoldable pub questions : Tree → List (Row ℕ)
 questions t =
@@ -20,3 +28,47 @@ questions t =
 
 unfoldable pub answered : ℕ → Tree → ℕ
 answered question t = lookup (questions t) 65535 question
+
+-- ---- fixup.rs: a tree in a context
+
+unfoldable pub fixupQuestions : FixupContext → Tree → List (Row ℕ)
+fixupQuestions x t =
+    row (0 ∷ []) (pick (parenthesize x t) 1 0) ∷
+    row (1 ∷ []) (rankOf (effective x t)) ∷
+    row (2 ∷ []) (pick (scanLeft t x) 1 0) ∷
+    []
+
+unfoldable pub fixupAnswered : ℕ → FixupContext → Tree → ℕ
+fixupAnswered question x t = lookup (fixupQuestions x t) 65535 question
+
+-- ---- fixup.rs: the contexts themselves
+
+-- a context's cells: previous operator, next operator, flags
+unfoldable pub cells : FixupContext → List (Row ℕ)
+cells x =
+    row (0 ∷ []) (rankOf (x .«previous_operator»)) ∷
+    row (1 ∷ []) (rankOf (x .«next_operator»)) ∷
+    row (2 ∷ []) (flagsOf x) ∷
+    []
+
+unfoldable pub cellOf : ℕ → FixupContext → ℕ
+cellOf cell x = lookup (cells x) 65535 cell
+
+-- the first four by document 01's numbers; the others have the context, their two booleans in source order, and a precedence
+unfoldable pub contextQuestions : ℕ → FixupContext → Bool → Bool → Precedence → List (Row ℕ)
+contextQuestions cell x first second p =
+    row (0 ∷ []) (cellOf cell NONE) ∷
+    row (1 ∷ []) (cellOf cell newStmt) ∷
+    row (2 ∷ []) (cellOf cell newMatchArm) ∷
+    row (3 ∷ []) (cellOf cell newCondition) ∷
+    row (4 ∷ []) (cellOf cell (withOperator x first second p)) ∷
+    row (5 ∷ []) (cellOf cell (withDot x)) ∷
+    row (6 ∷ []) (cellOf cell (rightmost x first second p)) ∷
+    []
+
+unfoldable pub contextAnswered : ℕ → ℕ → FixupContext → Bool → Bool → Precedence → ℕ
+contextAnswered question cell x first second p = lookup (contextQuestions cell x first second p) 65535 question
+
+-- a boolean as a number: 0 is false, every other true
+abbrev pub isYes : ℕ → Bool
+isYes n = not (eqb n 0)

@@ -1,4 +1,8 @@
-// For callers in Rust and C: what precedence.rs and classify.rs say of a node, by the number of a question.
+// For callers in Rust and C: what precedence.rs, classify.rs and fixup.rs say, by the number of a question.
+// A number that is no question's is answered by 65535.
+pub mod in_context; // in_context.rt: what fixup.rs says of a node in a context
+pub mod contexts; // contexts.rt: the contexts that fixup.rs makes
+
 use precedence::Precedence;
 ghost use mathlib.Core.Path.{_≡_};
 ghost use Rattle.laws.specs.Choice.{pick};
@@ -11,7 +15,7 @@ fn number(yes: bool) -> u16
     if yes { 1 } else { 0 }
 }
 
-// Questions 0 to 6; every other number is answered by 65535.
+// Questions about a node alone: 0 to 6.
 #[no_mangle]
 pub extern "C" fn tezhukor_answer(question: u16, table: &[u16], count: u16, node: u16) -> u16
     ensures { λ r. ⌜ r ≡ answered question (treeAt (now (table .entry)) count node) ⌝ }

@@ -1,30 +1,42 @@
 //! Puts each question to prettyplease's own files and to Tezhukor, for every
 //! node of many accepted trees, and counts where the answers differ.
 
+mod contexts;
+mod in_context;
 mod ours;
 
-use oracle::generate::{Family, SmallTrees};
+use in_context::{Cases, QUESTIONS};
+use oracle::direct::each_expression;
+use oracle::generate::{Dice, Family, SmallTrees};
 use oracle::{accept, answers, NodeAnswers, NodeTable};
-use ours::Question;
+use ours::{Place, Question};
 use std::process::ExitCode;
 
-/// What was asked, and how often the answers differed.
+/// What was asked about a set of trees, and how often the answers differed.
 #[derive(Default)]
 struct Tally {
     trees: u64,
     asked: [u64; Question::ALL.len()],
+    asked_in_context: [u64; QUESTIONS.len()],
     different: u64,
 }
 
 impl Tally {
     /// Asks both sides about every node of a tree.
-    fn compare(&mut self, tree: &NodeTable) {
+    fn compare(&mut self, tree: &NodeTable, cases: &mut Cases, dice: &mut Dice) {
         assert_eq!(accept::refusal(tree), 0, "not an accepted tree: {tree:?}");
         self.trees += 1;
+        self.compare_alone(tree);
+        self.compare_in_context(tree, cases, dice);
+    }
+
+    /// The questions that need no context.
+    fn compare_alone(&mut self, tree: &NodeTable) {
         let theirs = answers(tree.context, tree.count, &tree.cells);
         for (node, answers) in (1..).zip(&theirs.nodes) {
+            let place = Place { table: &tree.cells, count: tree.count, node };
             for (question, theirs) in theirs_of(answers) {
-                let ours = ours::answer(question, &tree.cells, tree.count, node);
+                let ours = ours::answer(question, place);
                 self.asked[question as usize] += 1;
                 if ours != theirs {
                     self.different += 1;
@@ -34,10 +46,34 @@ impl Tally {
         }
     }
 
+    /// The questions about an expression in a context.
+    fn compare_in_context(&mut self, tree: &NodeTable, cases: &mut Cases, dice: &mut Dice) {
+        each_expression(&tree.cells, tree.count, |node, subject| {
+            let place = Place { table: &tree.cells, count: tree.count, node };
+            for case in cases.draw(dice) {
+                for (question, asked) in QUESTIONS.iter().zip(&mut self.asked_in_context) {
+                    let Some(ours) = question.ours else { continue };
+                    let (ours, theirs) = (ours(place, &case), (question.theirs)(subject, &case));
+                    *asked += 1;
+                    if ours != theirs {
+                        self.different += 1;
+                        let name = question.name;
+                        println!("{name}: {ours}, not {theirs}, {case:?}, node {node} of {tree:?}");
+                    }
+                }
+            }
+        });
+    }
+
     fn print(&self, name: &str) {
         println!("{name}: trees {}, different {}", self.trees, self.different);
         for question in Question::ALL {
             println!("  {} {}", question.name(), self.asked[question as usize]);
+        }
+        for (question, asked) in QUESTIONS.iter().zip(self.asked_in_context) {
+            if question.ours.is_some() {
+                println!("  {} {asked}", question.name);
+            }
         }
     }
 }
@@ -60,23 +96,18 @@ fn theirs_of(answers: &NodeAnswers) -> Vec<(Question, u16)> {
     }
 }
 
-/// All trees of a set, each in the context that its number gives.
-fn small(name: &str, trees: SmallTrees) -> u64 {
+/// Trees of a set, by their numbers.
+fn compare(
+    name: &str,
+    seed: u64,
+    trees: impl Iterator<Item = NodeTable>,
+    cases: &mut Cases,
+) -> u64 {
     let mut tally = Tally::default();
-    for at in 0..trees.len() {
-        tally.compare(&trees.tree((at % 4) as u16, at));
+    for (index, tree) in (0..).zip(trees) {
+        tally.compare(&tree, cases, &mut Dice::new(seed, index));
     }
     tally.print(name);
-    tally.different
-}
-
-/// Trees of a family from a seed.
-fn family(family: Family, seed: u64, trees: u64) -> u64 {
-    let mut tally = Tally::default();
-    for index in 0..trees {
-        tally.compare(&family.tree(seed, index));
-    }
-    tally.print(&format!("{}, seed {seed}", family.name()));
     tally.different
 }
 
@@ -89,13 +120,27 @@ fn main() -> ExitCode {
             return ExitCode::FAILURE;
         }
     };
-    let different = family(Family::Random, seed, 200_000)
-        + family(Family::Scans, seed, 100_000)
-        + family(Family::Spines, seed, 100_000)
-        + family(Family::Plain, seed, 100_000)
-        + small("every tree of up to 3 nodes", SmallTrees::every_label(3))
-        + small("representative trees of up to 4 nodes", SmallTrees::representative(4))
-        + small("narrow trees of up to 6 nodes", SmallTrees::narrow(6));
+    let mut different = contexts::compare();
+    let cases = &mut Cases::new();
+    for (family, trees) in [
+        (Family::Random, 200_000),
+        (Family::Scans, 100_000),
+        (Family::Spines, 100_000),
+        (Family::Plain, 100_000),
+    ] {
+        let name = format!("{}, seed {seed}", family.name());
+        different += compare(&name, seed, (0..trees).map(|at| family.tree(seed, at)), cases);
+    }
+    for (name, trees) in [
+        ("every tree of up to 3 nodes", SmallTrees::every_label(3)),
+        ("representative trees of up to 4 nodes", SmallTrees::representative(4)),
+        ("narrow trees of up to 6 nodes", SmallTrees::narrow(6)),
+    ] {
+        // Each tree in the context that its number gives.
+        let tables = (0..trees.len()).map(|at| trees.tree((at % 4) as u16, at));
+        different += compare(name, seed, tables, cases);
+    }
+    println!("contexts met {} of {}", cases.met(), 1 << 18);
     println!("different {different}");
     if different == 0 {
         ExitCode::SUCCESS

@@ -1,5 +1,7 @@
 //! Tezhukor's functions, from the static library of the crate `answers`.
 
+use oracle::direct::Context;
+
 /// The questions, by their numbers in `crates/answers/specs/Questions.antt`.
 #[derive(Copy, Clone, PartialEq, Eq, Debug)]
 pub enum Question {
@@ -37,6 +39,24 @@ impl Question {
     }
 }
 
+/// fixup.rs's questions, by their numbers there.
+pub mod fixup {
+    pub const PARENTHESIZE: u16 = 0;
+    pub const PRECEDENCE: u16 = 1;
+    pub const SCAN_LEFT: u16 = 2;
+}
+
+/// fixup.rs's contexts, by their numbers there.
+pub mod contexts {
+    pub const NONE: u16 = 0;
+    pub const NEW_STMT: u16 = 1;
+    pub const NEW_MATCH_ARM: u16 = 2;
+    pub const NEW_CONDITION: u16 = 3;
+    pub const WITH_OPERATOR: u16 = 4;
+    pub const WITH_DOT: u16 = 5;
+    pub const RIGHTMOST: u16 = 6;
+}
+
 extern "C" {
     fn tezhukor_answer(
         question: u16,
@@ -45,11 +65,62 @@ extern "C" {
         count: u16,
         node: u16,
     ) -> u16;
+
+    fn tezhukor_fixup_answer(
+        question: u16,
+        previous: u16,
+        next: u16,
+        flags: u16,
+        table: *const u16,
+        length: usize,
+        count: u16,
+        node: u16,
+    ) -> u16;
+
+    fn tezhukor_context(
+        question: u16,
+        cell: u16,
+        previous: u16,
+        next: u16,
+        flags: u16,
+        first: u16,
+        second: u16,
+        precedence: u16,
+    ) -> u16;
+}
+
+/// A node of a table.
+#[derive(Copy, Clone)]
+pub struct Place<'a> {
+    pub table: &'a [u16],
+    pub count: u16,
+    pub node: u16,
 }
 
 /// What the function says of a node.
-pub fn answer(question: Question, table: &[u16], count: u16, node: u16) -> u16 {
+pub fn answer(question: Question, place: Place) -> u16 {
+    let Place { table, count, node } = place;
     // SAFETY: the pointer and the length are those of a slice, which is only
     // read; the function demands nothing else of its arguments.
     unsafe { tezhukor_answer(question as u16, table.as_ptr(), table.len(), count, node) }
+}
+
+/// What the function says of a node in a context.
+pub fn fixup_answer(question: u16, context: Context, place: Place) -> u16 {
+    let [previous, next, flags] = context;
+    let Place { table, count, node } = place;
+    let (pointer, length) = (table.as_ptr(), table.len());
+    // SAFETY: as above.
+    unsafe { tezhukor_fixup_answer(question, previous, next, flags, pointer, length, count, node) }
+}
+
+/// The context that the function makes, from another one, two booleans in source
+/// order, and a precedence. Some take less.
+pub fn context(question: u16, from: Context, booleans: [bool; 2], precedence: u16) -> Context {
+    let [previous, next, flags] = from;
+    let [first, second] = booleans.map(u16::from);
+    // SAFETY: the arguments are numbers, and the function demands nothing of them.
+    [0, 1, 2].map(|cell| unsafe {
+        tezhukor_context(question, cell, previous, next, flags, first, second, precedence)
+    })
 }

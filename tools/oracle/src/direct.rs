@@ -3,7 +3,7 @@
 
 use crate::fixup::{ask_scan_left, ask_scan_right, FixupContext};
 use crate::precedence::Precedence;
-use crate::tree;
+use crate::tree::{self, Built};
 use syn::Expr;
 
 /// A context as previous operator (0 to 15), next operator (0 to 15) and flags
@@ -115,6 +115,17 @@ impl Subject {
         let (precedence, fixup) = fixup.rightmost_subexpression(&self.0, precedence);
         (precedence.number(), fixup.numbers())
     }
+}
+
+/// Shows each expression of an accepted tree, operands before their owners.
+pub fn each_expression(cells: &[u16], count: u16, mut see: impl FnMut(u16, &Subject)) {
+    tree::build(cells, count, 1, |node, built| {
+        if let Built::Expr(expr) = built {
+            let subject = Subject(std::mem::replace(expr, *tree::inside()));
+            see(node, &subject);
+            *expr = subject.0;
+        }
+    });
 }
 
 /// [`Subject::scan_right`] of a node.

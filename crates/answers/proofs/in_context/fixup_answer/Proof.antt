@@ -1,0 +1,58 @@
+-- `answers::in_context::fixup_answer` meets its contract. Assumes nothing.
+use mathlib.Core.Path.{sym, ap, _∙_}
+use Rattle.laws.specs.Choice.{pick}
+use Rattle.laws.proofs.Keys.{arm, rest}
+use Rattle.precedence.specs.Precedences.{rankOf}
+use Rattle.answers.specs.Questions.{fixupQuestions, fixupAnswered}
+use borrow.Author.Needs.{needs}
+use Rattle.answers.proofs.in_context.fixup_answer.Statement.{statement}
+use Rattle.answers.proofs.in_context.fixup_answer.Tie as tie
+
+parenthesize-requires : tie.Need-parenthesize-requires
+parenthesize-requires c κs = search needs
+
+number-requires : tie.Need-number-requires
+number-requires c κs = search needs
+
+precedence-requires : tie.Need-precedence-requires
+precedence-requires c κs = search needs
+
+rank-requires : tie.Need-rank-requires
+rank-requires c κs = search needs
+
+scan-left-requires : tie.Need-scan-left-requires
+scan-left-requires c κs = search needs
+
+number-requires-2 : tie.Need-number-requires-2
+number-requires-2 c κs = search needs
+
+returns : tie.Need-returns
+unfolding fixupAnswered fixupQuestions
+returns c = c .number .ensures ∙ ap (λ yes. pick yes 1 0) (c .before .parenthesize .ensures) ∙ sym (arm (fixupQuestions _ _) 65535 _ 0 tt (c .before .before .match .keys1))
+
+returns-2 : tie.Need-returns-2
+unfolding fixupAnswered fixupQuestions
+returns-2 c = c .rank .ensures ∙ ap rankOf (c .before .precedence .ensures) ∙ sym (arm (fixupQuestions _ _) 65535 _ 1 tt (c .before .before .match .keys2))
+
+returns-3 : tie.Need-returns-3
+unfolding fixupAnswered fixupQuestions
+returns-3 c = c .number2 .ensures ∙ ap (λ yes. pick yes 1 0) (c .before .scan-left .ensures) ∙ sym (arm (fixupQuestions _ _) 65535 _ 2 tt (c .before .before .match .keys3))
+
+returns-4 : tie.Need-returns-4
+unfolding fixupAnswered fixupQuestions
+returns-4 c = sym (rest (fixupQuestions _ _) 65535 _ (c .match .rest))
+
+pub fixup-answer-spec : {M : Type 1} → statement M
+fixup-answer-spec =
+    tie.close
+    (tie.spec
+    parenthesize-requires
+    number-requires
+    precedence-requires
+    rank-requires
+    scan-left-requires
+    number-requires-2
+    returns
+    returns-2
+    returns-3
+    returns-4)
