@@ -12,7 +12,7 @@ use Rattle.precedence.specs.declared.Precedence.the-variants as level
 use Rattle.precedence.specs.Precedences.{below, atMost, same, ofBinop}
 use Rattle.classify.specs.Classify.{leadingLabel}
 use Rattle.fixup.specs.declared.context.FixupContext.{FixupContext}
-use Rattle.fixup.specs.Contexts.{withOperator, withDot, rightmost}
+use Rattle.fixup.specs.Contexts.{rightmost}
 use Rattle.fixup.specs.Fixup.{parenthesize, effective, scanLeft}
 use Rattle.scan.specs.declared.Scan.{Scan}
 use Rattle.scan.specs.declared.Scan.the-variants.{Fail, Bailout, Consume}
@@ -21,7 +21,6 @@ use Rattle.scan.specs.declared.answer.Leave.the-variants.{Answer, Ask}
 use Rattle.scan.specs.declared.arm.Arm.{Arm}
 use Rattle.scan.specs.declared.arm.Arm.the-variants.{Assign, Binary, Prefix, Range, Break, Return, Closure, Let, Group, Closed}
 use Rattle.scan.specs.declared.visit.Visit.{Visit}
-use Rattle.scan.specs.declared.operand.Subexpression.{Subexpression}
 
 -- document 01: "Scan is Fail 0, Bailout 1, Consume 2."
 abbrev pub scanNumber : Scan → ℕ
@@ -270,24 +269,3 @@ bailsOut t x =
 
 unfoldable pub leftmostPrecedence : Tree → FixupContext → Precedence
 leftmostPrecedence t x = pick (bailsOut t x) level.Unambiguous (effective x t)
-
--- ---- the precedence and the context of an operand
-
-abbrev pub operand : Precedence → FixupContext → Subexpression
-operand precedence fixup = record { precedence = precedence; fixup = fixup }
-
--- leftmost_subexpression_with_operator
-abbrev pub leftmostWithOperator : FixupContext → Tree → Bool → Bool → Precedence → Subexpression
-leftmostWithOperator x t begins generics next =
-    let y = withOperator x begins generics next in
-    operand (leftmostPrecedence t y) y
-
--- leftmost_subexpression_with_dot
-abbrev pub leftmostWithDot : FixupContext → Tree → Subexpression
-leftmostWithDot x t = operand (leftmostPrecedence t (withDot x)) (withDot x)
-
--- rightmost_subexpression
-abbrev pub rightmostOperand : FixupContext → Tree → Precedence → Subexpression
-rightmostOperand x t previous =
-    let y = rightmost x false false previous in
-    operand (rightmostPrecedence t y) y

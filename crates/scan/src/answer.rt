@@ -21,12 +21,12 @@ pub fn is(precedence: Precedence, other: Precedence) -> bool
     precedence.rank() == other.rank()
 }
 
-pub fn is_assign_or_range(precedence: Precedence) -> bool
-    ensures { λ r. ⌜ r ≡ (same precedence Assign || same precedence Range) ⌝ }
+pub fn is_assign_or_range(operator: Precedence) -> bool
+    ensures { λ r. ⌜ r ≡ (same operator Assign || same operator Range) ⌝ }
 {
     either(
-        is(precedence, Precedence::Assign),
-        is(precedence, Precedence::Range),
+        is(operator, Precedence::Assign),
+        is(operator, Precedence::Range),
     )
 }
 

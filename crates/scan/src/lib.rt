@@ -4,7 +4,6 @@ mod arm; // arm.rt: the arms of scan_right, and the operand that each goes on wi
 mod visit; // visit.rt: how the operand of an arm is scanned
 mod leave; // leave.rt: what follows from the operand's scan
 pub mod right; // right.rt: scan_right and the precedences that ask it
-pub mod operand; // operand.rt: the precedence and the context of an operand, together
 
 ghost use mathlib.Core.Path.{_≡_};
 ghost use Rattle.scan.specs.Scans.{scanNumber};

@@ -1,11 +1,11 @@
--- `scan::operand::rightmost_subexpression` meets its contract. Assumes nothing.
+-- `subexpression::rightmost_subexpression` meets its contract. Assumes nothing.
 use mathlib.Core.Path.{ap, _∙_}
 use Rattle.tree.specs.Trees.{treeAt}
 use Rattle.scan.specs.Scans.{rightmostPrecedence}
-use Rattle.scan.proofs.Visits.{operand-by}
+use Rattle.subexpression.proofs.Operands.{operand-by}
 use borrow.Author.Needs.{needs}
-use Rattle.scan.proofs.operand.rightmost_subexpression.Statement.{statement}
-use Rattle.scan.proofs.operand.rightmost_subexpression.Tie as tie
+use Rattle.subexpression.proofs.rightmost_subexpression.Statement.{statement}
+use Rattle.subexpression.proofs.rightmost_subexpression.Tie as tie
 
 rightmost-subexpression-fixup-requires : tie.Need-rightmost-subexpression-fixup-requires
 rightmost-subexpression-fixup-requires c κs = search needs

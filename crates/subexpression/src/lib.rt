@@ -1,11 +1,11 @@
-// The precedence and the context of an operand, together.
-use super::right::leftmost_subexpression_precedence;
-use super::right::rightmost_subexpression_precedence;
+// prettyplease's fixup.rs: the precedence and the context of an operand, together.
 use fixup::context::FixupContext;
 use precedence::Precedence;
+use scan::right::leftmost_subexpression_precedence;
+use scan::right::rightmost_subexpression_precedence;
 ghost use mathlib.Core.Path.{_≡_};
 ghost use Rattle.tree.specs.Trees.{treeAt};
-ghost use Rattle.scan.specs.Scans.{leftmostWithOperator, leftmostWithDot, rightmostOperand};
+ghost use Rattle.subexpression.specs.Subexpressions.{leftmostWithOperator, leftmostWithDot, rightmostOperand};
 
 pub struct Subexpression {
     pub precedence: Precedence,
@@ -44,10 +44,10 @@ pub fn leftmost_subexpression_with_dot(
 ) -> Subexpression
     ensures { λ r. ⌜ r ≡ leftmostWithDot fixup (treeAt (now (table .entry)) count node) ⌝ }
 {
-    let left = fixup.leftmost_fixup_with_dot();
+    let dotted = fixup.leftmost_fixup_with_dot();
     Subexpression {
-        precedence: leftmost_subexpression_precedence(left, table, count, node),
-        fixup: left,
+        precedence: leftmost_subexpression_precedence(dotted, table, count, node),
+        fixup: dotted,
     }
 }
 
