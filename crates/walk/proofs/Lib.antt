@@ -1,0 +1,3 @@
+pub mod Decisions
+pub mod Placed
+pub mod Replies

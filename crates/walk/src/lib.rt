@@ -1,0 +1,120 @@
+// The rows of all nodes of an accepted tree.
+mod decision; // decision.rt: what is decided of a node
+
+use decision::Row;
+use decision::decision_at;
+use expr::Handed;
+use expr::Side;
+use expr::first_operand;
+use expr::second_operand;
+use fixup::context::FixupContext;
+use tree::refusal::check;
+use tree::table::operand_number;
+ghost use mathlib.Core.Path.{_≡_};
+ghost use Prim.Native.Nat.{_*_, _≤_};
+ghost use lib.ListN.{length, replicate};
+ghost use Rattle.laws.specs.Lists.{over};
+ghost use Rattle.tree.specs.Trees.{treeAt};
+ghost use Rattle.walk.specs.Rows.{rowsOf};
+ghost use Rattle.walk.specs.Walk.{contextNumbered, rootHanded, stored, placed, decided, rowsAfter, scratchAfter};
+
+// A row into the five cells of its node.
+fn store(rows: &mut [u16], node: u16, row: Row)
+    requires { ⌜ (1 ≤ node) × (5 * node ≤ length (now rows)) ⌝ }
+    ensures { λ _. ⌜ now (rows .exit) ≡ stored node row (now (rows .entry)) ⌝ }
+{
+    let at = 5 * ((node - 1) as usize);
+    rows[at] = row.pair;
+    rows[at + 1] = row.precedence;
+    rows[at + 2] = row.previous;
+    rows[at + 3] = row.next;
+    rows[at + 4] = row.flags;
+}
+
+// The rows of a node and of all below it. Number 0 stands for an operand that is absent.
+fn walk_from(handed: Handed, table: &[u16], count: u16, node: u16, rows: &mut [u16])
+    requires { ⌜ 5 * count ≤ length (now rows) ⌝ }
+    ensures { λ _. ⌜ now (rows .exit) ≡ placed (now (table .entry)) count node (rowsOf handed (treeAt (now (table .entry)) count node)) (now (rows .entry)) ⌝ }
+{
+    if node == 0 {
+        return;
+    }
+    if count < node {
+        return;
+    }
+    let decision = decision_at(handed, table, count, node);
+    let row = decision.row;
+    let own = decision.own;
+    store(rows, node, row);
+    walk_from(
+        first_operand(own, table, count, node),
+        table,
+        count,
+        operand_number(table, count, node, 3),
+        rows,
+    );
+    walk_from(
+        second_operand(own, table, count, node),
+        table,
+        count,
+        operand_number(table, count, node, 4),
+        rows,
+    );
+}
+
+// Document 01's contexts; NONE for every other number.
+fn context_numbered(context: u16) -> FixupContext
+    ensures { λ r. ⌜ r ≡ contextNumbered context ⌝ }
+{
+    match context {
+        1 => FixupContext::new_stmt(),
+        2 => FixupContext::new_match_arm(),
+        3 => FixupContext::new_condition(),
+        _ => FixupContext::none(),
+    }
+}
+
+// The root has no owner: no test, and neither side.
+fn root_handed(context: u16) -> Handed
+    ensures { λ r. ⌜ r ≡ rootHanded context ⌝ }
+{
+    Handed {
+        fixup: context_numbered(context),
+        side: Side::Neither,
+        below: 0,
+    }
+}
+
+// Zeros over the start of a buffer.
+fn clear(buffer: &mut [u16], cells: usize)
+    requires { ⌜ cells ≤ length (now buffer) ⌝ }
+    ensures { λ _. ⌜ now (buffer .exit) ≡ over (replicate cells 0) (now (buffer .entry)) ⌝ }
+{
+    let mut done = 0;
+    while done < cells {
+        buffer[done] = 0;
+        done += 1;
+    }
+}
+
+// The rows of all nodes of a table into `rows`: 0, or the first refusal that applies.
+pub fn decide(context: u16, count: u16, table: &[u16], rows: &mut [u16], scratch: &mut [u16]) -> u16
+    ensures reply { λ r. ⌜ r ≡ decided context count (now (table .entry)) (length (now (rows .entry))) (length (now (scratch .entry))) ⌝ }
+    ensures rows { λ r. ⌜ now (rows .exit) ≡ rowsAfter context count (now (table .entry)) (now (rows .entry)) (now (scratch .entry)) ⌝ }
+    ensures scratch { λ r. ⌜ now (scratch .exit) ≡ scratchAfter context count (now (table .entry)) (now (rows .entry)) (now (scratch .entry)) ⌝ }
+{
+    let refused = check(context, count, table);
+    if refused != 0 {
+        return refused;
+    }
+    let nodes = count as usize;
+    if rows.len() < 5 * nodes {
+        return 12;
+    }
+    if scratch.len() < 3 * nodes {
+        return 12;
+    }
+    walk_from(root_handed(context), table, count, 1, rows);
+    clear(scratch, 3 * nodes);
+    0
+}
