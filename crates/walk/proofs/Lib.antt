@@ -1,3 +1,4 @@
 pub mod Decisions
 pub mod Placed
 pub mod Replies
+pub mod Promises
