@@ -58,7 +58,7 @@ module _ (cells : List ℕ) (count i : ℕ) (h : Handed) (into : List ℕ) where
   unfolding placed rowsOf
   placed-none e = rw e
 
-  placed-node : 1 ≤ i → i ≤ count → placed cells count i (rowsOf h (treeAt cells count i)) into
+  pub placed-node : 1 ≤ i → i ≤ count → placed cells count i (rowsOf h (treeAt cells count i)) into
       ≡ placed cells count (operandAt cells count i 4) (rowsOf (handsSecond (ownContext h (treeAt cells count i)) (treeAt cells count i)) (treeAt cells count (operandAt cells count i 4)))
       (placed cells count (operandAt cells count i 3) (rowsOf (handsFirst (ownContext h (treeAt cells count i)) (treeAt cells count i)) (treeAt cells count (operandAt cells count i 3)))
       (stored i (rowOf h (treeAt cells count i)) into))

@@ -2,3 +2,4 @@ pub mod Rows
 pub mod Walk
 pub mod Steps
 pub mod Cases
+pub mod Paths

@@ -1,0 +1,54 @@
+-- What the rows of a subtree depend on. Assumes nothing.
+use mathlib.Core.Path.{_≡_, refl}
+use mathlib.Core.Bool.{Bool, true, false}
+use Rattle.laws.specs.Choice.{pick, lookup}
+use Rattle.laws.proofs.Choice.{pick-true}
+use Rattle.tree.specs.Forms.{ExprIndex, ExprParen, Link}
+use Rattle.tree.specs.Trees.{Label, Tree, node}
+use Rattle.tree.specs.Walks.{atRoot}
+use Rattle.fixup.specs.declared.context.FixupContext.{FixupContext}
+use Rattle.fixup.specs.Contexts.{NONE}
+use Rattle.expr.specs.declared.Handed.{Handed}
+use Rattle.expr.specs.Handed.{neither}
+use Rattle.expr.specs.Expr.{firstRows, handsFirst, secondRows, handsSecond}
+use Rattle.walk.specs.Rows.{isExpression, outerPair, rowOf, ownContext, present, rowsOf}
+
+module _ (h : Handed) (l : Label) (a b : Tree) where
+  abbrev here : Tree
+  here = node l a b
+
+  index-handed : (x : FixupContext) → l .form ≡ ExprIndex → handsSecond x here ≡ neither NONE
+  unfolding handsSecond secondRows atRoot lookup pick
+  index-handed x e = rw e
+
+  item-handed : (x : FixupContext) → l .form ≡ Link → handsFirst x here ≡ neither NONE
+  unfolding handsFirst firstRows atRoot lookup pick
+  item-handed x e = rw e
+
+  paren-handed : (x : FixupContext) → l .form ≡ ExprParen → handsFirst x here ≡ neither NONE
+  unfolding handsFirst firstRows atRoot lookup pick
+  paren-handed x e = rw e
+
+  -- the rows of an index depend on the index alone
+  pub index-local : l .form ≡ ExprIndex → rowsOf h here ≡ present (rowOf h here) (rowsOf (handsFirst (ownContext h here) here) a) (rowsOf (neither NONE) b)
+  unfolding rowsOf
+  index-local e = rw (index-handed (ownContext h here) e)
+
+  -- the rows of an item of a list depend on the item alone
+  pub item-local : l .form ≡ Link → rowsOf h here ≡ present (rowOf h here) (rowsOf (neither NONE) a) (rowsOf (handsSecond (ownContext h here) here) b)
+  unfolding rowsOf
+  item-local e = rw (item-handed (ownContext h here) e)
+
+  -- the rows of what stands in parentheses of the tree's own depend on it alone
+  pub paren-local : l .form ≡ ExprParen → rowsOf h here ≡ present (rowOf h here) (rowsOf (neither NONE) a) (rowsOf (handsSecond (ownContext h here) here) b)
+  unfolding rowsOf
+  paren-local e = rw (paren-handed (ownContext h here) e)
+
+  own-reset : isExpression here ≡ true → outerPair h here ≡ true → ownContext h here ≡ NONE
+  unfolding ownContext
+  own-reset e o = rw (pick-true (pick (outerPair h here) NONE (h .fixup)) NONE e) (pick-true NONE (h .fixup) o)
+
+  -- the rows inside an outer pair depend on the expression alone
+  pub outer-local : isExpression here ≡ true → outerPair h here ≡ true → rowsOf h here ≡ present (rowOf h here) (rowsOf (handsFirst NONE here) a) (rowsOf (handsSecond NONE here) b)
+  unfolding rowsOf
+  outer-local e o = rw (own-reset e o)

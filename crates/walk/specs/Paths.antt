@@ -1,0 +1,40 @@
+-- Nodes by the path from the root, for statements that do not depend on how a tree's nodes are numbered.
+use mathlib.Core.List.{List, [], _∷_}
+use Prim.Native.Nat.{ℕ, _+_, _*_, _-_}
+use lib.ListN.{getD}
+use Rattle.tree.specs.Trees.{Tree, none, node, operandAt}
+use Rattle.expr.specs.declared.Handed.{Handed}
+use Rattle.expr.specs.Expr.{handsFirst, handsSecond}
+use Rattle.walk.specs.declared.decision.Row.{Row}
+use Rattle.walk.specs.Rows.{ownContext}
+
+-- from an owner to its first or its second operand
+pub data Step : Type 0 where
+  first : Step
+  second : Step
+
+-- the number of the node at a path below node i, 0 where there is none
+abbrev pub numberAt : List ℕ → ℕ → ℕ → List Step → ℕ
+numberAt cells count i [] = i
+numberAt cells count i (first ∷ p) = numberAt cells count (operandAt cells count i 3) p
+numberAt cells count i (second ∷ p) = numberAt cells count (operandAt cells count i 4) p
+
+-- the tree at a path
+abbrev pub treeBy : Tree → List Step → Tree
+treeBy t [] = t
+treeBy none (s ∷ p) = none
+treeBy (node l a b) (first ∷ p) = treeBy a p
+treeBy (node l a b) (second ∷ p) = treeBy b p
+
+-- what the node at a path gets, where the root gets h
+abbrev pub handedBy : Handed → Tree → List Step → Handed
+handedBy h t [] = h
+handedBy h none (s ∷ p) = h
+handedBy h (node l a b) (first ∷ p) = handedBy (handsFirst (ownContext h (node l a b)) (node l a b)) a p
+handedBy h (node l a b) (second ∷ p) = handedBy (handsSecond (ownContext h (node l a b)) (node l a b)) b p
+
+-- the row in the five cells of node j
+abbrev pub rowIn : List ℕ → ℕ → Row
+rowIn rows j =
+    let at = 5 * (j - 1) in
+    record { pair = getD rows at 0; precedence = getD rows (at + 1) 0; previous = getD rows (at + 2) 0; next = getD rows (at + 3) 0; flags = getD rows (at + 4) 0 }
