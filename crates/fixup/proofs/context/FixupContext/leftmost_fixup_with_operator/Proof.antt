@@ -10,7 +10,7 @@ either-requires-2 : tie.Need-either-requires-2
 either-requires-2 c κs = search needs
 
 returns : tie.Need-returns
-returns c = cc
+returns c = rw (c .before .either .ensures, c .either2 .ensures)
 
 pub leftmost-fixup-with-operator-spec : {M : Type 1} → statement M
 leftmost-fixup-with-operator-spec = tie.close (tie.spec either-requires either-requires-2 returns)

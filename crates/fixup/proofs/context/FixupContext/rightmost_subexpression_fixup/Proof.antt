@@ -10,7 +10,7 @@ both-requires : tie.Need-both-requires
 both-requires c κs = search needs
 
 returns : tie.Need-returns
-returns c = cc
+returns c = rw (c .before .and-not .ensures, c .both .ensures)
 
 pub rightmost-subexpression-fixup-spec : {M : Type 1} → statement M
 rightmost-subexpression-fixup-spec = tie.close (tie.spec and-not-requires both-requires returns)
