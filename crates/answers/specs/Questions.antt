@@ -11,6 +11,7 @@ use Rattle.classify.specs.Classify.{requiresSemi, requiresComma, leadingLabel, 
 use Rattle.fixup.specs.declared.context.FixupContext.{FixupContext}
 use Rattle.fixup.specs.Contexts.{NONE, newStmt, newMatchArm, newCondition, withOperator, withDot, rightmost}
 use Rattle.fixup.specs.Fixup.{parenthesize, effective, scanLeft}
+use Rattle.scan.specs.Scans.{scanNumber, scanRight, leftmostPrecedence, rightmostPrecedence}
 use Rattle.pack.specs.Cells.{flagsOf}
 
 -- ---- precedence.rs and classify.rs: a tree without a context
@@ -36,10 +37,16 @@ fixupQuestions x t =
     row (0 ∷ []) (pick (parenthesize x t) 1 0) ∷
     row (1 ∷ []) (rankOf (effective x t)) ∷
     row (2 ∷ []) (pick (scanLeft t x) 1 0) ∷
+    row (3 ∷ []) (rankOf (leftmostPrecedence t x)) ∷
+    row (4 ∷ []) (rankOf (rightmostPrecedence t x)) ∷
     []
 
 unfoldable pub fixupAnswered : ℕ → FixupContext → Tree → ℕ
 fixupAnswered question x t = lookup (fixupQuestions x t) 65535 question
+
+-- scan_right has a precedence and two offsets besides
+unfoldable pub scanAnswered : FixupContext → Precedence → ℕ → ℕ → Tree → ℕ
+scanAnswered x p fail bailout t = scanNumber (scanRight t x p fail bailout)
 
 -- ---- fixup.rs: the contexts themselves
 
