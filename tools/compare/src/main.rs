@@ -52,8 +52,8 @@ impl Tally {
             let place = Place { table: &tree.cells, count: tree.count, node };
             for case in cases.draw(dice) {
                 for (question, asked) in QUESTIONS.iter().zip(&mut self.asked_in_context) {
-                    let Some(ours) = question.ours else { continue };
-                    let (ours, theirs) = (ours(place, &case), (question.theirs)(subject, &case));
+                    let ours = (question.ours)(place, &case);
+                    let theirs = (question.theirs)(subject, &case);
                     *asked += 1;
                     if ours != theirs {
                         self.different += 1;
@@ -71,9 +71,7 @@ impl Tally {
             println!("  {} {}", question.name(), self.asked[question as usize]);
         }
         for (question, asked) in QUESTIONS.iter().zip(self.asked_in_context) {
-            if question.ours.is_some() {
-                println!("  {} {asked}", question.name);
-            }
+            println!("  {} {asked}", question.name);
         }
     }
 }
@@ -141,6 +139,7 @@ fn main() -> ExitCode {
         different += compare(name, seed, tables, cases);
     }
     println!("contexts met {} of {}", cases.met(), 1 << 18);
+    println!("scan_right's precedences and offsets met {} of 192", cases.arguments_met());
     println!("different {different}");
     if different == 0 {
         ExitCode::SUCCESS

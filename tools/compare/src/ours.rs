@@ -44,6 +44,8 @@ pub mod fixup {
     pub const PARENTHESIZE: u16 = 0;
     pub const PRECEDENCE: u16 = 1;
     pub const SCAN_LEFT: u16 = 2;
+    pub const LEFTMOST_PRECEDENCE: u16 = 3;
+    pub const RIGHTMOST_PRECEDENCE: u16 = 4;
 }
 
 /// fixup.rs's contexts, by their numbers there.
@@ -71,6 +73,19 @@ extern "C" {
         previous: u16,
         next: u16,
         flags: u16,
+        table: *const u16,
+        length: usize,
+        count: u16,
+        node: u16,
+    ) -> u16;
+
+    fn tezhukor_scan_right(
+        previous: u16,
+        next: u16,
+        flags: u16,
+        precedence: u16,
+        fail_offset: u16,
+        bailout_offset: u16,
         table: *const u16,
         length: usize,
         count: u16,
@@ -112,6 +127,33 @@ pub fn fixup_answer(question: u16, context: Context, place: Place) -> u16 {
     let (pointer, length) = (table.as_ptr(), table.len());
     // SAFETY: as above.
     unsafe { tezhukor_fixup_answer(question, previous, next, flags, pointer, length, count, node) }
+}
+
+/// scan_right of a node: 0 Fail, 1 Bailout, 2 Consume.
+pub fn scan_right(
+    context: Context,
+    precedence: u16,
+    fail_offset: u16,
+    bailout_offset: u16,
+    place: Place,
+) -> u16 {
+    let [previous, next, flags] = context;
+    let Place { table, count, node } = place;
+    // SAFETY: as above.
+    unsafe {
+        tezhukor_scan_right(
+            previous,
+            next,
+            flags,
+            precedence,
+            fail_offset,
+            bailout_offset,
+            table.as_ptr(),
+            table.len(),
+            count,
+            node,
+        )
+    }
 }
 
 /// The context that the function makes, from another one, two booleans in source
