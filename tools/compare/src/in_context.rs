@@ -109,7 +109,7 @@ impl Cases {
 }
 
 /// A context of any content, reachable or not.
-fn any(few_flags: bool, dice: &mut Dice) -> Context {
+pub fn any(few_flags: bool, dice: &mut Dice) -> Context {
     let mut number = || dice.below(1 << 16) as u16;
     let (operators, mut flags) = (number(), number());
     if few_flags {
