@@ -24,7 +24,7 @@ pub fn rows(root: Context, tree: &NodeTable) -> Vec<Row> {
     let none = ours::context(contexts::NONE, [0; 3], [false; 2], 0);
     let at_root = Handed { context: root, side: ours::side::NEITHER, below: 0 };
     let mut handed = vec![at_root; usize::from(tree.count)];
-    // An owner's number is smaller than those of its operands.
+    // An owner has a smaller number than its operands, so it comes first.
     let row = |node| {
         let place = Place { table: &tree.cells, count: tree.count, node };
         let from_owner = handed[usize::from(node) - 1];
@@ -32,9 +32,7 @@ pub fn rows(root: Context, tree: &NodeTable) -> Vec<Row> {
             Class::Expression => row(from_owner, place),
             Class::Type | Class::Link => Row::default(),
         };
-        // A list's links hand on to its items; an outer pair resets the context.
-        let is_link = table::class(&tree.cells, node) == Class::Link;
-        let own = if is_link || row.pair & 1 == 1 { none } else { from_owner.context };
+        let own = if row.pair & 1 == 1 { none } else { from_owner.context };
         for (question, operand) in (0..).zip(table::node(&tree.cells, node).operands) {
             if operand != 0 {
                 handed[usize::from(operand) - 1] = ours::handed(question, own, place);
