@@ -11,6 +11,11 @@ use Rattle.classify.specs.Classify.{requiresSemi, requiresComma, leadingLabel, 
 use Rattle.fixup.specs.declared.context.FixupContext.{FixupContext}
 use Rattle.fixup.specs.Contexts.{NONE, newStmt, newMatchArm, newCondition, withOperator, withDot, rightmost}
 use Rattle.fixup.specs.Fixup.{parenthesize, effective, scanLeft}
+use Rattle.scan.specs.Scans.{scanNumber, scanRight, leftmostPrecedence, rightmostPrecedence}
+use Rattle.expr.specs.declared.Side.{Side}
+use Rattle.expr.specs.declared.Side.the-variants.{Left, Right, Neither}
+use Rattle.expr.specs.declared.Handed.{Handed}
+use Rattle.expr.specs.Expr.{handsFirst, handsSecond}
 use Rattle.pack.specs.Cells.{flagsOf}
 
 -- ---- precedence.rs and classify.rs: a tree without a context
@@ -36,10 +41,16 @@ fixupQuestions x t =
     row (0 ∷ []) (pick (parenthesize x t) 1 0) ∷
     row (1 ∷ []) (rankOf (effective x t)) ∷
     row (2 ∷ []) (pick (scanLeft t x) 1 0) ∷
+    row (3 ∷ []) (rankOf (leftmostPrecedence t x)) ∷
+    row (4 ∷ []) (rankOf (rightmostPrecedence t x)) ∷
     []
 
 unfoldable pub fixupAnswered : ℕ → FixupContext → Tree → ℕ
 fixupAnswered question x t = lookup (fixupQuestions x t) 65535 question
+
+-- scan_right has a precedence and two offsets besides
+unfoldable pub scanAnswered : FixupContext → Precedence → ℕ → ℕ → Tree → ℕ
+scanAnswered x p fail bailout t = scanNumber (scanRight t x p fail bailout)
 
 -- ---- fixup.rs: the contexts themselves
 
@@ -72,3 +83,30 @@ contextAnswered question cell x first second p = lookup (contextQuestions cell x
 -- a boolean as a number: 0 is false, every other true
 abbrev pub isYes : ℕ → Bool
 isYes n = not (eqb n 0)
+
+-- ---- expr.rs: what an operand gets from its owner
+
+abbrev pub sideNumber : Side → ℕ
+sideNumber Left = 0
+sideNumber Right = 1
+sideNumber Neither = 2
+
+-- cells 0 to 2 are those of the context; then the side, and the number of the grouping test
+unfoldable pub handedCells : Handed → List (Row ℕ)
+handedCells h =
+    row (3 ∷ []) (sideNumber (h .side)) ∷
+    row (4 ∷ []) (h .below) ∷
+    []
+
+unfoldable pub handedCell : ℕ → Handed → ℕ
+handedCell cell h = lookup (handedCells h) (cellOf cell (h .fixup)) cell
+
+-- the operand at the first place, and the one at the second
+unfoldable pub handedQuestions : ℕ → FixupContext → Tree → List (Row ℕ)
+handedQuestions cell x t =
+    row (0 ∷ []) (handedCell cell (handsFirst x t)) ∷
+    row (1 ∷ []) (handedCell cell (handsSecond x t)) ∷
+    []
+
+unfoldable pub handedAnswered : ℕ → ℕ → FixupContext → Tree → ℕ
+handedAnswered question cell x t = lookup (handedQuestions cell x t) 65535 question

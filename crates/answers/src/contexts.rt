@@ -1,26 +1,12 @@
 // The contexts that fixup.rs makes, a cell at a time.
+use super::cells::cell_of;
 use fixup::context::FixupContext;
 use pack::context_of;
-use pack::flags;
 use pack::precedence_of;
 use precedence::Precedence;
 ghost use mathlib.Core.Path.{_≡_};
 ghost use Rattle.pack.specs.Cells.{ofRank, contextOf};
-ghost use Rattle.answers.specs.Questions.{isYes, cellOf, contextAnswered};
-
-// One of the three cells of a context.
-fn cell_of(cell: u16, fixup: FixupContext) -> u16
-    ensures { λ r. ⌜ r ≡ cellOf cell fixup ⌝ }
-{
-    let previous = fixup.previous_operator;
-    let next = fixup.next_operator;
-    match cell {
-        0 => previous.rank(),
-        1 => next.rank(),
-        2 => flags(fixup),
-        _ => 65535,
-    }
-}
+ghost use Rattle.answers.specs.Questions.{isYes, contextAnswered};
 
 // A cell of a context that fixup.rs makes: questions 0 to 6.
 fn context_answer(

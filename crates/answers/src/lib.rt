@@ -1,7 +1,9 @@
-// For callers in Rust and C: what precedence.rs, classify.rs and fixup.rs say, by the number of a question.
+// For callers in Rust and C: what precedence.rs, classify.rs, fixup.rs and expr.rs say, by the number of a question.
 // A number that is no question's is answered by 65535.
+mod cells; // cells.rt: contexts, and what an operand gets, a cell at a time
 pub mod in_context; // in_context.rt: what fixup.rs says of a node in a context
 pub mod contexts; // contexts.rt: the contexts that fixup.rs makes
+pub mod handed; // handed.rt: what expr.rs hands down
 
 use precedence::Precedence;
 ghost use mathlib.Core.Path.{_≡_};

@@ -18,27 +18,24 @@ pub struct Question {
     /// Its name in the crate.
     pub name: &'static str,
     pub theirs: fn(&Subject, &Case) -> u16,
-    /// None for a function that Tezhukor does not have yet. It is not asked.
-    pub ours: Option<fn(Place, &Case) -> u16>,
+    pub ours: fn(Place, &Case) -> u16,
 }
 
 pub const QUESTIONS: [Question; 6] = [
     Question {
         name: "parenthesize",
         theirs: |subject, case| subject.parenthesize(case.context).into(),
-        ours: Some(|place, case| {
-            ours::fixup_answer(ours::fixup::PARENTHESIZE, case.context, place)
-        }),
+        ours: |place, case| ours::fixup_answer(ours::fixup::PARENTHESIZE, case.context, place),
     },
     Question {
         name: "FixupContext::precedence",
         theirs: |subject, case| subject.precedence(case.context),
-        ours: Some(|place, case| ours::fixup_answer(ours::fixup::PRECEDENCE, case.context, place)),
+        ours: |place, case| ours::fixup_answer(ours::fixup::PRECEDENCE, case.context, place),
     },
     Question {
         name: "scan_left",
         theirs: |subject, case| subject.scan_left(case.context).into(),
-        ours: Some(|place, case| ours::fixup_answer(ours::fixup::SCAN_LEFT, case.context, place)),
+        ours: |place, case| ours::fixup_answer(ours::fixup::SCAN_LEFT, case.context, place),
     },
     Question {
         name: "scan_right",
@@ -46,17 +43,24 @@ pub const QUESTIONS: [Question; 6] = [
             let Case { context, precedence, fail_offset, bailout_offset } = *case;
             subject.scan_right(context, precedence, fail_offset, bailout_offset).into()
         },
-        ours: None,
+        ours: |place, case| {
+            let Case { context, precedence, fail_offset, bailout_offset } = *case;
+            ours::scan_right(context, precedence, fail_offset.into(), bailout_offset.into(), place)
+        },
     },
     Question {
         name: "leftmost_subexpression_precedence",
         theirs: |subject, case| subject.leftmost_precedence(case.context),
-        ours: None,
+        ours: |place, case| {
+            ours::fixup_answer(ours::fixup::LEFTMOST_PRECEDENCE, case.context, place)
+        },
     },
     Question {
         name: "rightmost_subexpression_precedence",
         theirs: |subject, case| subject.rightmost_precedence(case.context),
-        ours: None,
+        ours: |place, case| {
+            ours::fixup_answer(ours::fixup::RIGHTMOST_PRECEDENCE, case.context, place)
+        },
     },
 ];
 
@@ -68,11 +72,14 @@ const ANY: usize = 8;
 pub struct Cases {
     roots: [Context; 4],
     met: Vec<bool>,
+    /// scan_right's precedences and offsets.
+    arguments_met: [[[bool; 3]; 4]; 16],
 }
 
 impl Cases {
     pub fn new() -> Self {
-        Cases { roots: [0, 1, 2, 3].map(context_of_root), met: vec![false; 1 << 18] }
+        let roots = [0, 1, 2, 3].map(context_of_root);
+        Cases { roots, met: vec![false; 1 << 18], arguments_met: Default::default() }
     }
 
     /// The cases for one expression.
@@ -83,6 +90,8 @@ impl Cases {
             self.met[previous << 14 | next << 10 | flags] = true;
             let precedence = dice.below(16) as u16;
             let (fail_offset, bailout_offset) = (dice.below(4) as u8, dice.below(3) as u8);
+            self.arguments_met[usize::from(precedence)][usize::from(fail_offset)]
+                [usize::from(bailout_offset)] = true;
             Case { context, precedence, fail_offset, bailout_offset }
         })
     }
@@ -91,10 +100,16 @@ impl Cases {
     pub fn met(&self) -> usize {
         self.met.iter().filter(|&&met| met).count()
     }
+
+    /// How many of the 16 x 4 x 3 precedences, fail offsets and bailout offsets
+    /// have been drawn so far.
+    pub fn arguments_met(&self) -> usize {
+        self.arguments_met.iter().flatten().flatten().filter(|&&met| met).count()
+    }
 }
 
 /// A context of any content, reachable or not.
-fn any(few_flags: bool, dice: &mut Dice) -> Context {
+pub fn any(few_flags: bool, dice: &mut Dice) -> Context {
     let mut number = || dice.below(1 << 16) as u16;
     let (operators, mut flags) = (number(), number());
     if few_flags {

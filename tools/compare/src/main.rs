@@ -4,11 +4,13 @@
 mod contexts;
 mod in_context;
 mod ours;
+mod rows;
 
-use in_context::{Cases, QUESTIONS};
-use oracle::direct::each_expression;
+use in_context::{any, Cases, QUESTIONS};
+use oracle::direct::{context_of_root, each_expression, Context};
+use oracle::forms::Class;
 use oracle::generate::{Dice, Family, SmallTrees};
-use oracle::{accept, answers, NodeAnswers, NodeTable};
+use oracle::{accept, answers, table, NodeAnswers, NodeTable};
 use ours::{Place, Question};
 use std::process::ExitCode;
 
@@ -18,16 +20,39 @@ struct Tally {
     trees: u64,
     asked: [u64; Question::ALL.len()],
     asked_in_context: [u64; QUESTIONS.len()],
+    rows: u64,
     different: u64,
 }
 
 impl Tally {
     /// Asks both sides about every node of a tree.
-    fn compare(&mut self, tree: &NodeTable, cases: &mut Cases, dice: &mut Dice) {
+    fn compare(&mut self, tree: &NodeTable, roots: Roots, cases: &mut Cases, dice: &mut Dice) {
         assert_eq!(accept::refusal(tree), 0, "not an accepted tree: {tree:?}");
         self.trees += 1;
         self.compare_alone(tree);
         self.compare_in_context(tree, cases, dice);
+        let mut contexts = match roots {
+            Roots::Own => vec![context_of_root(tree.context)],
+            Roots::All => [0, 1, 2, 3].map(context_of_root).to_vec(),
+        };
+        contexts.push(any(self.trees % 2 == 0, dice));
+        self.compare_rows(tree, &contexts);
+    }
+
+    /// The rows below a root in these contexts.
+    fn compare_rows(&mut self, tree: &NodeTable, contexts: &[Context]) {
+        let theirs = oracle::rows(contexts, tree.count, &tree.cells);
+        for (&context, theirs) in contexts.iter().zip(theirs) {
+            for ((node, ours), theirs) in (1..).zip(rows::rows(context, tree)).zip(theirs) {
+                if table::class(&tree.cells, node) == Class::Expression {
+                    self.rows += 1;
+                }
+                if ours != theirs {
+                    self.different += 1;
+                    println!("{ours:?}, not {theirs:?}, root {context:?}, node {node} of {tree:?}");
+                }
+            }
+        }
     }
 
     /// The questions that need no context.
@@ -52,8 +77,8 @@ impl Tally {
             let place = Place { table: &tree.cells, count: tree.count, node };
             for case in cases.draw(dice) {
                 for (question, asked) in QUESTIONS.iter().zip(&mut self.asked_in_context) {
-                    let Some(ours) = question.ours else { continue };
-                    let (ours, theirs) = (ours(place, &case), (question.theirs)(subject, &case));
+                    let ours = (question.ours)(place, &case);
+                    let theirs = (question.theirs)(subject, &case);
                     *asked += 1;
                     if ours != theirs {
                         self.different += 1;
@@ -71,10 +96,9 @@ impl Tally {
             println!("  {} {}", question.name(), self.asked[question as usize]);
         }
         for (question, asked) in QUESTIONS.iter().zip(self.asked_in_context) {
-            if question.ours.is_some() {
-                println!("  {} {asked}", question.name);
-            }
+            println!("  {} {asked}", question.name);
         }
+        println!("  rows {}", self.rows);
     }
 }
 
@@ -96,16 +120,27 @@ fn theirs_of(answers: &NodeAnswers) -> Vec<(Question, u16)> {
     }
 }
 
+/// The contexts of a root in which rows are compared. One of any content is
+/// always among them.
+#[derive(Copy, Clone)]
+enum Roots {
+    /// The tree's own.
+    Own,
+    /// The four that document 01 has.
+    All,
+}
+
 /// Trees of a set, by their numbers.
 fn compare(
     name: &str,
     seed: u64,
+    roots: Roots,
     trees: impl Iterator<Item = NodeTable>,
     cases: &mut Cases,
 ) -> u64 {
     let mut tally = Tally::default();
     for (index, tree) in (0..).zip(trees) {
-        tally.compare(&tree, cases, &mut Dice::new(seed, index));
+        tally.compare(&tree, roots, cases, &mut Dice::new(seed, index));
     }
     tally.print(name);
     tally.different
@@ -129,7 +164,8 @@ fn main() -> ExitCode {
         (Family::Plain, 100_000),
     ] {
         let name = format!("{}, seed {seed}", family.name());
-        different += compare(&name, seed, (0..trees).map(|at| family.tree(seed, at)), cases);
+        let tables = (0..trees).map(|at| family.tree(seed, at));
+        different += compare(&name, seed, Roots::Own, tables, cases);
     }
     for (name, trees) in [
         ("every tree of up to 3 nodes", SmallTrees::every_label(3)),
@@ -138,9 +174,10 @@ fn main() -> ExitCode {
     ] {
         // Each tree in the context that its number gives.
         let tables = (0..trees.len()).map(|at| trees.tree((at % 4) as u16, at));
-        different += compare(name, seed, tables, cases);
+        different += compare(name, seed, Roots::All, tables, cases);
     }
     println!("contexts met {} of {}", cases.met(), 1 << 18);
+    println!("scan_right's precedences and offsets met {} of 192", cases.arguments_met());
     println!("different {different}");
     if different == 0 {
         ExitCode::SUCCESS

@@ -1,5 +1,6 @@
 //! Tezhukor's functions, from the static library of the crate `answers`.
 
+use crate::rows::Handed;
 use oracle::direct::Context;
 
 /// The questions, by their numbers in `crates/answers/specs/Questions.antt`.
@@ -44,6 +45,8 @@ pub mod fixup {
     pub const PARENTHESIZE: u16 = 0;
     pub const PRECEDENCE: u16 = 1;
     pub const SCAN_LEFT: u16 = 2;
+    pub const LEFTMOST_PRECEDENCE: u16 = 3;
+    pub const RIGHTMOST_PRECEDENCE: u16 = 4;
 }
 
 /// fixup.rs's contexts, by their numbers there.
@@ -57,6 +60,13 @@ pub mod contexts {
     pub const RIGHTMOST: u16 = 6;
 }
 
+/// An operand's side, by its number there.
+pub mod side {
+    pub const LEFT: u16 = 0;
+    pub const RIGHT: u16 = 1;
+    pub const NEITHER: u16 = 2;
+}
+
 extern "C" {
     fn tezhukor_answer(
         question: u16,
@@ -68,6 +78,31 @@ extern "C" {
 
     fn tezhukor_fixup_answer(
         question: u16,
+        previous: u16,
+        next: u16,
+        flags: u16,
+        table: *const u16,
+        length: usize,
+        count: u16,
+        node: u16,
+    ) -> u16;
+
+    fn tezhukor_scan_right(
+        previous: u16,
+        next: u16,
+        flags: u16,
+        precedence: u16,
+        fail_offset: u16,
+        bailout_offset: u16,
+        table: *const u16,
+        length: usize,
+        count: u16,
+        node: u16,
+    ) -> u16;
+
+    fn tezhukor_handed(
+        question: u16,
+        cell: u16,
         previous: u16,
         next: u16,
         flags: u16,
@@ -112,6 +147,46 @@ pub fn fixup_answer(question: u16, context: Context, place: Place) -> u16 {
     let (pointer, length) = (table.as_ptr(), table.len());
     // SAFETY: as above.
     unsafe { tezhukor_fixup_answer(question, previous, next, flags, pointer, length, count, node) }
+}
+
+/// scan_right of a node: 0 Fail, 1 Bailout, 2 Consume.
+pub fn scan_right(
+    context: Context,
+    precedence: u16,
+    fail_offset: u16,
+    bailout_offset: u16,
+    place: Place,
+) -> u16 {
+    let [previous, next, flags] = context;
+    let Place { table, count, node } = place;
+    // SAFETY: as above.
+    unsafe {
+        tezhukor_scan_right(
+            previous,
+            next,
+            flags,
+            precedence,
+            fail_offset,
+            bailout_offset,
+            table.as_ptr(),
+            table.len(),
+            count,
+            node,
+        )
+    }
+}
+
+/// What a node hands to its first operand (question 0) or its second (1), given
+/// the node's own context.
+pub fn handed(question: u16, own: Context, place: Place) -> Handed {
+    let [previous, next, flags] = own;
+    let Place { table, count, node } = place;
+    let (pointer, length) = (table.as_ptr(), table.len());
+    // SAFETY: as above.
+    let [previous, next, flags, side, below] = [0, 1, 2, 3, 4].map(|cell| unsafe {
+        tezhukor_handed(question, cell, previous, next, flags, pointer, length, count, node)
+    });
+    Handed { context: [previous, next, flags], side, below }
 }
 
 /// The context that the function makes, from another one, two booleans in source

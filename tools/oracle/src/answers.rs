@@ -1,6 +1,7 @@
 //! What prettyplease's files answer about the nodes of an accepted tree.
 
 use crate::classify;
+use crate::direct::Context;
 use crate::fixup::FixupContext;
 use crate::forms::{self, Side};
 use crate::precedence::Precedence;
@@ -72,9 +73,8 @@ pub fn answers(context: u16, count: u16, cells: &[u16]) -> Answers {
     let Built::Expr(root) = root else {
         panic!("the root is no expression");
     };
-    let mut printer = Printer { recorder: Recorder::new(sides(count, cells)) };
-    printer.expr(&root, FixupContext::of_root(context));
-    for (at, row) in printer.recorder.rows().into_iter().enumerate() {
+    let rows = printed(&root, FixupContext::of_root(context), sides(count, cells));
+    for (at, row) in rows.into_iter().enumerate() {
         match (&mut nodes[at], row) {
             (NodeAnswers::Expression(answers), Some(row)) => answers.row = row,
             (NodeAnswers::Expression(_), None) => panic!("node {} is not printed", at + 1),
@@ -83,6 +83,26 @@ pub fn answers(context: u16, count: u16, cells: &[u16]) -> Answers {
         }
     }
     Answers { nodes }
+}
+
+/// The rows of an accepted tree, from node 1 on, for roots in contexts of any
+/// content; zeros for types and links.
+pub fn rows(contexts: &[Context], count: u16, cells: &[u16]) -> Vec<Vec<Row>> {
+    let root = tree::expression(cells, count, 1);
+    let sides = sides(count, cells);
+    let rows_in = |&context: &Context| {
+        let rows = printed(&root, FixupContext::from_numbers(context), sides.clone());
+        rows.into_iter().map(Option::unwrap_or_default).collect()
+    };
+    contexts.iter().map(rows_in).collect()
+}
+
+/// What is recorded while the crate prints the root; none for a node that it
+/// does not print.
+fn printed(root: &Expr, context: FixupContext, sides: Vec<Side>) -> Vec<Option<Row>> {
+    let mut printer = Printer { recorder: Recorder::new(sides) };
+    printer.expr(root, context);
+    printer.recorder.rows()
 }
 
 /// The sides of all nodes, from node 1 on.

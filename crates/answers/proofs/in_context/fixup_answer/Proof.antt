@@ -26,6 +26,18 @@ scan-left-requires c κs = search needs
 number-requires-2 : tie.Need-number-requires-2
 number-requires-2 c κs = search needs
 
+leftmost-subexpression-precedence-requires : tie.Need-leftmost-subexpression-precedence-requires
+leftmost-subexpression-precedence-requires c κs = search needs
+
+rank-requires-2 : tie.Need-rank-requires-2
+rank-requires-2 c κs = search needs
+
+rightmost-subexpression-precedence-requires : tie.Need-rightmost-subexpression-precedence-requires
+rightmost-subexpression-precedence-requires c κs = search needs
+
+rank-requires-3 : tie.Need-rank-requires-3
+rank-requires-3 c κs = search needs
+
 returns : tie.Need-returns
 unfolding fixupAnswered fixupQuestions
 returns c = c .number .ensures ∙ ap (λ yes. pick yes 1 0) (c .before .parenthesize .ensures) ∙ sym (arm (fixupQuestions _ _) 65535 _ 0 tt (c .before .before .match .keys1))
@@ -40,7 +52,15 @@ returns-3 c = c .number2 .ensures ∙ ap (λ yes. pick yes 1 0) (c .before .scan
 
 returns-4 : tie.Need-returns-4
 unfolding fixupAnswered fixupQuestions
-returns-4 c = sym (rest (fixupQuestions _ _) 65535 _ (c .match .rest))
+returns-4 c = c .rank2 .ensures ∙ ap rankOf (c .before .leftmost-subexpression-precedence .ensures) ∙ sym (arm (fixupQuestions _ _) 65535 _ 3 tt (c .before .before .match .keys4))
+
+returns-5 : tie.Need-returns-5
+unfolding fixupAnswered fixupQuestions
+returns-5 c = c .rank3 .ensures ∙ ap rankOf (c .before .rightmost-subexpression-precedence .ensures) ∙ sym (arm (fixupQuestions _ _) 65535 _ 4 tt (c .before .before .match .keys5))
+
+returns-6 : tie.Need-returns-6
+unfolding fixupAnswered fixupQuestions
+returns-6 c = sym (rest (fixupQuestions _ _) 65535 _ (c .match .rest))
 
 pub fixup-answer-spec : {M : Type 1} → statement M
 fixup-answer-spec =
@@ -52,7 +72,13 @@ fixup-answer-spec =
     rank-requires
     scan-left-requires
     number-requires-2
+    leftmost-subexpression-precedence-requires
+    rank-requires-2
+    rightmost-subexpression-precedence-requires
+    rank-requires-3
     returns
     returns-2
     returns-3
-    returns-4)
+    returns-4
+    returns-5
+    returns-6)

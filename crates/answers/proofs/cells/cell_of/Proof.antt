@@ -1,10 +1,10 @@
--- `answers::contexts::cell_of` meets its contract. Assumes nothing.
+-- `answers::cells::cell_of` meets its contract. Assumes nothing.
 use mathlib.Core.Path.{sym, _∙_}
 use Rattle.laws.proofs.Keys.{arm, rest}
 use Rattle.answers.specs.Questions.{cells, cellOf}
 use borrow.Author.Needs.{needs}
-use Rattle.answers.proofs.contexts.cell_of.Statement.{statement}
-use Rattle.answers.proofs.contexts.cell_of.Tie as tie
+use Rattle.answers.proofs.cells.cell_of.Statement.{statement}
+use Rattle.answers.proofs.cells.cell_of.Tie as tie
 
 rank-requires : tie.Need-rank-requires
 rank-requires c κs = search needs

@@ -1,0 +1,61 @@
+//! The row of each expression, put together from our functions as document 01's
+//! 'Decisions' says, beside the row that the crate gives while it prints.
+//!
+//! This only compares the functions. No contract speaks of the way in which they
+//! are put together here.
+
+use crate::ours::{self, contexts, fixup, Place};
+use oracle::direct::Context;
+use oracle::forms::{Class, ASSIGN, BINARY, CAST, RANGE};
+use oracle::{table, NodeTable, Row};
+
+/// What a node gets from its owner.
+#[derive(Copy, Clone)]
+pub struct Handed {
+    pub context: Context,
+    /// A number of [`ours::side`].
+    pub side: u16,
+    /// The owner groups the node if its precedence is smaller than this.
+    pub below: u16,
+}
+
+/// The rows of an accepted tree, from node 1 on; zeros for types and links.
+pub fn rows(root: Context, tree: &NodeTable) -> Vec<Row> {
+    let none = ours::context(contexts::NONE, [0; 3], [false; 2], 0);
+    let at_root = Handed { context: root, side: ours::side::NEITHER, below: 0 };
+    let mut handed = vec![at_root; usize::from(tree.count)];
+    // An owner has a smaller number than its operands, so it comes first.
+    let row = |node| {
+        let place = Place { table: &tree.cells, count: tree.count, node };
+        let from_owner = handed[usize::from(node) - 1];
+        let row = match table::class(&tree.cells, node) {
+            Class::Expression => row(from_owner, place),
+            Class::Type | Class::Link => Row::default(),
+        };
+        let own = if row.pair & 1 == 1 { none } else { from_owner.context };
+        for (question, operand) in (0..).zip(table::node(&tree.cells, node).operands) {
+            if operand != 0 {
+                handed[usize::from(operand) - 1] = ours::handed(question, own, place);
+            }
+        }
+        row
+    };
+    (1..=tree.count).map(row).collect()
+}
+
+/// The row of an expression.
+fn row(handed: Handed, place: Place) -> Row {
+    let Handed { context, side, below } = handed;
+    let precedence = match side {
+        ours::side::LEFT => ours::fixup_answer(fixup::LEFTMOST_PRECEDENCE, context, place),
+        ours::side::RIGHT => ours::fixup_answer(fixup::RIGHTMOST_PRECEDENCE, context, place),
+        _ => ours::fixup_answer(fixup::PRECEDENCE, context, place),
+    };
+    let parenthesize = ours::fixup_answer(fixup::PARENTHESIZE, context, place) == 1;
+    let outer = precedence < below || parenthesize;
+    let node = table::node(place.table, place.node);
+    let inner = matches!(node.form, ASSIGN | BINARY | CAST | RANGE) && node.attributes != 0;
+    let pair = u16::from(outer) + 2 * u16::from(inner);
+    let [previous, next, flags] = context;
+    Row { pair, precedence, previous, next, flags }
+}
