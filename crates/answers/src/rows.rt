@@ -1,0 +1,20 @@
+// The rows of all nodes.
+ghost use mathlib.Core.Path.{_≡_};
+ghost use lib.ListN.{length};
+ghost use Rattle.walk.specs.Walk.{decided, rowsAfter, scratchAfter};
+
+// walk::decide.
+#[no_mangle]
+pub extern "C" fn tezhukor_decide(
+    context: u16,
+    count: u16,
+    table: &[u16],
+    rows: &mut [u16],
+    scratch: &mut [u16],
+) -> u16
+    ensures reply { λ r. ⌜ r ≡ decided context count (now (table .entry)) (length (now (rows .entry))) (length (now (scratch .entry))) ⌝ }
+    ensures rows { λ r. ⌜ now (rows .exit) ≡ rowsAfter context count (now (table .entry)) (now (rows .entry)) (now (scratch .entry)) ⌝ }
+    ensures scratch { λ r. ⌜ now (scratch .exit) ≡ scratchAfter context count (now (table .entry)) (now (rows .entry)) (now (scratch .entry)) ⌝ }
+{
+    walk::decide(context, count, table, rows, scratch)
+}
