@@ -1,12 +1,12 @@
 -- `parens::put_node` meets its contract. Assumes nothing.
+use mathlib.Core.Path.{ap, _∙_}
+use native.Mathlib.Omega.{arith}
+use Rattle.tree.specs.Forms.{classOf}
+use Rattle.parens.proofs.Growing.{added-none}
+use Rattle.parens.proofs.Lines.{no-line, a-line}
 use borrow.Author.Needs.{needs}
 use Rattle.parens.proofs.put_node.Statement.{statement}
 use Rattle.parens.proofs.put_node.Tie as tie
-use Rattle.parens.proofs.put_node.Reads as reads
-use Rattle.parens.proofs.put_node.Lts as lts
-use Rattle.parens.proofs.put_line.Reads as put-line-reads
-use Rattle.tree.proofs.form.class_of.Reads as class-of-reads
-use Rattle.tree.proofs.shape.form_at.Reads as form-at-reads
 
 form-at-requires : tie.Need-form-at-requires
 form-at-requires c κs = search needs
@@ -15,7 +15,7 @@ class-of-requires : tie.Need-class-of-requires
 class-of-requires c κs = search needs
 
 returns : tie.Need-returns
-returns c = ?
+returns c = (rw (no-line _ _ _ _ _ (c .before .class-of .ensures ∙ ap classOf (c .before .before .form-at .ensures)) (c .if1 .taken)) (added-none _ _), omega arith)
 
 put-line-requires : tie.Need-put-line-requires
 put-line-requires c κs = search needs
@@ -24,7 +24,8 @@ same-length : tie.Need-same-length
 same-length c = search needs
 
 returns-2 : tie.Need-returns-2
-returns-2 c = ?
+returns-2 c =
+    (rw (a-line _ _ _ _ _ (c .before .before .before .before .before .class-of .ensures ∙ ap classOf (c .before .before .before .before .before .before .form-at .ensures)) (c .before .before .before .before .if1 .left)) (c .before .before .put-line .ensures .0), c .before .before .put-line .ensures .1)
 
 pub put-node-spec : {M : Type 1} → statement M
 put-node-spec =
