@@ -56,6 +56,7 @@ fn put_number(out: &mut [u8], end: usize, n: u16) -> usize
 fn put_head(out: &mut [u8], first: u8, second: u8, n: u16) -> usize
     requires { ⌜ 9 ≤ length (now out) ⌝ }
     ensures { λ r. ⌜ Added (now (out .entry)) 0 (headed first second n) (now (out .exit)) r ⌝ }
+    ensures { λ r. ⌜ r ≤ 9 ⌝ }
 {
     let one = put_byte(out, 0, first);
     let two = put_byte(out, one, second);
@@ -122,6 +123,7 @@ fn put_lines(out: &mut [u8], end: usize, count: u16, table: &[u16], rows: &[u16]
 fn put_rows(out: &mut [u8], context: u16, count: u16, table: &[u16]) -> usize
     requires { ⌜ (refusal context count (now table) ≡ 0) × (count ≤ 4096) × (147465 ≤ length (now out)) ⌝ }
     ensures { λ r. ⌜ Added (now (out .entry)) 0 (accepted context count (now (table .entry))) (now (out .exit)) r ⌝ }
+    ensures { λ r. ⌜ r ≤ 147465 ⌝ }
 {
     let mut rows = [0u16; CELLS];
     let mut scratch = [0u16; SCRATCH];

@@ -28,11 +28,9 @@ same-length c = search needs
 returns : tie.Need-returns
 unfolding headed
 returns c =
-    added-more
-    (added-more
-    (added-more (added-more (c .before .before .before .before .before .before .before .before .before .before .before .before .before .before .before .before .before .before .put-byte .ensures) (c .before .before .before .before .before .before .before .before .before .before .before .before .before .before .put-byte2 .ensures)) (c .before .before .before .before .before .before .before .before .before .before .put-byte3 .ensures))
-    (c .before .before .before .before .before .before .put-number .ensures))
-    (c .before .before .put-byte4 .ensures)
+    let digits = length-decimal (c .before .before .before .before .before .before .before .before .before .before .before .before .before .before .before .before .before .before .before .before .before .args .n) (omega arith) in
+    let start = added-more (added-more (c .before .before .before .before .before .before .before .before .before .before .before .before .before .before .before .before .before .before .put-byte .ensures) (c .before .before .before .before .before .before .before .before .before .before .before .before .before .before .put-byte2 .ensures)) (c .before .before .before .before .before .before .before .before .before .before .put-byte3 .ensures) in
+    (added-more (added-more start (c .before .before .before .before .before .before .put-number .ensures)) (c .before .before .put-byte4 .ensures), omega arith)
 
 pub put-head-spec : {M : Type 1} → statement M
 put-head-spec =
