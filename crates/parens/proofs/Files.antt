@@ -26,7 +26,7 @@ use Rattle.parens.specs.Text.{headed, rowsIn, accepted, answered, printe
 pub rows-placed : (context count : ℕ) (cells rows scratch : List ℕ) → refusal context count cells ≡ 0 → count ≤ 4096 → rows ≡ replicate 20480 0 → length scratch ≡ 12288 → rowsAfter context count cells rows scratch ≡ rowsIn context count cells
 unfolding rowsIn
 rows-placed context count cells rows scratch ok most zeros long =
-    let room : length rows ≡ 20480 = rw zeros (length-replicate 20480 0) in
+    let room : length rows ≡ 20480 = rw zeros (length-replicate {A = ℕ} 20480 0) in
     sym (done context count cells rows scratch ok (omega arith) (omega arith) (rootHanded context) refl _ refl _ refl .1 .0) ∙ rw zeros
 
 -- ---- the answers of the loader

@@ -19,6 +19,7 @@ const FILE: usize = 65_537;
 
 // The cells of the most nodes: five each in the table and in the rows, three in the walk's scratch.
 const CELLS: usize = 20_480;
+
 const SCRATCH: usize = 12_288;
 
 // The most bytes that are printed: a first line of 9, and 36 for each of 4,096 nodes.

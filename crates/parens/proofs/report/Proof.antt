@@ -1,12 +1,21 @@
 -- `parens::report` meets its contract. Assumes nothing.
+use mathlib.Core.Path.{_≡_, refl, sym, _∙_}
+use mathlib.Core.List.{List}
+use Prim.Native.Nat.{ℕ, _≤_}
+use native.Mathlib.Omega.{arith}
+use lib.ListN.{length, replicate, length-replicate}
+use lib.Seq.{length-take-le}
+use Rattle.parens.proofs.Files.{printed-refusal, count-most, stored-room, stored-cells, not-refused, printed-rows}
 use borrow.Author.Needs.{needs}
 use Rattle.parens.proofs.report.Statement.{statement}
 use Rattle.parens.proofs.report.Tie as tie
-use Rattle.parens.proofs.report.Reads as reads
-use Rattle.parens.proofs.report.Lts as lts
-use Rattle.parens.proofs.put_head.Reads as put-head-reads
-use Rattle.parens.proofs.put_rows.Reads as put-rows-reads
-use Rattle.tree_file.proofs.load.Reads as load-reads
+
+-- the table as it is lent
+abbrev zeros : List ℕ
+zeros = replicate 20480 0
+
+room : length zeros ≡ 20480
+room = length-replicate {A = ℕ} 20480 0
 
 slice-aggregate-load : tie.Need-slice-aggregate-load
 slice-aggregate-load c = search needs
@@ -30,19 +39,33 @@ mul-cells : tie.Need-mul-cells
 mul-cells c = search needs
 
 array-share-prefix-table : tie.Need-array-share-prefix-table
-array-share-prefix-table c = ?
+array-share-prefix-table c =
+    let e = sym (c .before .before .context .given .1) ∙ c .before .before .before .before .before .load .ensures .0 in
+    rw (c .before .before .before .before .before .load .ensures .1) (stored-room _ zeros room _ _ e)
 
 slice-aggregate-put-rows : tie.Need-slice-aggregate-put-rows
-slice-aggregate-put-rows c = ?
+slice-aggregate-put-rows c =
+    let e = sym (c .before .before .before .context .given .1) ∙ c .before .before .before .before .before .before .load .ensures .0 in
+    sym (length-take-le _ _ (rw (c .before .before .before .before .before .before .load .ensures .1) (stored-room _ zeros room _ _ e)))
 
 put-rows-requires : tie.Need-put-rows-requires
-put-rows-requires c κs = ?
+put-rows-requires c κs =
+    let e = sym (c .before .before .before .context .given .1) ∙ c .before .before .before .before .before .before .load .ensures .0 in
+    (rw (c .before .before .before .before .before .before .load .ensures .1) (not-refused _ zeros room _ _ e), count-most _ zeros room _ _ e, search needs)
 
 returns : tie.Need-returns
-returns c = ?
+returns c =
+    let e = sym (c .before .before .before .why .given .1) ∙ c .before .before .before .before .before .before .load .ensures .0 in
+    let a = c .put-head .ensures .0 in
+    let fits : c .put-head .result ≤ length (c .put-head .last .0) = omega arith in
+    ((fits, sym (length-take-le _ _ fits)), a .text ∙ printed-refusal _ zeros room _ e)
 
 returns-2 : tie.Need-returns-2
-returns-2 c = ?
+returns-2 c =
+    let e = sym (c .before .before .before .before .context .given .1) ∙ c .before .before .before .before .before .before .before .load .ensures .0 in
+    let a = c .put-rows .ensures .0 in
+    let fits : c .put-rows .result ≤ length (c .put-rows .last .0) = omega arith in
+    ((fits, sym (length-take-le _ _ fits)), a .text ∙ rw (c .before .before .before .before .before .before .before .load .ensures .1) (printed-rows _ zeros room _ _ e))
 
 pub report-spec : {M : Type 1} → statement M
 report-spec =
