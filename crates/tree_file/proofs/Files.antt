@@ -123,10 +123,10 @@ body-length file e = go (numbersOf (5 * countIn file) (bytesAfter (header file))
     go broken p q = true-not-false q
     go (numbers ns bytes) p q = numbers-length (5 * countIn file) (bytesAfter (header file)) ns bytes p
 
--- its nodes are an accepted table
-pub accepted-file : (file : List ℕ) (lent : ℕ) → fileRefusal file lent ≡ 0 → Table (contextIn file) (countIn file) (cellsIn file)
+-- its nodes are at most 4,096 and have five cells each, and they are an accepted table
+pub accepted-cells : (file : List ℕ) (lent : ℕ) → fileRefusal file lent ≡ 0 → (countIn file ≤ 4096) × (length (cellsIn file) ≡ 5 * countIn file) × Table (contextIn file) (countIn file) (cellsIn file)
 unfolding fileRefusal refusal3 refusal5
-accepted-file file lent e =
+accepted-cells file lent e =
     let r1 = passed 1 _ _ (omega arith) e in
     let r2 = passed 2 _ _ (omega arith) (r1 .1) in
     let r3 = passed 3 _ _ (omega arith) (r2 .1) in
@@ -134,4 +134,8 @@ accepted-file file lent e =
     let r5 = passed 5 _ _ (omega arith) (r4 .1) in
     let f = count-fits (countIn file) lent (r4 .0) in
     let l = body-length file (or-false (isBroken (body file)) _ (r5 .0) .0) in
-    nodes-refusal (contextIn file) (countIn file) (cellsIn file) (ltb-false 3 (contextIn file) (r3 .0)) (fits-count _ _ (f .0) (f .1) (omega arith)) ∙ r5 .1
+    let t = nodes-refusal (contextIn file) (countIn file) (cellsIn file) (ltb-false 3 (contextIn file) (r3 .0)) (fits-count _ _ (f .0) (f .1) (omega arith)) ∙ r5 .1 in
+    (f .1, l, t)
+
+pub accepted-file : (file : List ℕ) (lent : ℕ) → fileRefusal file lent ≡ 0 → Table (contextIn file) (countIn file) (cellsIn file)
+accepted-file file lent e = accepted-cells file lent e .2

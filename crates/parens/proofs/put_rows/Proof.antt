@@ -1,0 +1,52 @@
+-- `parens::put_rows` meets its contract. Assumes nothing.
+use mathlib.Core.Path.{_≡_, refl, _∙_}
+use Prim.Native.Nat.{ℕ}
+use native.Mathlib.Omega.{arith}
+use lib.ListN.{length-replicate}
+use Rattle.parens.specs.Text.{rowsIn, accepted}
+use Rattle.parens.proofs.Growing.{added-more}
+use Rattle.parens.proofs.Files.{rows-placed}
+use borrow.Author.Needs.{needs}
+use Rattle.parens.proofs.put_rows.Statement.{statement}
+use Rattle.parens.proofs.put_rows.Tie as tie
+
+slice-aggregate-decide : tie.Need-slice-aggregate-decide
+slice-aggregate-decide c = search needs
+
+slice-aggregate-decide-2 : tie.Need-slice-aggregate-decide-2
+slice-aggregate-decide-2 c = search needs
+
+decide-requires : tie.Need-decide-requires
+decide-requires c κs = search needs
+
+put-head-requires : tie.Need-put-head-requires
+put-head-requires c κs = search needs
+
+slice-aggregate-put-lines : tie.Need-slice-aggregate-put-lines
+slice-aggregate-put-lines c = search needs
+
+put-lines-requires : tie.Need-put-lines-requires
+put-lines-requires c κs = (omega arith, omega arith)
+
+same-length : tie.Need-same-length
+same-length c = search needs
+
+returns : tie.Need-returns
+unfolding accepted
+returns c =
+    let a = c .before .before .before .before .before .before .before .before .before .before .before .before .before .before .before .before .args in
+    let e = c .before .before .before .before .before .before .before .before .before .before .before .decide .ensures .1 .0 ∙ rows-placed (a .context) (a .count) (a .table .now) _ _ (c .before .before .before .before .before .before .before .before .before .before .before .before .before .before .before .before .pre .0) (c .before .before .before .before .before .before .before .before .before .before .before .before .before .before .before .before .pre .1) refl (length-replicate {A = ℕ} 12288 0) in
+    (rw (← e) (added-more (c .before .before .before .before .before .before .before .put-head .ensures .0) (c .before .before .put-lines .ensures .0)), omega arith)
+
+pub put-rows-spec : {M : Type 1} → statement M
+put-rows-spec =
+    tie.close
+    (tie.spec
+    slice-aggregate-decide
+    slice-aggregate-decide-2
+    decide-requires
+    put-head-requires
+    slice-aggregate-put-lines
+    put-lines-requires
+    same-length
+    returns)

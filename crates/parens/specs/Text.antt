@@ -1,0 +1,69 @@
+-- Document 01, 'Decisions': what `parens` prints for a file, as ASCII codes.
+use mathlib.Core.Bool.{Bool}
+use mathlib.Core.List.{List, [], _∷_, _++_}
+use Prim.Native.Nat.{ℕ, zero, suc, _+_, _*_, _-_, _/_, _%_}
+use lib.Dec.{eqb, ltb}
+use lib.ListN.{take, drop, replicate}
+use Rattle.laws.specs.Choice.{pick}
+use Rattle.tree.specs.Forms.{anExpression, classOf}
+use Rattle.tree.specs.Shapes.{formIn}
+use Rattle.tree.specs.Trees.{treeAt}
+use Rattle.tree_file.specs.declared.Loaded.{Loaded}
+use Rattle.tree_file.specs.declared.Loaded.the-variants.{Refused, Accepted}
+use Rattle.tree_file.specs.Files.{cellsIn, loaded}
+use Rattle.walk.specs.Rows.{rowsOf}
+use Rattle.walk.specs.Walk.{rootHanded, placed}
+
+abbrev pub space : ℕ
+space = 32
+
+abbrev pub newline : ℕ
+newline = 10
+
+-- the decimal digits of n, at most k of them
+unfoldable pub decimalTo : ℕ → ℕ → List ℕ
+decimalTo zero n = []
+decimalTo (suc k) n = pick (ltb n 10) ((48 + n) ∷ []) (decimalTo k (n / 10) ++ ((48 + n % 10) ∷ []))
+
+-- the decimal digits of n, of which there are no more than n + 1
+unfoldable pub decimal : ℕ → List ℕ
+decimal n = decimalTo (suc n) n
+
+-- numbers with a space before each
+unfoldable pub spaced : List ℕ → List ℕ
+spaced [] = []
+spaced (n ∷ ns) = space ∷ decimal n ++ spaced ns
+
+-- the first line: two letters and a number
+unfoldable pub headed : ℕ → ℕ → ℕ → List ℕ
+headed a b n = a ∷ b ∷ space ∷ decimal n ++ (newline ∷ [])
+
+-- "its node number and row": node i's, whose five cells stand in `rows`
+unfoldable pub lineOf : List ℕ → ℕ → List ℕ
+lineOf rows i = decimal i ++ (spaced (take 5 (drop (5 * (i - 1)) rows)) ++ (newline ∷ []))
+
+-- "for each expression": nothing for a type or a link
+unfoldable pub nodeText : ℕ → List ℕ → List ℕ → ℕ → List ℕ
+nodeText count cells rows i = pick (eqb (classOf (formIn cells count i)) anExpression) (lineOf rows i) []
+
+-- the lines of nodes 1 to n
+unfoldable pub linesOf : ℕ → List ℕ → List ℕ → ℕ → List ℕ
+linesOf count cells rows zero = []
+linesOf count cells rows (suc n) = linesOf count cells rows n ++ nodeText count cells rows (suc n)
+
+-- the rows of the tree at node 1, five cells for each of up to 4,096 nodes
+unfoldable pub rowsIn : ℕ → ℕ → List ℕ → List ℕ
+rowsIn context count cells = placed cells count 1 (rowsOf (rootHanded context) (treeAt cells count 1)) (replicate 20480 0)
+
+-- "prints "ok" and the count, then for each expression its node number and row"
+unfoldable pub accepted : ℕ → ℕ → List ℕ → List ℕ
+accepted context count cells = headed 111 107 count ++ linesOf count cells (rowsIn context count cells) count
+
+-- "on refusal only "no" and the number"
+unfoldable pub answered : List ℕ → Loaded → List ℕ
+answered cells (Refused n) = headed 110 111 n
+answered cells (Accepted context count) = accepted context count cells
+
+-- what is printed for a file, with a table of 4,096 nodes lent to the loader
+unfoldable pub printed : List ℕ → List ℕ
+printed file = answered (cellsIn file) (loaded file 20480)

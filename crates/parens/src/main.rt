@@ -1,0 +1,157 @@
+// Reads a tree file on standard input, and prints the count of its nodes and the row of each
+// expression, or the number of the refusal.
+use libc::STDIN_FILENO;
+use libc::STDOUT_FILENO;
+use tree::form::class_of;
+use tree::shape::form_at;
+use tree_file::Loaded;
+ghost use mathlib.Core.List.{[], _∷_};
+ghost use mathlib.Core.Path.{_≡_};
+ghost use Prim.Native.Nat.{_+_, _*_, _≤_, _<_};
+ghost use lib.ListN.{length, take, drop};
+ghost use Rattle.io.specs.Counts.{Counts};
+ghost use Rattle.tree.specs.Refusals.{refusal};
+ghost use Rattle.parens.specs.Growth.{Added};
+ghost use Rattle.parens.specs.Text.{decimal, spaced, headed, lineOf, nodeText, linesOf, accepted, printed};
+
+// One byte more than the longest file, so that a longer one shows.
+const FILE: usize = 65_537;
+
+// The cells of the most nodes: five each in the table and in the rows, three in the walk's scratch.
+const CELLS: usize = 20_480;
+
+const SCRATCH: usize = 12_288;
+
+// The most bytes that are printed: a first line of 9, and 36 for each of 4,096 nodes.
+const TEXT: usize = 147_465;
+
+// ---- a text that grows: each function adds to it at its end, and answers where it then ends
+
+fn put_byte(out: &mut [u8], end: usize, byte: u8) -> usize
+    requires { ⌜ end < length (now out) ⌝ }
+    ensures { λ r. ⌜ Added (now (out .entry)) end (byte ∷ []) (now (out .exit)) r ⌝ }
+{
+    out[end] = byte;
+    end + 1
+}
+
+fn digit(n: u16) -> u8
+    requires { ⌜ n < 10 ⌝ }
+    ensures { λ r. ⌜ r ≡ 48 + n ⌝ }
+{
+    48 + n as u8
+}
+
+fn put_number(out: &mut [u8], end: usize, n: u16) -> usize
+    requires { ⌜ end + length (decimal n) ≤ length (now out) ⌝ }
+    ensures { λ r. ⌜ Added (now (out .entry)) end (decimal n) (now (out .exit)) r ⌝ }
+{
+    if n < 10 {
+        return put_byte(out, end, digit(n));
+    }
+    let next = put_number(out, end, n / 10);
+    put_byte(out, next, digit(n % 10))
+}
+
+// Two letters and a number, as the first line.
+fn put_head(out: &mut [u8], first: u8, second: u8, n: u16) -> usize
+    requires { ⌜ 9 ≤ length (now out) ⌝ }
+    ensures { λ r. ⌜ Added (now (out .entry)) 0 (headed first second n) (now (out .exit)) r ⌝ }
+    ensures { λ r. ⌜ r ≤ 9 ⌝ }
+{
+    let one = put_byte(out, 0, first);
+    let two = put_byte(out, one, second);
+    let three = put_byte(out, two, b' ');
+    let end = put_number(out, three, n);
+    put_byte(out, end, b'\n')
+}
+
+// The five cells of a row, which start at `from`.
+fn put_row(out: &mut [u8], end: usize, rows: &[u16], from: usize) -> usize
+    requires { ⌜ (from + 5 ≤ length (now rows)) × (end + 30 ≤ length (now out)) ⌝ }
+    ensures { λ r. ⌜ Added (now (out .entry)) end (spaced (take 5 (drop from (now (rows .entry))))) (now (out .exit)) r ⌝ }
+    ensures { λ r. ⌜ r ≤ end + 30 ⌝ }
+{
+    let mut at = end;
+    let mut done = 0;
+    while done < 5 {
+        let next = put_byte(out, at, b' ');
+        at = put_number(out, next, rows[from + done]);
+        done += 1;
+    }
+    at
+}
+
+fn put_line(out: &mut [u8], end: usize, rows: &[u16], node: u16) -> usize
+    requires { ⌜ (1 ≤ node) × (5 * node ≤ length (now rows)) × (end + 36 ≤ length (now out)) ⌝ }
+    ensures { λ r. ⌜ Added (now (out .entry)) end (lineOf (now (rows .entry)) node) (now (out .exit)) r ⌝ }
+    ensures { λ r. ⌜ r ≤ end + 36 ⌝ }
+{
+    let number = put_number(out, end, node);
+    let row = put_row(out, number, rows, 5 * ((node - 1) as usize));
+    put_byte(out, row, b'\n')
+}
+
+// The line of an expression; nothing for another node.
+fn put_node(out: &mut [u8], end: usize, count: u16, table: &[u16], rows: &[u16], node: u16) -> usize
+    requires { ⌜ (1 ≤ node) × (5 * node ≤ length (now rows)) × (end + 36 ≤ length (now out)) ⌝ }
+    ensures { λ r. ⌜ Added (now (out .entry)) end (nodeText count (now (table .entry)) (now (rows .entry)) node) (now (out .exit)) r ⌝ }
+    ensures { λ r. ⌜ r ≤ end + 36 ⌝ }
+{
+    if class_of(form_at(table, count, node)) != 1 {
+        return end;
+    }
+    put_line(out, end, rows, node)
+}
+
+fn put_lines(out: &mut [u8], end: usize, count: u16, table: &[u16], rows: &[u16]) -> usize
+    requires { ⌜ (5 * count ≤ length (now rows)) × (end + 36 * count ≤ length (now out)) ⌝ }
+    ensures { λ r. ⌜ Added (now (out .entry)) end (linesOf count (now (table .entry)) (now (rows .entry)) count) (now (out .exit)) r ⌝ }
+    ensures { λ r. ⌜ r ≤ end + 36 * count ⌝ }
+{
+    let mut at = end;
+    let mut node = 0;
+    while node < count {
+        node += 1;
+        at = put_node(out, at, count, table, rows, node);
+    }
+    at
+}
+
+// ---- files
+
+// What is printed for an accepted table. It is not refused again: the walk's reply is 0.
+fn put_rows(out: &mut [u8], context: u16, count: u16, table: &[u16]) -> usize
+    requires { ⌜ (refusal context count (now table) ≡ 0) × (count ≤ 4096) × (147465 ≤ length (now out)) ⌝ }
+    ensures { λ r. ⌜ Added (now (out .entry)) 0 (accepted context count (now (table .entry))) (now (out .exit)) r ⌝ }
+    ensures { λ r. ⌜ r ≤ 147465 ⌝ }
+{
+    let mut rows = [0u16; CELLS];
+    let mut scratch = [0u16; SCRATCH];
+    walk::decide(context, count, table, &mut rows, &mut scratch);
+    let end = put_head(out, b'o', b'k', count);
+    put_lines(out, end, count, table, &rows)
+}
+
+// What is printed for a file, at the start of `out`.
+fn report(file: &[u8], out: &mut [u8; TEXT]) -> usize
+    ensures { λ r. ⌜ Counts r (now (out .exit)) ⌝ }
+    ensures { λ r. ⌜ take r (now (out .exit)) ≡ printed (now (file .entry)) ⌝ }
+{
+    let mut table = [0u16; CELLS];
+    match tree_file::load(file, &mut table) {
+        Loaded::Refused(why) => put_head(out, b'n', b'o', why),
+        Loaded::Accepted(context, count) => {
+            let cells = 5 * (count as usize);
+            put_rows(out, context, count, &table[..cells])
+        }
+    }
+}
+
+fn main() {
+    let mut file = [0u8; FILE];
+    let n = io::read_full(STDIN_FILENO, &mut file);
+    let mut out = [0u8; TEXT];
+    let end = report(&file[..n], &mut out);
+    io::write_all(STDOUT_FILENO, &out[..end]);
+}
