@@ -1,8 +1,8 @@
 -- What loading and walking leave for printing. Assumes nothing.
-use mathlib.Core.Path.{_≡_, refl, sym, ap, _∙_}
+use mathlib.Core.Path.{_≡_, refl, sym, _∙_}
 use mathlib.Core.Bool.{Bool, true, false}
-use mathlib.Core.List.{List, _++_}
-use Prim.Native.Nat.{ℕ, _+_, _*_, _≤_}
+use mathlib.Core.List.{List}
+use Prim.Native.Nat.{ℕ, _*_, _≤_}
 use native.Mathlib.Omega.{arith}
 use lib.Dec.{eqb}
 use lib.ListN.{length, take, replicate, length-replicate}
@@ -13,21 +13,20 @@ use Rattle.laws.specs.Lists.{over}
 use Rattle.laws.proofs.Choice.{pick-true}
 use Rattle.laws.proofs.Lists.{length-over}
 use Rattle.tree.specs.Refusals.{refusal}
-use Rattle.tree_file.specs.declared.Loaded.{Loaded}
 use Rattle.tree_file.specs.declared.Loaded.the-variants.{Refused, Accepted}
 use Rattle.tree_file.specs.Files.{contextIn, countIn, cellsIn, fileRefusal, loaded, stored}
 use Rattle.tree_file.proofs.Files.{accepted-cells}
 use Rattle.walk.specs.Walk.{rootHanded, rowsAfter}
 use Rattle.walk.proofs.Replies.{done}
-use Rattle.parens.specs.Text.{headed, rowsIn, accepted, answered, printed}
+use Rattle.parens.specs.Text.{headed, rowsIn, acceptedText, answered, printed}
 
 -- ---- the walk of an accepted table
 
-pub rows-placed : (context count : ℕ) (cells rows scratch : List ℕ) → refusal context count cells ≡ 0 → count ≤ 4096 → rows ≡ replicate 20480 0 → length scratch ≡ 12288 → rowsAfter context count cells rows scratch ≡ rowsIn context count cells
+pub rows-placed : (context count : ℕ) (cells rows scratch after : List ℕ) → refusal context count cells ≡ 0 → count ≤ 4096 → rows ≡ replicate 20480 0 → length scratch ≡ 12288 → after ≡ rowsAfter context count cells rows scratch → after ≡ rowsIn context count cells
 unfolding rowsIn
-rows-placed context count cells rows scratch ok most zeros long =
+rows-placed context count cells rows scratch after ok most zeros long e =
     let room : length rows ≡ 20480 = rw zeros (length-replicate {A = ℕ} 20480 0) in
-    sym (done context count cells rows scratch ok (omega arith) (omega arith) (rootHanded context) refl _ refl _ refl .1 .0) ∙ rw zeros
+    e ∙ sym (done context count cells rows scratch ok (omega arith) (omega arith) (rootHanded context) refl _ refl _ refl .1 .0) ∙ rw zeros
 
 -- ---- the answers of the loader
 
@@ -68,6 +67,6 @@ module _ (file table : List ℕ) (room : length table ≡ 20480) where
     pub not-refused : refusal context count (take (5 * count) (stored file table)) ≡ 0
     not-refused = rw stored-cells (parts .2)
 
-    pub printed-rows : accepted context count (take (5 * count) (stored file table)) ≡ printed file
+    pub printed-rows : acceptedText context count (take (5 * count) (stored file table)) ≡ printed file
     unfolding printed answered
     printed-rows = rw (stored-cells, ← room, ← e)

@@ -1,9 +1,8 @@
 -- Laws of rows and lines, a step at a time. Assumes nothing.
-use mathlib.Core.Path.{_≡_, refl, sym, ap, _∙_}
+use mathlib.Core.Path.{_≡_, refl, _∙_}
 use mathlib.Core.List.{List, [], _∷_, _++_, append-assoc}
-use Prim.Native.Nat.{ℕ, suc, _+_, _≤_, _<_}
+use Prim.Native.Nat.{ℕ, suc, _+_, _<_}
 use native.Mathlib.Omega.{arith}
-use lib.Dec.{eqb}
 use borrow.Author.Tests.{eq-eqb, ne-eqb}
 use lib.ListN.{length, take, drop, getD, length-drop}
 use lib.Seq.{take-suc, getD-drop}
@@ -11,7 +10,8 @@ use Rattle.laws.proofs.Choice.{pick-true, pick-false}
 use Rattle.tree.specs.Forms.{anExpression, classOf}
 use Rattle.tree.specs.Shapes.{formIn}
 use Rattle.parens.specs.Text.{space, decimal, spaced, lineOf, nodeText, linesOf}
-use Rattle.parens.proofs.Growing.{append-none}
+use Rattle.parens.specs.Growth.{Added}
+use Rattle.parens.proofs.Growing.{append-none, added-more}
 
 spaced-append : (s t : List ℕ) → spaced (s ++ t) ≡ spaced s ++ spaced t
 unfolding spaced
@@ -39,6 +39,10 @@ module _ (count : ℕ) (cells rows : List ℕ) where
     unfolding nodeText
     a-line h = rw (← is) (pick-true _ _ (eq-eqb class anExpression h))
 
-  pub lines-next : (n : ℕ) → linesOf count cells rows (n + 1) ≡ linesOf count cells rows n ++ nodeText count cells rows (n + 1)
+  lines-next : (n : ℕ) → linesOf count cells rows (n + 1) ≡ linesOf count cells rows n ++ nodeText count cells rows (n + 1)
   unfolding linesOf
   lines-next n = let e : n + 1 ≡ suc n = omega arith in rw e
+
+  -- a text that has grown by the lines of n nodes grows by the next one's
+  pub lines-more : (n : ℕ) {before after last : List ℕ} {end mid r : ℕ} → Added before end (linesOf count cells rows n) after mid → Added after mid (nodeText count cells rows (n + 1)) last r → Added before end (linesOf count cells rows (n + 1)) last r
+  lines-more n a b = rw (lines-next n) (added-more a b)

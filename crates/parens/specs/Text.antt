@@ -1,5 +1,4 @@
 -- Document 01, 'Decisions': what `parens` prints for a file, as ASCII codes.
-use mathlib.Core.Bool.{Bool}
 use mathlib.Core.List.{List, [], _∷_, _++_}
 use Prim.Native.Nat.{ℕ, zero, suc, _+_, _*_, _-_, _/_, _%_}
 use lib.Dec.{eqb, ltb}
@@ -20,7 +19,7 @@ space = 32
 abbrev pub newline : ℕ
 newline = 10
 
--- the decimal digits of n, at most k of them
+-- the last k decimal digits of n, or all where it has fewer; 48 is the code of `0`
 unfoldable pub decimalTo : ℕ → ℕ → List ℕ
 decimalTo zero n = []
 decimalTo (suc k) n = pick (ltb n 10) ((48 + n) ∷ []) (decimalTo k (n / 10) ++ ((48 + n % 10) ∷ []))
@@ -55,14 +54,14 @@ linesOf count cells rows (suc n) = linesOf count cells rows n ++ nodeText count 
 unfoldable pub rowsIn : ℕ → ℕ → List ℕ → List ℕ
 rowsIn context count cells = placed cells count 1 (rowsOf (rootHanded context) (treeAt cells count 1)) (replicate 20480 0)
 
--- "prints "ok" and the count, then for each expression its node number and row"
-unfoldable pub accepted : ℕ → ℕ → List ℕ → List ℕ
-accepted context count cells = headed 111 107 count ++ linesOf count cells (rowsIn context count cells) count
+-- "prints "ok" and the count, then for each expression its node number and row"; 111 107 spell `ok`
+unfoldable pub acceptedText : ℕ → ℕ → List ℕ → List ℕ
+acceptedText context count cells = headed 111 107 count ++ linesOf count cells (rowsIn context count cells) count
 
--- "on refusal only "no" and the number"
+-- "on refusal only "no" and the number"; 110 111 spell `no`
 unfoldable pub answered : List ℕ → Loaded → List ℕ
 answered cells (Refused n) = headed 110 111 n
-answered cells (Accepted context count) = accepted context count cells
+answered cells (Accepted context count) = acceptedText context count cells
 
 -- what is printed for a file, with a table of 4,096 nodes lent to the loader
 unfoldable pub printed : List ℕ → List ℕ

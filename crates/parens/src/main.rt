@@ -12,7 +12,7 @@ ghost use lib.ListN.{length, take, drop};
 ghost use Rattle.io.specs.Counts.{Counts};
 ghost use Rattle.tree.specs.Refusals.{refusal};
 ghost use Rattle.parens.specs.Growth.{Added};
-ghost use Rattle.parens.specs.Text.{decimal, spaced, headed, lineOf, nodeText, linesOf, accepted, printed};
+ghost use Rattle.parens.specs.Text.{decimal, spaced, headed, lineOf, nodeText, linesOf, acceptedText, printed};
 
 // One byte more than the longest file, so that a longer one shows.
 const FILE: usize = 65_537;
@@ -123,7 +123,7 @@ fn put_lines(out: &mut [u8], end: usize, count: u16, table: &[u16], rows: &[u16]
 // What is printed for an accepted table. It is not refused again: the walk's reply is 0.
 fn put_rows(out: &mut [u8], context: u16, count: u16, table: &[u16]) -> usize
     requires { ⌜ (refusal context count (now table) ≡ 0) × (count ≤ 4096) × (147465 ≤ length (now out)) ⌝ }
-    ensures { λ r. ⌜ Added (now (out .entry)) 0 (accepted context count (now (table .entry))) (now (out .exit)) r ⌝ }
+    ensures { λ r. ⌜ Added (now (out .entry)) 0 (acceptedText context count (now (table .entry))) (now (out .exit)) r ⌝ }
     ensures { λ r. ⌜ r ≤ 147465 ⌝ }
 {
     let mut rows = [0u16; CELLS];

@@ -1,7 +1,5 @@
 -- `parens::put_number` meets its contract: the number falls with each call. Assumes nothing.
-use mathlib.Core.Path.{sym, ap, _∙_}
-use Prim.Native.Nat.{ℕ, _<_, _+_, _≤_}
-use lib.ListN.{length, length-append}
+use Prim.Native.Nat.{ℕ, _<_}
 use native.Mathlib.Omega.{arith}
 use borrow.Author.Needs.{needs}
 use Rattle.parens.proofs.Digits.{decimal-one, decimal-more, length-one, length-more}

@@ -4,8 +4,8 @@ use Prim.Native.Nat.{_+_, _*_, _-_, _≤_}
 use native.Mathlib.Omega.{arith}
 use Rattle.parens.specs.Text.{linesOf}
 use Rattle.parens.specs.Growth.{Added}
-use Rattle.parens.proofs.Growing.{added-none, added-more}
-use Rattle.parens.proofs.Lines.{lines-next}
+use Rattle.parens.proofs.Growing.{added-none}
+use Rattle.parens.proofs.Lines.{lines-more}
 use Rattle.parens.proofs.put_lines.Statement.{statement}
 use Rattle.parens.proofs.put_lines.Tie as tie
 
@@ -30,8 +30,7 @@ loop-less c = omega arith
 
 loop-again : tie.Need-loop-again Inv-loop μ-loop
 loop-again c =
-    let l = c .before .before .before .before .before .loop in
-    (omega arith, omega arith, rw (lines-next _ _ _ (l .node)) (added-more (l .inv .2) (c .before .before .put-node .ensures .0)))
+    (omega arith, omega arith, lines-more _ _ _ _ (c .before .before .before .before .before .loop .inv .2) (c .before .before .put-node .ensures .0))
 
 same-length : tie.Need-same-length Inv-loop μ-loop
 same-length c = c .before .loop .inv .2 .room

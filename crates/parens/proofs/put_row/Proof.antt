@@ -3,7 +3,6 @@ use mathlib.Core.Path.{_≡_}
 use Prim.Native.Nat.{_+_, _*_, _-_, _≤_}
 use native.Mathlib.Omega.{arith}
 use lib.ListN.{take, drop, getD}
-use borrow.Author.Needs.{needs}
 use Rattle.parens.specs.Text.{spaced}
 use Rattle.parens.specs.Growth.{Added}
 use Rattle.parens.proofs.Digits.{length-decimal}

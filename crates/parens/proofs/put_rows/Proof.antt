@@ -1,9 +1,9 @@
 -- `parens::put_rows` meets its contract. Assumes nothing.
-use mathlib.Core.Path.{_≡_, refl, _∙_}
+use mathlib.Core.Path.{refl}
 use Prim.Native.Nat.{ℕ}
 use native.Mathlib.Omega.{arith}
 use lib.ListN.{length-replicate}
-use Rattle.parens.specs.Text.{rowsIn, accepted}
+use Rattle.parens.specs.Text.{acceptedText}
 use Rattle.parens.proofs.Growing.{added-more}
 use Rattle.parens.proofs.Files.{rows-placed}
 use borrow.Author.Needs.{needs}
@@ -32,10 +32,10 @@ same-length : tie.Need-same-length
 same-length c = search needs
 
 returns : tie.Need-returns
-unfolding accepted
+unfolding acceptedText
 returns c =
-    let a = c .before .before .before .before .before .before .before .before .before .before .before .before .before .before .before .before .args in
-    let e = c .before .before .before .before .before .before .before .before .before .before .before .decide .ensures .1 .0 ∙ rows-placed (a .context) (a .count) (a .table .now) _ _ (c .before .before .before .before .before .before .before .before .before .before .before .before .before .before .before .before .pre .0) (c .before .before .before .before .before .before .before .before .before .before .before .before .before .before .before .before .pre .1) refl (length-replicate {A = ℕ} 12288 0) in
+    let s = c .before .before .before .before .before .before .before .before .before .before .before .before .before .before .before .before in
+    let e = rows-placed (s .args .context) (s .args .count) (s .args .table .now) _ _ _ (s .pre .0) (s .pre .1) refl (length-replicate {A = ℕ} 12288 0) (c .before .before .before .before .before .before .before .before .before .before .before .decide .ensures .1 .0) in
     (rw (← e) (added-more (c .before .before .before .before .before .before .before .put-head .ensures .0) (c .before .before .put-lines .ensures .0)), omega arith)
 
 pub put-rows-spec : {M : Type 1} → statement M

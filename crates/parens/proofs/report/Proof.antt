@@ -1,11 +1,11 @@
 -- `parens::report` meets its contract. Assumes nothing.
-use mathlib.Core.Path.{_≡_, refl, sym, _∙_}
+use mathlib.Core.Path.{_≡_, sym, _∙_}
 use mathlib.Core.List.{List}
 use Prim.Native.Nat.{ℕ, _≤_}
 use native.Mathlib.Omega.{arith}
 use lib.ListN.{length, replicate, length-replicate}
 use lib.Seq.{length-take-le}
-use Rattle.parens.proofs.Files.{printed-refusal, count-most, stored-room, stored-cells, not-refused, printed-rows}
+use Rattle.parens.proofs.Files.{printed-refusal, count-most, stored-room, not-refused, printed-rows}
 use borrow.Author.Needs.{needs}
 use Rattle.parens.proofs.report.Statement.{statement}
 use Rattle.parens.proofs.report.Tie as tie
