@@ -1,0 +1,5 @@
+pub mod Tokens
+pub mod Levels
+pub mod Types
+pub mod Expressions
+pub mod Grammar
