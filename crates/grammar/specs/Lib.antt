@@ -3,3 +3,4 @@ pub mod Levels
 pub mod Types
 pub mod Expressions
 pub mod Grammar
+pub mod Parser
