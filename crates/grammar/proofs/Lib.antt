@@ -1,2 +1,4 @@
 pub mod Tokens
 pub mod Levels
+pub mod Answers
+pub mod Types
