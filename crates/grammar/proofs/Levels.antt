@@ -64,6 +64,9 @@ each-kind p h d k = subst (λ x. T (p x)) (at-level k) (all-in p postfixes byLev
 pub level-before : (k : Kind) → level k ≤ before k
 level-before k = leb→le (level k) (before k) (each-kind (λ x. leb (level x) (before x)) tt tt k)
 
+pub after-positive : (k : Kind) → 0 < after k
+after-positive k = ltb→lt 0 (after k) (each-kind (λ x. ltb 0 (after x)) tt tt k)
+
 -- What may follow an expression of kind k is not taken by an operand at its end.
 pub stays : (k j : Kind) → before j ≤ level k → level j < after k
 stays k j h =

@@ -2,3 +2,4 @@ pub mod Tokens
 pub mod Levels
 pub mod Answers
 pub mod Types
+pub mod Follows

@@ -42,12 +42,12 @@ fits c (cast a t) = AtLeast (before casts) a × fits c a
 fits c (member m a) = AtLeast (before postfixes) a × fits c a
 fits c (try a) = AtLeast (before postfixes) a × fits c a
 fits c (index a b) = AtLeast (before postfixes) a × fits c a × fits NONE b
-fits c (call a l) = AtLeast (before postfixes) a × CallMayFollow a × fits c a × fits NONE l
-fits c (method a l) = AtLeast (before postfixes) a × fits c a × fits NONE l
+fits c (call a l) = AtLeast (before postfixes) a × CallMayFollow a × fits c a × fits c l
+fits c (method a l) = AtLeast (before postfixes) a × fits c a × fits c l
 fits c noArguments = Unit {0}
 fits c (arguments l) = fits c l
-fits c (lastArgument a) = fits c a
-fits c (moreArguments a l) = fits c a × fits c l
+fits c (lastArgument a) = fits NONE a
+fits c (moreArguments a l) = fits NONE a × fits c l
 
 -- ---- readings
 
