@@ -3,3 +3,4 @@ pub mod Levels
 pub mod Answers
 pub mod Types
 pub mod Follows
+pub mod Complete
