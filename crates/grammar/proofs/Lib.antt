@@ -4,3 +4,4 @@ pub mod Answers
 pub mod Types
 pub mod Follows
 pub mod Complete
+pub mod Sound
