@@ -5,3 +5,4 @@ pub mod Types
 pub mod Follows
 pub mod Complete
 pub mod Sound
+pub mod Readings

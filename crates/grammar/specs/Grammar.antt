@@ -72,7 +72,7 @@ bare (moreArguments a l) = moreArguments (bare a) (bare l)
 -- "A reading of a token list is a tree that the grammar gives for the whole list":
 -- some parse tree fits, its tokens are exactly the list, and without its parentheses it is the tree.
 pub record Reading (c : Context) (tokens : List Token) (tree : Expr one) : Type 0 where
-  pub parse : Expr one
-  pub fit : fits c parse
-  pub whole : write parse [] ≡ tokens
-  pub left : bare parse ≡ tree
+  pub parsed : Expr one
+  pub fit : fits c parsed
+  pub whole : write parsed [] ≡ tokens
+  pub without : bare parsed ≡ tree
