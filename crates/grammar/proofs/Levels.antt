@@ -78,7 +78,7 @@ stays k j h =
     j))
 
 -- the kinds of operators
-operator-le : (f g : Kind → ℕ) → T (ofOperators (λ o. leb (f (kind o)) (g (kind o)))) → (o : Operator) → f (kind o) ≤ g (kind o)
+pub operator-le : (f g : Kind → ℕ) → T (ofOperators (λ o. leb (f (kind o)) (g (kind o)))) → (o : Operator) → f (kind o) ≤ g (kind o)
 operator-le f g h o = leb→le (f (kind o)) (g (kind o)) (each-operator (λ x. leb (f (kind x)) (g (kind x))) h o)
 
 pub operator-low : (o : Operator) → 1 ≤ level (kind o)

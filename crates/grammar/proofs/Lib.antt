@@ -6,3 +6,4 @@ pub mod Follows
 pub mod Complete
 pub mod Sound
 pub mod Readings
+pub mod Pairs

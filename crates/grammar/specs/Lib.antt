@@ -4,3 +4,4 @@ pub mod Types
 pub mod Expressions
 pub mod Grammar
 pub mod Parser
+pub mod Pairs
