@@ -7,3 +7,4 @@ pub mod Complete
 pub mod Sound
 pub mod Readings
 pub mod Pairs
+pub mod Needed
