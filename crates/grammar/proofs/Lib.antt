@@ -8,3 +8,4 @@ pub mod Sound
 pub mod Readings
 pub mod Pairs
 pub mod Needed
+pub mod Injective
