@@ -9,3 +9,5 @@ pub mod Readings
 pub mod Pairs
 pub mod Needed
 pub mod Injective
+pub mod Theorems
+pub mod Examples
