@@ -9,5 +9,6 @@ pub mod Readings
 pub mod Pairs
 pub mod Needed
 pub mod Injective
+pub mod Removed
 pub mod Theorems
 pub mod Examples
