@@ -1,19 +1,17 @@
 -- The parser reads back what a fitting tree writes, whatever stands after it that may follow it. Assumes nothing.
-use mathlib.Core.Path.{_≡_, refl, sym, subst, ap, _∙_}
+use mathlib.Core.Path.{_≡_, refl, sym, subst, _∙_}
 use mathlib.Core.Bool.{Bool, true, false, _&&_}
 use mathlib.Core.List.{List, _∷_}
 use Prim.Native.Nat.{ℕ, zero, suc, _+_, _-_, _*_, _≤_, _<_}
 use native.Mathlib.Omega.{arith}
 use lib.ListN.{length}
-use borrow.Author.Tests.{eqb-true}
 use Rattle.laws.specs.Choice.{pick, lookup}
-use Rattle.laws.proofs.Choice.{and-true, true-not-false}
 use Rattle.grammar.specs.Tokens.{Lt, Token, operator, As, Name, Dot, LeftParen, RightParen, LeftBracket, RightBracket, Comma, Question}
-use Rattle.grammar.specs.Levels.{prefixes, kind, level, before, after}
-use Rattle.grammar.specs.Types.{Sort, one, list, items, Ty, writeType, typeEndsInName}
+use Rattle.grammar.specs.Levels.{prefixes, kind, level, after}
+use Rattle.grammar.specs.Types.{Sort, one, list, items, Ty, writeType}
 use Rattle.grammar.specs.Expressions.{Atom, path, literal, Prefix, neg, deref, invert, ref, refMut, Member, byName, byNumber, awaited, Expr, atom, paren, prefix, binary, cast, member, try, index, call, method, noArguments, arguments, lastArgument, moreArguments, atomToken, prefixToken, memberToken, write, kindOf}
 use Rattle.grammar.specs.Grammar.{Context, NONE, opensArguments, fits}
-use Rattle.grammar.specs.Parser.{Out, fail, ok, then, tail, isFirst, startOf, start, anAtom, aPrefix, AfterDot, noMember, aMember, afterDotOf, afterDot, isByName, Next, stops, operates, castsTo, dots, calls, indexes, tries, next, levelAt, goesOn, typeBy, exprBy, onBy, argumentsBy, someArgumentsBy}
+use Rattle.grammar.specs.Parser.{Out, fail, ok, then, tail, isFirst, startOf, anAtom, aPrefix, AfterDot, noMember, aMember, afterDotOf, afterDot, isByName, Next, stops, operates, castsTo, dots, calls, indexes, tries, next, levelAt, goesOn, typeBy, exprBy, onBy, argumentsBy, someArgumentsBy}
 use Rattle.grammar.proofs.Tokens.{first-is}
 use Rattle.grammar.proofs.Levels.{level-before, operator-low, operator-high, after-low}
 use Rattle.grammar.proofs.Types.{typeSize, reads-type, slack, type-bound, TypeMayEnd}

@@ -4,7 +4,7 @@ use mathlib.Core.Bool.{false}
 use mathlib.Core.List.{List, [], _∷_}
 use Prim.Native.Nat.{ℕ}
 use Rattle.laws.specs.Choice.{pick, lookup}
-use Rattle.grammar.specs.Tokens.{Operator, Add, Sub, Mul, Eq, Lt, Le, Assign, Token}
+use Rattle.grammar.specs.Tokens.{Add, Sub, Mul, Eq, Lt, Le, Assign, Token}
 use Rattle.grammar.specs.Types.{one, named, applied, types, lastType}
 use Rattle.grammar.specs.Expressions.{path, neg, byName, byNumber, Expr, atom, paren, prefix, binary, cast, member, try, call, method, noArguments, arguments, lastArgument}
 use Rattle.grammar.specs.Grammar.{NONE, opensArguments}

@@ -1,11 +1,11 @@
 -- What may follow an expression: the grammar's rules, as the parser tests them. Assumes nothing.
-use mathlib.Core.Path.{_≡_, refl, sym, _∙_}
+use mathlib.Core.Path.{_≡_, refl, sym}
 use mathlib.Core.Bool.{Bool, true, false, not, _&&_}
 use Prim.Native.Nat.{ℕ, _≤_, _<_}
 use native.Mathlib.Omega.{arith}
 use lib.Dec.{leb}
 use borrow.Author.Tests.{le-leb, lt-leb, leb-true}
-use Rattle.laws.proofs.Choice.{and-true, true-not-false}
+use Rattle.laws.proofs.Choice.{and-true}
 use Rattle.grammar.specs.Levels.{casts, postfixes, kind, level, before, after}
 use Rattle.grammar.specs.Types.{one}
 use Rattle.grammar.specs.Expressions.{Expr, kindOf, endsInTypeName, endsInDotName}

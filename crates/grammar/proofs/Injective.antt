@@ -1,14 +1,19 @@
 -- Two parse trees that are one tree but for parentheses, and write the same tokens, are equal. No level is needed for this. Assumes nothing.
 use mathlib.Core.Path.{_≡_, refl, sym, subst, ap, ap₂, _∙_}
+use mathlib.Core.Bool.{false}
 use mathlib.Core.List.{List, [], _∷_}
 use mathlib.Core.Logic.{_⊎_, inl, inr}
 use Prim.Native.Nat.{ℕ, zero, suc, _+_}
 use native.Mathlib.Nat.{add-zero, add-suc, zero-add, suc-add}
 use native.Mathlib.Omega.{arith}
-use Rattle.grammar.specs.Tokens.{Gt, Token, operator, As, Name, Dot, LeftParen, RightParen, LeftBracket, RightBracket, Comma, Question}
+use lib.Dec.{eqb}
+use borrow.Author.Tests.{eq-eqb, ne-eqb}
+use Rattle.laws.proofs.Choice.{true-not-false}
+use Rattle.grammar.specs.Tokens.{Operator, Sub, Mul, BitAnd, Gt, number, Token, operator, code, Bang, AndMut, As, Name, Literal, Dot, LeftParen, RightParen, LeftBracket, RightBracket, Comma, Question}
 use Rattle.grammar.specs.Types.{Sort, one, list, items, Ty, named, applied, pointing, sign, noTypes, types, lastType, moreTypes, writeType}
 use Rattle.grammar.specs.Expressions.{Atom, path, literal, Prefix, neg, deref, invert, ref, refMut, Expr, atom, paren, prefix, binary, cast, member, try, index, call, method, noArguments, arguments, lastArgument, moreArguments, atomToken, prefixToken, memberToken, write}
 use Rattle.grammar.specs.Grammar.{bare}
+use Rattle.grammar.proofs.Tokens.{number-below}
 
 -- ---- counted parentheses
 
@@ -204,16 +209,22 @@ fresh : (e : ℕ) (c : Token) (u v : List Token) → (c ≡ LeftParen → ⊥) �
 fresh zero c u v n h = (refl, cc)
 fresh (suc e) c u v n h = absurd (n (cc))
 
+distinct : (t u : Token) → eqb (code t) (code u) ≡ false → t ≡ u → ⊥
+distinct t u h e = true-not-false (sym (eq-eqb (code t) (code u) (ap code e)) ∙ h)
+
+operator-open : (o : Operator) → operator o ≡ RightParen → ⊥
+operator-open o = distinct (operator o) RightParen (ne-eqb (number o) 36 (λ e. omega (arith, number-below o)))
+
 atom-closed : (x : Atom) → atomToken x ≡ LeftParen → ⊥
-atom-closed path h = let z : _≡_ {A = ℕ} 0 1 = cc in omega arith
-atom-closed literal h = let z : _≡_ {A = ℕ} 0 1 = cc in omega arith
+atom-closed path = distinct Name LeftParen refl
+atom-closed literal = distinct Literal LeftParen refl
 
 prefix-closed : (p : Prefix) → prefixToken p ≡ LeftParen → ⊥
-prefix-closed neg h = let z : _≡_ {A = ℕ} 0 1 = cc in omega arith
-prefix-closed deref h = let z : _≡_ {A = ℕ} 0 1 = cc in omega arith
-prefix-closed invert h = let z : _≡_ {A = ℕ} 0 1 = cc in omega arith
-prefix-closed ref h = let z : _≡_ {A = ℕ} 0 1 = cc in omega arith
-prefix-closed refMut h = let z : _≡_ {A = ℕ} 0 1 = cc in omega arith
+prefix-closed neg = distinct (operator Sub) LeftParen refl
+prefix-closed deref = distinct (operator Mul) LeftParen refl
+prefix-closed invert = distinct Bang LeftParen refl
+prefix-closed ref = distinct (operator BitAnd) LeftParen refl
+prefix-closed refMut = distinct AndMut LeftParen refl
 
 same : (s : Sort) (t : Expr s) → NoParens t → Same s t
 same s (atom a) k = λ x y e u v h. let r = fresh e (atomToken a) u v (atom-closed a) h in (r .0, refl, r .1)
@@ -223,28 +234,28 @@ same s (prefix p a) k = λ x y e u v h.
     let q = inner a (same one a k) (x .1) (y .1) (x .0) (y .0) u v (r .1) in
     (r .0, ap (prefix p) (q .0), q .1)
 same s (binary o a b) k = λ x y e u v h.
-    let r = before a (same one a (k .0)) (x .1) (y .1) (x .0) (y .0) e (operator o) (write (parens (x .2) (put b (x .3))) u) (write (parens (y .2) (put b (y .3))) v) (λ q. let z : _≡_ {A = ℕ} 0 1 = cc in omega arith) h in
+    let r = before a (same one a (k .0)) (x .1) (y .1) (x .0) (y .0) e (operator o) (write (parens (x .2) (put b (x .3))) u) (write (parens (y .2) (put b (y .3))) v) (operator-open o) h in
     let q = inner b (same one b (k .1)) (x .3) (y .3) (x .2) (y .2) u v (r .2) in
     (r .0, ap₂ (binary o) (r .1) (q .0), q .1)
 same s (cast a t) k = λ x y e u v h.
-    let r = before a (same one a k) (x .1) (y .1) (x .0) (y .0) e As (writeType t u) (writeType t v) (λ q. let z : _≡_ {A = ℕ} 0 1 = cc in omega arith) h in
+    let r = before a (same one a k) (x .1) (y .1) (x .0) (y .0) e As (writeType t u) (writeType t v) (distinct As RightParen refl) h in
     (r .0, ap (λ z. cast z t) (r .1), type-same t u v (r .2))
 same s (member m a) k = λ x y e u v h.
-    let r = before a (same one a k) (x .1) (y .1) (x .0) (y .0) e Dot (memberToken m ∷ u) (memberToken m ∷ v) (λ q. let z : _≡_ {A = ℕ} 0 1 = cc in omega arith) h in
+    let r = before a (same one a k) (x .1) (y .1) (x .0) (y .0) e Dot (memberToken m ∷ u) (memberToken m ∷ v) (distinct Dot RightParen refl) h in
     (r .0, ap (member m) (r .1), cc (r .2))
 same s (try a) k = λ x y e u v h.
-    let r = before a (same one a k) (x .1) (y .1) (x .0) (y .0) e Question u v (λ q. let z : _≡_ {A = ℕ} 0 1 = cc in omega arith) h in
+    let r = before a (same one a k) (x .1) (y .1) (x .0) (y .0) e Question u v (distinct Question RightParen refl) h in
     (r .0, ap try (r .1), r .2)
 same s (index a b) k = λ x y e u v h.
-    let r = before a (same one a (k .0)) (x .1) (y .1) (x .0) (y .0) e LeftBracket (write (parens (x .2) (put b (x .3))) (RightBracket ∷ u)) (write (parens (y .2) (put b (y .3))) (RightBracket ∷ v)) (λ q. let z : _≡_ {A = ℕ} 0 1 = cc in omega arith) h in
+    let r = before a (same one a (k .0)) (x .1) (y .1) (x .0) (y .0) e LeftBracket (write (parens (x .2) (put b (x .3))) (RightBracket ∷ u)) (write (parens (y .2) (put b (y .3))) (RightBracket ∷ v)) (distinct LeftBracket RightParen refl) h in
     let q = inner b (same one b (k .1)) (x .3) (y .3) (x .2) (y .2) (RightBracket ∷ u) (RightBracket ∷ v) (r .2) in
     (r .0, ap₂ index (r .1) (q .0), cc (q .1))
 same s (call a l) k = λ x y e u v h.
-    let r = before a (same one a (k .0)) (x .1) (y .1) (x .0) (y .0) e LeftParen (write (put l (x .2)) u) (write (put l (y .2)) v) (λ q. let z : _≡_ {A = ℕ} 0 1 = cc in omega arith) h in
+    let r = before a (same one a (k .0)) (x .1) (y .1) (x .0) (y .0) e LeftParen (write (put l (x .2)) u) (write (put l (y .2)) v) (distinct LeftParen RightParen refl) h in
     let q = same list l (k .1) (x .2) (y .2) u v (r .2) in
     (r .0, ap₂ call (r .1) (q .0), q .1)
 same s (method a l) k = λ x y e u v h.
-    let r = before a (same one a (k .0)) (x .1) (y .1) (x .0) (y .0) e Dot (Name ∷ LeftParen ∷ write (put l (x .2)) u) (Name ∷ LeftParen ∷ write (put l (y .2)) v) (λ q. let z : _≡_ {A = ℕ} 0 1 = cc in omega arith) h in
+    let r = before a (same one a (k .0)) (x .1) (y .1) (x .0) (y .0) e Dot (Name ∷ LeftParen ∷ write (put l (x .2)) u) (Name ∷ LeftParen ∷ write (put l (y .2)) v) (distinct Dot RightParen refl) h in
     let q = same list l (k .1) (x .2) (y .2) u v (cc (r .2)) in
     (r .0, ap₂ method (r .1) (q .0), q .1)
 same s noArguments k = λ x y u v h. (refl, cc)

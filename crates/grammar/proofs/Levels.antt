@@ -2,7 +2,7 @@
 use mathlib.Core.Path.{_≡_, refl, sym, subst, ap₂, _∙_}
 use mathlib.Core.Bool.{Bool, true, false, not, _||_}
 use mathlib.Core.List.{List, [], _∷_}
-use Prim.Native.Nat.{ℕ, suc, _≤_, _<_}
+use Prim.Native.Nat.{ℕ, _≤_, _<_}
 use native.Mathlib.Omega.{arith}
 use lib.Dec.{T, eqb, leb, ltb, eqb→eq, leb→le, ltb→lt}
 use lib.ListN.{getD}
@@ -10,7 +10,7 @@ use borrow.Author.Tests.{eqb-true, le-leb}
 use Rattle.laws.specs.Choice.{pick, lookup}
 use Rattle.precedence.specs.declared.Precedence.the-variants.{Cast, Prefix, Unambiguous}
 use Rattle.precedence.specs.declared.Precedence.the-variants.{Assign as AssignPrecedence}
-use Rattle.precedence.specs.Precedences.{rankOf, below, operators, ofBinop}
+use Rattle.precedence.specs.Precedences.{rankOf, operators, ofBinop}
 use Rattle.precedence.specs.Reference.{weaker}
 use Rattle.precedence.proofs.Levels.{levels-agree}
 use Rattle.grammar.specs.Tokens.{Operator, Assign, number}

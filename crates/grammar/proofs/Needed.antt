@@ -1,8 +1,8 @@
 -- Without one of its pairs a tree does not fit, though it is the same tree but for parentheses. Assumes nothing.
 use mathlib.Core.Path.{_≡_, refl, sym, ap, ap₂, _∙_}
 use mathlib.Core.Bool.{Bool, true, false, _&&_, _||_}
-use mathlib.Core.Logic.{_⊎_, inl, inr}
-use Prim.Native.Nat.{ℕ, _≤_, _<_}
+use mathlib.Core.Logic.{inl, inr}
+use Prim.Native.Nat.{ℕ, _<_}
 use native.Mathlib.Omega.{arith}
 use lib.Dec.{ltb}
 use borrow.Author.Tests.{ltb-true, le-ltb}
@@ -13,7 +13,7 @@ use Rattle.grammar.specs.Levels.{casts, prefixes, postfixes, kind, level
 use Rattle.grammar.specs.Types.{Sort, one, list, items}
 use Rattle.grammar.specs.Expressions.{Expr, atom, paren, prefix, binary, cast, member, try, index, call, method, noArguments, arguments, lastArgument, moreArguments, kindOf, endsInTypeName, endsInDotName}
 use Rattle.grammar.specs.Grammar.{Context, NONE, AtLeast, opensArguments, OperatorMayFollow, CallMayFollow, fits, bare}
-use Rattle.grammar.specs.Pairs.{isCastToName, strength, tooWeak, tooWeakAfter, tooWeakBefore, tooWeakToCall, withPair, addPairs, PairAt, Pair, dropAt, dropPair}
+use Rattle.grammar.specs.Pairs.{isCastToName, strength, tooWeak, tooWeakAfter, tooWeakBefore, tooWeakToCall, addPairs, PairAt, Pair, dropAt, dropPair}
 use Rattle.grammar.proofs.Pairs.{with-bare, bare-pairs, same-kind, same-dot-name, lowest, lowest-after}
 
 -- ---- it is the same tree but for parentheses

@@ -1,9 +1,9 @@
 -- With the pairs a tree fits the grammar, and is the same tree but for parentheses. Assumes nothing.
-use mathlib.Core.Path.{_≡_, refl, sym, ap, ap₂, _∙_}
+use mathlib.Core.Path.{_≡_, refl, ap, ap₂, _∙_}
 use mathlib.Core.Bool.{Bool, true, false, not, _&&_, _||_}
-use Prim.Native.Nat.{ℕ, suc, pred, _≤_, _<_}
+use Prim.Native.Nat.{ℕ, suc, pred, _≤_}
 use native.Mathlib.Omega.{arith}
-use lib.Dec.{T, leb, ltb, leb→le}
+use lib.Dec.{leb, leb→le}
 use borrow.Author.Tests.{le-leb, ltb-false}
 use Rattle.laws.specs.Choice.{pick}
 use Rattle.laws.proofs.Choice.{or-false}
@@ -13,7 +13,7 @@ use Rattle.grammar.specs.Types.{Sort, one, typeEndsInName}
 use Rattle.grammar.specs.Expressions.{Member, byName, byNumber, awaited, Expr, atom, paren, prefix, binary, cast, member, try, index, call, method, noArguments, arguments, lastArgument, moreArguments, kindOf, endsInTypeName, endsInDotName}
 use Rattle.grammar.specs.Grammar.{Context, NONE, AtLeast, opensArguments, OperatorMayFollow, CallMayFollow, fits, bare}
 use Rattle.grammar.specs.Pairs.{isCastToName, strength, tooWeak, lowestRight, tooWeakAfter, tooWeakBefore, tooWeakToCall, withPair, addPairs}
-use Rattle.grammar.proofs.Tokens.{each-operator, ofOperators}
+use Rattle.grammar.proofs.Tokens.{each-operator}
 use Rattle.grammar.proofs.Levels.{operator-le, operator-high, before-low, before-high, after-high}
 use Rattle.grammar.proofs.Complete.{low}
 

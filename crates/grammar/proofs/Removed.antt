@@ -2,7 +2,7 @@
 use mathlib.Core.Path.{_≡_, refl, sym, ap, _∙_}
 use mathlib.Core.Bool.{Bool, true, false}
 use mathlib.Core.List.{List, [], _∷_, _++_}
-use mathlib.Core.Logic.{_⊎_, inl, inr}
+use mathlib.Core.Logic.{inl, inr}
 use Rattle.grammar.specs.Tokens.{Lt, Gt, Token, operator, As, Name, Dot, LeftParen, RightParen, LeftBracket, RightBracket, Comma, Question}
 use Rattle.grammar.specs.Levels.{casts, prefixes, postfixes, before, after}
 use Rattle.grammar.specs.Types.{Sort, one, Ty, named, applied, pointing, sign, noTypes, types, lastType, moreTypes, typePrefixToken, writeType}

@@ -6,9 +6,9 @@ use Prim.Native.Nat.{ℕ, zero, suc, _≤_}
 use native.Mathlib.Omega.{arith}
 use Rattle.laws.proofs.Choice.{and-true, true-not-false}
 use Rattle.grammar.specs.Tokens.{Token, operator, As, Name, Dot, LeftParen, RightParen, LeftBracket, RightBracket, Comma, Question}
-use Rattle.grammar.specs.Levels.{prefixes, postfixes, kind, level, before, after}
+use Rattle.grammar.specs.Levels.{prefixes, kind, after}
 use Rattle.grammar.specs.Types.{Sort, one, list, items}
-use Rattle.grammar.specs.Expressions.{Member, byName, byNumber, awaited, Expr, atom, paren, prefix, binary, cast, member, try, index, call, method, noArguments, arguments, lastArgument, moreArguments, atomToken, prefixToken, memberToken, write, kindOf}
+use Rattle.grammar.specs.Expressions.{Member, byName, byNumber, awaited, Expr, atom, paren, prefix, binary, cast, member, try, index, call, method, noArguments, arguments, lastArgument, moreArguments, prefixToken, memberToken, write}
 use Rattle.grammar.specs.Grammar.{Context, NONE, AtLeast, fits}
 use Rattle.grammar.specs.Parser.{Out, fail, ok, then, tail, isFirst, Start, noStart, anAtom, aPrefix, aGroup, start, AfterDot, noMember, aMember, afterDot, isByName, Next, stops, operates, castsTo, dots, calls, indexes, tries, next, levelAt, goesOn, typeBy, exprBy, onBy, argumentsBy, someArgumentsBy}
 use Rattle.grammar.proofs.Tokens.{first-is, start-is, after-dot-is, next-is}

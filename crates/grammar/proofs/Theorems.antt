@@ -1,5 +1,5 @@
 -- The theorems on pairs, in terms of readings (specs/Grammar). That there is at most one reading stands in Readings. Assumes nothing.
-use mathlib.Core.Path.{_≡_, refl, subst}
+use mathlib.Core.Path.{refl, subst}
 use mathlib.Core.Bool.{false}
 use mathlib.Core.List.{[]}
 use Rattle.grammar.specs.Types.{one}

@@ -7,7 +7,7 @@ use Prim.Native.Nat.{ℕ, suc}
 use lib.Dec.{ltb}
 use Rattle.laws.specs.Choice.{pick}
 use Rattle.grammar.specs.Tokens.{Operator, Token, LeftParen, RightParen}
-use Rattle.grammar.specs.Levels.{Kind, casts, prefixes, postfixes, Lean, left, right, neither, kind, level, lean, before, after}
+use Rattle.grammar.specs.Levels.{casts, prefixes, postfixes, Lean, left, right, neither, kind, level, lean, before, after}
 use Rattle.grammar.specs.Types.{Sort, one, typeEndsInName}
 use Rattle.grammar.specs.Expressions.{Expr, atom, paren, prefix, binary, cast, member, try, index, call, method, noArguments, arguments, lastArgument, moreArguments, kindOf, endsInDotName}
 use Rattle.grammar.specs.Grammar.{opensArguments}
