@@ -1,0 +1,14 @@
+pub mod Tokens
+pub mod Levels
+pub mod Answers
+pub mod Types
+pub mod Follows
+pub mod Complete
+pub mod Sound
+pub mod Readings
+pub mod Pairs
+pub mod Needed
+pub mod Injective
+pub mod Removed
+pub mod Theorems
+pub mod Examples

@@ -1,0 +1,45 @@
+-- A token list has at most one reading, and the parser finds it exactly where there is one. Assumes nothing.
+use mathlib.Core.Path.{_≡_, refl, sym, subst, ap, _∙_}
+use mathlib.Core.List.{List, []}
+use Prim.Native.Nat.{_*_}
+use native.Mathlib.Omega.{arith}
+use lib.ListN.{length}
+use Rattle.grammar.specs.Tokens.{Token}
+use Rattle.grammar.specs.Types.{one}
+use Rattle.grammar.specs.Expressions.{Expr, write}
+use Rattle.grammar.specs.Grammar.{Context, fits, bare, Reading}
+use Rattle.grammar.specs.Parser.{ok, parse}
+use Rattle.grammar.proofs.Answers.{Good}
+use Rattle.grammar.proofs.Complete.{low, bound, reads-whole, reads}
+use Rattle.grammar.proofs.Sound.{Sound, sound}
+
+pub complete : (c : Context) (e : Expr one) → fits c e → parse c (write e []) ≡ ok e []
+unfolding parse
+complete c e k =
+    reads-whole c e (reads one c e k) 1 (2 * length (write e [])) [] (omega (arith, bound one e [])) (low e) tt (omega arith)
+
+pub correct : (c : Context) (ts : List Token) (e : Expr one) → parse c ts ≡ ok e [] → fits c e × (write e [] ≡ ts)
+unfolding parse
+correct c ts e h =
+    let g : Sound c 1 ts e [] = subst (Good (Sound c 1 ts)) h (sound (2 * length ts) .0 c 1 ts (omega arith)) in
+    (g .0, g .2)
+
+-- Fitting trees that write the same tokens are one.
+pub one-parse : (c : Context) (d e : Expr one) → fits c d → fits c e → write d [] ≡ write e [] → d ≡ e
+one-parse c d e h k q =
+    let p = complete c d h in
+    let r = complete c e k in
+    cc
+
+-- At most one reading.
+pub one-reading : (c : Context) (ts : List Token) (t u : Expr one) → Reading c ts t → Reading c ts u → t ≡ u
+one-reading c ts t u r s =
+    sym (r .without) ∙ ap bare (one-parse c (r .parsed) (s .parsed) (r .fit) (s .fit) (r .whole ∙ sym (s .whole))) ∙ s .without
+
+-- What the parser gives for the whole list is a reading,
+pub found : (c : Context) (ts : List Token) (e : Expr one) → parse c ts ≡ ok e [] → Reading c ts (bare e)
+found c ts e h = record { parsed = e; fit = correct c ts e h .0; whole = correct c ts e h .1; without = refl }
+
+-- and each reading is what the parser gives.
+pub finds : (c : Context) (ts : List Token) (t : Expr one) → Reading c ts t → (e : Expr one) × (parse c ts ≡ ok e []) × (bare e ≡ t)
+finds c ts t r = (r .parsed, subst (λ x. parse c x ≡ ok (r .parsed) []) (r .whole) (complete c (r .parsed) (r .fit)), r .without)

@@ -1,0 +1,7 @@
+pub mod Tokens
+pub mod Levels
+pub mod Types
+pub mod Expressions
+pub mod Grammar
+pub mod Parser
+pub mod Pairs

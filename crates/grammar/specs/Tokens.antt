@@ -1,0 +1,68 @@
+-- The plain tokens and their codes (document 01, 'Plain tokens and their grammar').
+use Prim.Native.Nat.{ℕ}
+
+-- The operators of Binary, and the `=` of Assign.
+pub data Operator : Type 0 where
+  Add Sub Mul Div Rem And Or BitXor BitAnd BitOr Shl Shr Eq Lt Le Ne Ge Gt : Operator
+  AddAssign SubAssign MulAssign DivAssign RemAssign BitXorAssign BitAndAssign BitOrAssign ShlAssign ShrAssign : Operator
+  Assign : Operator
+
+-- "Binary 0 to 27: Add Sub Mul Div Rem And Or BitXor BitAnd BitOr Shl Shr Eq Lt Le Ne Ge Gt,
+-- then assigning Add Sub Mul Div Rem BitXor BitAnd BitOr Shl Shr"; "28 `=`"
+abbrev pub number : Operator → ℕ
+number Add = 0
+number Sub = 1
+number Mul = 2
+number Div = 3
+number Rem = 4
+number And = 5
+number Or = 6
+number BitXor = 7
+number BitAnd = 8
+number BitOr = 9
+number Shl = 10
+number Shr = 11
+number Eq = 12
+number Lt = 13
+number Le = 14
+number Ne = 15
+number Ge = 16
+number Gt = 17
+number AddAssign = 18
+number SubAssign = 19
+number MulAssign = 20
+number DivAssign = 21
+number RemAssign = 22
+number BitXorAssign = 23
+number BitAndAssign = 24
+number BitOrAssign = 25
+number ShlAssign = 26
+number ShrAssign = 27
+number Assign = 28
+
+pub data Token : Type 0 where
+  operator : Operator → Token
+  Bang AndMut As Name Literal Dot LeftParen RightParen LeftBracket RightBracket : Token
+  Comma Question StarConst StarMut Underscore NumberedMember Await : Token
+
+-- "Codes 0 to 27 spell the operators; 28 `=`, 29 `!`, 30 `&mut`, 31 `as`, 32 name, 33 literal, 34 `.`, 35 to 38 `( ) [ ]`,
+-- 39 comma, 40 `?`, 41 `*const`, 42 `*mut`, 43 `_`, 44 numbered member, 45 await."
+abbrev pub code : Token → ℕ
+code (operator o) = number o
+code Bang = 29
+code AndMut = 30
+code As = 31
+code Name = 32
+code Literal = 33
+code Dot = 34
+code LeftParen = 35
+code RightParen = 36
+code LeftBracket = 37
+code RightBracket = 38
+code Comma = 39
+code Question = 40
+code StarConst = 41
+code StarMut = 42
+code Underscore = 43
+code NumberedMember = 44
+code Await = 45
