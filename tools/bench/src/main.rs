@@ -1,9 +1,9 @@
 //! Times tezhukor_decide beside the crate's own decisions, on the same trees, in
 //! one run.
 //!
-//!     cargo run --release                   nanoseconds a node
-//!     cargo run --release -- instructions   instructions a node, with valgrind
-//!     cargo run --release -- once SET SIDE  what valgrind and perf look at
+//!     cargo run --release                         nanoseconds a node
+//!     cargo run --release -- instructions         instructions a node, with valgrind
+//!     cargo run --release -- run SET SIDE TIMES   what valgrind and perf look at
 //!
 //! Inside the timing of each side, for one tree:
 //!
@@ -49,9 +49,10 @@ fn main() -> ExitCode {
     match arguments.iter().map(String::as_str).collect::<Vec<_>>()[..] {
         [] => time_all(),
         ["instructions"] => count_all(),
-        ["once", set, side] => match (set.parse::<usize>(), side.parse::<usize>()) {
-            (Ok(set), Ok(side)) if set < SETS.len() && side < Side::ALL.len() => {
-                run_once(&mut prepare(&SETS[set]), Side::ALL[side]);
+        ["run", set, side, times] => match (SETS.get(number(set)), Side::ALL.get(number(side))) {
+            (Some(set), Some(&side)) => {
+                let mut trees = prepare(set);
+                (0..number(times)).for_each(|_| run_once(&mut trees, side));
             }
             _ => return usage(),
         },
@@ -61,8 +62,12 @@ fn main() -> ExitCode {
 }
 
 fn usage() -> ExitCode {
-    eprintln!("usage: bench [instructions | once SET SIDE], both numbers from 0 on");
+    eprintln!("usage: bench [instructions | run SET SIDE TIMES], sets and sides from 0 on");
     ExitCode::FAILURE
+}
+
+fn number(argument: &str) -> usize {
+    argument.parse().expect("a number")
 }
 
 fn prepare(set: &Set) -> Vec<Prepared> {
@@ -75,6 +80,7 @@ fn time_all() {
         let mut trees = prepare(set);
         trees.iter_mut().for_each(Prepared::check);
         let times = medians(&mut trees);
+        eprintln!("between the quartiles, {}", set.name);
         line(set, &trees, times);
     }
 }
@@ -89,30 +95,39 @@ fn count_all() {
     }
 }
 
+const COLUMNS: [&str; 10] = [
+    "trees",
+    "nodes",
+    "expressions",
+    "ours",
+    "of it, checks",
+    "the crate, rows",
+    "the crate, printing",
+    "ours / rows",
+    "ours / printing",
+    "ours without checks / rows",
+];
+
 fn heading(unit: &str) {
-    println!(
-        "| {unit} a node | trees | nodes | ours | of it, checks | the crate, rows | the crate, printing | ours / rows | ours / printing | ours without checks / rows |"
-    );
-    println!("|---|---:|---:|---:|---:|---:|---:|---:|---:|---:|");
+    println!("| {unit} a node | {} |", COLUMNS.join(" | "));
+    println!("|---|{}", "---:|".repeat(COLUMNS.len()));
 }
 
 fn line(set: &Set, trees: &[Prepared], [ours, checks, rows, printing]: [f64; 4]) {
-    println!(
-        "| {} | {} | {} | {ours:.1} | {checks:.1} | {rows:.1} | {printing:.1} | {:.2} | {:.2} | {:.2} |",
-        set.name,
-        trees.len(),
-        nodes(trees),
-        ours / rows,
-        ours / printing,
-        (ours - checks) / rows,
-    );
+    let expressions: u64 = trees.iter().map(Prepared::expressions).sum();
+    let ratios = [ours / rows, ours / printing, (ours - checks) / rows];
+    let times = [ours, checks, rows, printing].map(|time| format!("{time:.1}")).join(" | ");
+    let ratios = ratios.map(|ratio| format!("{ratio:.2}")).join(" | ");
+    let (name, count, nodes) = (set.name, trees.len(), nodes(trees));
+    println!("| {name} | {count} | {nodes} | {expressions} | {times} | {ratios} |");
 }
 
 fn nodes(trees: &[Prepared]) -> u64 {
     trees.iter().map(Prepared::nodes).sum()
 }
 
-/// Each side's nanoseconds a node, the median of all rounds.
+/// Each side's nanoseconds a node, the median of all rounds. How far apart the
+/// quartiles are goes to standard error.
 fn medians(trees: &mut [Prepared]) -> [f64; 4] {
     let nodes = nodes(trees);
     let repeats = Side::ALL.map(|side| {
@@ -128,7 +143,9 @@ fn medians(trees: &mut [Prepared]) -> [f64; 4] {
     }
     times.map(|mut times| {
         times.sort_by(f64::total_cmp);
-        times[ROUNDS / 2]
+        let (low, median, high) = (times[ROUNDS / 4], times[ROUNDS / 2], times[3 * ROUNDS / 4]);
+        eprint!("{:.0}% ", 100.0 * (high - low) / median);
+        median
     })
 }
 
@@ -150,12 +167,13 @@ fn run_once(trees: &mut [Prepared], side: Side) {
     }
 }
 
-/// How many instructions `run_once` takes, as callgrind counts them.
+/// How many instructions `run_once` takes, as callgrind counts them. It counts one
+/// for each byte that `rep stosb` fills, as memset does for some kilobytes.
 fn instructions(set: usize, side: usize) -> u64 {
     let output = Command::new("valgrind")
         .args(["--tool=callgrind", "--callgrind-out-file=/dev/null", "--toggle-collect=run_once"])
         .arg(std::env::current_exe().expect("a program that runs"))
-        .args(["once", &set.to_string(), &side.to_string()])
+        .args(["run", &set.to_string(), &side.to_string(), "1"])
         .output()
         .expect("valgrind");
     let told = String::from_utf8_lossy(&output.stderr);

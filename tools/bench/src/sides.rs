@@ -1,7 +1,8 @@
 //! What is timed.
 
 use oracle::direct::{context_of_root, Context};
-use oracle::{BuiltTree, NodeTable, Row};
+use oracle::forms::Class;
+use oracle::{table, BuiltTree, NodeTable, Row};
 use std::hint::black_box;
 
 extern "C" {
@@ -54,6 +55,12 @@ impl Prepared {
 
     pub fn nodes(&self) -> u64 {
         self.table.count.into()
+    }
+
+    pub fn expressions(&self) -> u64 {
+        let NodeTable { count, ref cells, .. } = self.table;
+        let is_expression = |&node: &u16| table::class(cells, node) == Class::Expression;
+        (1..=count).filter(is_expression).count() as u64
     }
 
     /// Asks one side once.
