@@ -2,6 +2,7 @@
 //! one run.
 //!
 //!     cargo run --release                         nanoseconds a node
+//!     cargo run --release -- turns                the same, with cold trees
 //!     cargo run --release -- instructions         instructions a node, with valgrind
 //!     cargo run --release -- run SET SIDE TIMES   what valgrind and perf look at
 //!
@@ -28,8 +29,13 @@
 //! Outside: node tables, syn trees and buffers. Before the clock starts, both
 //! sides' rows are held beside each other once.
 //!
+//! Trees are warm: those of up to 4,096 nodes together are asked once before the
+//! clock starts and then over and over. With `turns` all trees of a set take turns
+//! instead, so that large ones leave the nearer caches in between.
+//!
 //! Times are those of the thread, so that what else runs on the machine counts
-//! little; in a round all sides take turns, and the median of the rounds counts.
+//! less. In a round all sides take turns; the medians of the rounds' times and of
+//! the rounds' ratios count.
 
 mod clock;
 mod sets;
@@ -40,19 +46,22 @@ use sets::{Set, SETS};
 use sides::{Prepared, Side};
 use std::process::{Command, ExitCode};
 
-const ROUNDS: usize = 21;
+const GROUP_NODES: u64 = 4_096;
+const ROUNDS: usize = 81;
 /// What one side takes in a round, at least.
-const ROUND_NANOSECONDS: u64 = 20_000_000;
+const ROUND_NANOSECONDS: u64 = 5_000_000;
 
 fn main() -> ExitCode {
     let arguments: Vec<String> = std::env::args().skip(1).collect();
     match arguments.iter().map(String::as_str).collect::<Vec<_>>()[..] {
-        [] => time_all(),
+        [] => time_all(GROUP_NODES),
+        ["turns"] => time_all(u64::MAX),
         ["instructions"] => count_all(),
         ["run", set, side, times] => match (SETS.get(number(set)), Side::ALL.get(number(side))) {
             (Some(set), Some(&side)) => {
-                let mut trees = prepare(set);
-                (0..number(times)).for_each(|_| run_once(&mut trees, side));
+                for group in &mut prepare(set, GROUP_NODES) {
+                    (0..number(times)).for_each(|_| run_once(group, side));
+                }
             }
             _ => return usage(),
         },
@@ -62,7 +71,7 @@ fn main() -> ExitCode {
 }
 
 fn usage() -> ExitCode {
-    eprintln!("usage: bench [instructions | run SET SIDE TIMES], sets and sides from 0 on");
+    eprintln!("usage: bench [turns | instructions | run SET SIDE TIMES], sets and sides from 0 on");
     ExitCode::FAILURE
 }
 
@@ -70,28 +79,43 @@ fn number(argument: &str) -> usize {
     argument.parse().expect("a number")
 }
 
-fn prepare(set: &Set) -> Vec<Prepared> {
-    set.trees().into_iter().map(Prepared::new).collect()
+/// Trees that take turns.
+type Group = Vec<Prepared>;
+
+/// Groups of up to so many nodes each.
+fn prepare(set: &Set, group_nodes: u64) -> Vec<Group> {
+    let mut groups: Vec<Group> = Vec::new();
+    for tree in set.trees().into_iter().map(Prepared::new) {
+        match groups.last_mut() {
+            Some(group) if nodes(&*group) + tree.nodes() <= group_nodes => group.push(tree),
+            _ => groups.push(vec![tree]),
+        }
+    }
+    groups
 }
 
-fn time_all() {
+fn time_all(group_nodes: u64) {
     heading("ns");
     for set in &SETS {
-        let mut trees = prepare(set);
-        trees.iter_mut().for_each(Prepared::check);
-        let times = medians(&mut trees);
-        eprintln!("between the quartiles, {}", set.name);
-        line(set, &trees, times);
+        let mut groups = prepare(set, group_nodes);
+        groups.iter_mut().flatten().for_each(Prepared::check);
+        let rounds = rounds(&mut groups);
+        line(set, &groups, &rounds);
+        let apart = [0, 1, 2, 3].map(|side| {
+            let [low, median, high] = quartiles(rounds.iter().map(|round| round[side]));
+            format!("{:.0}%", 100.0 * (high - low) / median)
+        });
+        eprintln!("{}: quartiles {} apart", set.name, apart.join(", "));
     }
 }
 
 fn count_all() {
     heading("instructions");
     for (number, set) in SETS.iter().enumerate() {
-        let trees = prepare(set);
-        let nodes = nodes(&trees) as f64;
+        let groups = prepare(set, GROUP_NODES);
+        let nodes = nodes(groups.iter().flatten()) as f64;
         let counts = [0, 1, 2, 3].map(|side| instructions(number, side) as f64 / nodes);
-        line(set, &trees, counts);
+        line(set, &groups, &[counts]);
     }
 }
 
@@ -113,49 +137,63 @@ fn heading(unit: &str) {
     println!("|---|{}", "---:|".repeat(COLUMNS.len()));
 }
 
-fn line(set: &Set, trees: &[Prepared], [ours, checks, rows, printing]: [f64; 4]) {
-    let expressions: u64 = trees.iter().map(Prepared::expressions).sum();
-    let ratios = [ours / rows, ours / printing, (ours - checks) / rows];
+/// What each side takes for a node, by [`Side::ALL`].
+type Round = [f64; 4];
+
+fn line(set: &Set, groups: &[Group], rounds: &[Round]) {
+    let median = |of: fn(&Round) -> f64| quartiles(rounds.iter().map(of))[1];
+    let [ours, checks] = [median(|round| round[0]), median(|round| round[1])];
+    let [rows, printing] = [median(|round| round[2]), median(|round| round[3])];
     let times = [ours, checks, rows, printing].map(|time| format!("{time:.1}")).join(" | ");
+    let ratios = [
+        median(|[ours, _, rows, _]| ours / rows),
+        median(|[ours, _, _, printing]| ours / printing),
+        median(|[ours, checks, rows, _]| (ours - checks) / rows),
+    ];
     let ratios = ratios.map(|ratio| format!("{ratio:.2}")).join(" | ");
-    let (name, count, nodes) = (set.name, trees.len(), nodes(trees));
+    let trees = || groups.iter().flatten();
+    let expressions: u64 = trees().map(Prepared::expressions).sum();
+    let (name, count, nodes) = (set.name, trees().count(), nodes(trees()));
     println!("| {name} | {count} | {nodes} | {expressions} | {times} | {ratios} |");
 }
 
-fn nodes(trees: &[Prepared]) -> u64 {
-    trees.iter().map(Prepared::nodes).sum()
+/// The lower quartile, the median and the upper quartile.
+fn quartiles(numbers: impl Iterator<Item = f64>) -> [f64; 3] {
+    let mut numbers: Vec<f64> = numbers.collect();
+    numbers.sort_by(f64::total_cmp);
+    [1, 2, 3].map(|quarter| numbers[quarter * numbers.len() / 4])
 }
 
-/// Each side's nanoseconds a node, the median of all rounds. How far apart the
-/// quartiles are goes to standard error.
-fn medians(trees: &mut [Prepared]) -> [f64; 4] {
-    let nodes = nodes(trees);
+fn nodes<'a>(trees: impl IntoIterator<Item = &'a Prepared>) -> u64 {
+    trees.into_iter().map(Prepared::nodes).sum()
+}
+
+/// Nanoseconds a node.
+fn rounds(groups: &mut [Group]) -> Vec<Round> {
+    let nodes = nodes(groups.iter().flatten());
     let repeats = Side::ALL.map(|side| {
-        let once = time(trees, side, 1).max(1);
+        let once = time(groups, side, 1).max(1);
         (ROUND_NANOSECONDS / once).max(1)
     });
-    let mut times: [Vec<f64>; 4] = Default::default();
-    for _ in 0..ROUNDS {
-        for (at, side) in Side::ALL.into_iter().enumerate() {
-            let total = time(trees, side, repeats[at]);
-            times[at].push(total as f64 / (repeats[at] * nodes) as f64);
-        }
-    }
-    times.map(|mut times| {
-        times.sort_by(f64::total_cmp);
-        let (low, median, high) = (times[ROUNDS / 4], times[ROUNDS / 2], times[3 * ROUNDS / 4]);
-        eprint!("{:.0}% ", 100.0 * (high - low) / median);
-        median
-    })
+    let round = |_| {
+        [0, 1, 2, 3].map(|at| {
+            let total = time(groups, Side::ALL[at], repeats[at]);
+            total as f64 / (repeats[at] * nodes) as f64
+        })
+    };
+    (0..ROUNDS).map(round).collect()
 }
 
-/// The nanoseconds for all trees, so many times.
-fn time(trees: &mut [Prepared], side: Side, repeats: u64) -> u64 {
-    let clock = Clock::start();
-    for _ in 0..repeats {
-        run_once(trees, side);
+/// The nanoseconds for all trees, so many times each.
+fn time(groups: &mut [Group], side: Side, repeats: u64) -> u64 {
+    let mut nanoseconds = 0;
+    for group in groups {
+        run_once(group, side);
+        let clock = Clock::start();
+        (0..repeats).for_each(|_| run_once(group, side));
+        nanoseconds += clock.nanoseconds();
     }
-    clock.nanoseconds()
+    nanoseconds
 }
 
 /// One side, once for each tree. valgrind finds it by its name.
