@@ -2,15 +2,17 @@
 //! node of many accepted trees, and counts where the answers differ.
 
 mod contexts;
+mod decided;
 mod in_context;
 mod ours;
 mod rows;
 
+use decided::Decided;
 use in_context::{any, Cases, QUESTIONS};
 use oracle::direct::{context_of_root, each_expression, Context};
 use oracle::forms::Class;
 use oracle::generate::{Dice, Family, SmallTrees};
-use oracle::{accept, answers, table, NodeAnswers, NodeTable};
+use oracle::{accept, answers, table, NodeAnswers, NodeTable, Row};
 use ours::{Place, Question};
 use std::process::ExitCode;
 
@@ -20,7 +22,10 @@ struct Tally {
     trees: u64,
     asked: [u64; Question::ALL.len()],
     asked_in_context: [u64; QUESTIONS.len()],
+    /// Rows of expressions, put together here.
     rows: u64,
+    /// Rows of expressions, by tezhukor_decide.
+    decided: u64,
     different: u64,
 }
 
@@ -31,27 +36,39 @@ impl Tally {
         self.trees += 1;
         self.compare_alone(tree);
         self.compare_in_context(tree, cases, dice);
-        let mut contexts = match roots {
-            Roots::Own => vec![context_of_root(tree.context)],
-            Roots::All => [0, 1, 2, 3].map(context_of_root).to_vec(),
+        let headers = match roots {
+            Roots::Own => vec![tree.context],
+            Roots::All => vec![0, 1, 2, 3],
         };
+        let mut contexts: Vec<Context> = headers.iter().copied().map(context_of_root).collect();
         contexts.push(any(self.trees % 2 == 0, dice));
-        self.compare_rows(tree, &contexts);
+        let theirs = oracle::rows(&contexts, tree.count, &tree.cells);
+        for (&context, theirs) in contexts.iter().zip(&theirs) {
+            self.compare_rows(tree, context, theirs);
+        }
+        for (&header, theirs) in headers.iter().zip(&theirs) {
+            self.compare_decided(tree, header, theirs, dice.below(8));
+        }
     }
 
-    /// The rows below a root in these contexts.
-    fn compare_rows(&mut self, tree: &NodeTable, contexts: &[Context]) {
-        let theirs = oracle::rows(contexts, tree.count, &tree.cells);
-        for (&context, theirs) in contexts.iter().zip(theirs) {
-            for ((node, ours), theirs) in (1..).zip(rows::rows(context, tree)).zip(theirs) {
-                if table::class(&tree.cells, node) == Class::Expression {
-                    self.rows += 1;
-                }
-                if ours != theirs {
-                    self.different += 1;
-                    println!("{ours:?}, not {theirs:?}, root {context:?}, node {node} of {tree:?}");
-                }
+    /// The rows below a root in a context, put together here.
+    fn compare_rows(&mut self, tree: &NodeTable, context: Context, theirs: &[Row]) {
+        self.rows += expressions(tree);
+        for ((node, ours), theirs) in (1..).zip(rows::rows(context, tree)).zip(theirs) {
+            if ours != *theirs {
+                self.different += 1;
+                println!("{ours:?}, not {theirs:?}, root {context:?}, node {node} of {tree:?}");
             }
+        }
+    }
+
+    /// The rows by tezhukor_decide in a header's context, and what else it does to
+    /// buffers with some spare cells.
+    fn compare_decided(&mut self, tree: &NodeTable, header: u16, theirs: &[Row], spare: usize) {
+        self.decided += expressions(tree);
+        for difference in Decided::new(header, tree, spare).differences(tree, theirs) {
+            self.different += 1;
+            println!("tezhukor_decide: {difference}, context {header} for {tree:?}");
         }
     }
 
@@ -99,7 +116,14 @@ impl Tally {
             println!("  {} {asked}", question.name);
         }
         println!("  rows {}", self.rows);
+        println!("  rows by tezhukor_decide {}", self.decided);
     }
+}
+
+/// How many nodes of a tree are expressions.
+fn expressions(tree: &NodeTable) -> u64 {
+    let is_expression = |&node: &u16| table::class(&tree.cells, node) == Class::Expression;
+    (1..=tree.count).filter(is_expression).count() as u64
 }
 
 /// What the crate answers for a node, by question.

@@ -122,6 +122,17 @@ extern "C" {
         second: u16,
         precedence: u16,
     ) -> u16;
+
+    fn tezhukor_decide(
+        context: u16,
+        count: u16,
+        table: *const u16,
+        length: usize,
+        rows: *mut u16,
+        rows_length: usize,
+        scratch: *mut u16,
+        scratch_length: usize,
+    ) -> u16;
 }
 
 /// A node of a table.
@@ -198,4 +209,29 @@ pub fn context(question: u16, from: Context, booleans: [bool; 2], precedence: u1
     [0, 1, 2].map(|cell| unsafe {
         tezhukor_context(question, cell, previous, next, flags, first, second, precedence)
     })
+}
+
+/// Writes the rows of all nodes of a table, in one of document 01's contexts, and
+/// gives the reply number.
+pub fn decide(
+    context: u16,
+    count: u16,
+    table: &[u16],
+    rows: &mut [u16],
+    scratch: &mut [u16],
+) -> u16 {
+    // SAFETY: pointers and lengths are those of slices, of which none overlaps
+    // another; the function demands nothing else of its arguments.
+    unsafe {
+        tezhukor_decide(
+            context,
+            count,
+            table.as_ptr(),
+            table.len(),
+            rows.as_mut_ptr(),
+            rows.len(),
+            scratch.as_mut_ptr(),
+            scratch.len(),
+        )
+    }
 }

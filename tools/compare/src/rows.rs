@@ -1,8 +1,11 @@
 //! The row of each expression, put together from our functions as document 01's
 //! 'Decisions' says, beside the row that the crate gives while it prints.
 //!
-//! This only compares the functions. No contract speaks of the way in which they
-//! are put together here.
+//! This shows what expr's and fixup's functions answer, below a root in a context
+//! of any content, which no header can give. No contract speaks of the way in
+//! which they are put together here. That the rows which a caller gets are the
+//! crate's is shown by `decided`: there tezhukor_decide puts the functions
+//! together, in the four contexts that a header can give.
 
 use crate::ours::{self, contexts, fixup, Place};
 use oracle::direct::Context;

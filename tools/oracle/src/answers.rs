@@ -9,6 +9,7 @@ use crate::recorder::{Recorder, Row};
 use crate::stand_in::algorithm::Printer;
 use crate::table;
 use crate::tree::{self, Built};
+use std::rc::Rc;
 use syn::{Expr, ExprCast, Type, TypeInfer};
 
 /// The answers for one node.
@@ -73,7 +74,7 @@ pub fn answers(context: u16, count: u16, cells: &[u16]) -> Answers {
     let Built::Expr(root) = root else {
         panic!("the root is no expression");
     };
-    let rows = printed(&root, FixupContext::of_root(context), sides(count, cells));
+    let rows = printed(&root, FixupContext::of_root(context), sides(count, cells).into());
     for (at, row) in rows.into_iter().enumerate() {
         match (&mut nodes[at], row) {
             (NodeAnswers::Expression(answers), Some(row)) => answers.row = row,
@@ -88,21 +89,44 @@ pub fn answers(context: u16, count: u16, cells: &[u16]) -> Answers {
 /// The rows of an accepted tree, from node 1 on, for roots in contexts of any
 /// content; zeros for types and links.
 pub fn rows(contexts: &[Context], count: u16, cells: &[u16]) -> Vec<Vec<Row>> {
-    let root = tree::expression(cells, count, 1);
-    let sides = sides(count, cells);
+    let built = BuiltTree::new(count, cells);
     let rows_in = |&context: &Context| {
-        let rows = printed(&root, FixupContext::from_numbers(context), sides.clone());
+        let rows = built.printed(context);
         rows.into_iter().map(Option::unwrap_or_default).collect()
     };
     contexts.iter().map(rows_in).collect()
 }
 
+/// An accepted tree that is built once and printed many times.
+pub struct BuiltTree {
+    root: Expr,
+    sides: Rc<[Side]>,
+}
+
+impl BuiltTree {
+    pub fn new(count: u16, cells: &[u16]) -> Self {
+        let root = tree::expression(cells, count, 1);
+        BuiltTree { root, sides: sides(count, cells).into() }
+    }
+
+    /// The rows, from node 1 on, for a root in a context of any content; none for
+    /// types and links.
+    pub fn printed(&self, context: Context) -> Vec<Option<Row>> {
+        printed(&self.root, FixupContext::from_numbers(context), self.sides.clone())
+    }
+
+    /// Prints and records nothing.
+    pub fn only_printed(&self, context: Context) {
+        Printer { recorder: None }.expr(&self.root, FixupContext::from_numbers(context));
+    }
+}
+
 /// What is recorded while the crate prints the root; none for a node that it
 /// does not print.
-fn printed(root: &Expr, context: FixupContext, sides: Vec<Side>) -> Vec<Option<Row>> {
-    let mut printer = Printer { recorder: Recorder::new(sides) };
+fn printed(root: &Expr, context: FixupContext, sides: Rc<[Side]>) -> Vec<Option<Row>> {
+    let mut printer = Printer { recorder: Some(Recorder::new(sides)) };
     printer.expr(root, context);
-    printer.recorder.rows()
+    printer.recorder.expect("the recorder just given").rows()
 }
 
 /// The sides of all nodes, from node 1 on.

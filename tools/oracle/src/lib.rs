@@ -36,7 +36,9 @@ mod fixup;
 #[allow(dead_code, clippy::all)]
 mod precedence;
 
-pub use answers::{answers, rows, Answers, ExpressionAnswers, NodeAnswers, TypeAnswers};
+pub use answers::{
+    answers, rows, Answers, BuiltTree, ExpressionAnswers, NodeAnswers, TypeAnswers,
+};
 pub use direct::{
     leftmost_precedence_of, parenthesize_of, precedence_of, rightmost_precedence_of, scan_left_of,
     scan_right_of,

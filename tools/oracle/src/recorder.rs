@@ -9,6 +9,7 @@
 
 use crate::fixup::FixupContext;
 use crate::forms::Side;
+use std::rc::Rc;
 use syn::Expr;
 
 /// A row of document 01.
@@ -51,7 +52,7 @@ struct Met {
 /// Gathers the rows of one tree.
 pub struct Recorder {
     /// The sides of the nodes, from node 1 on.
-    sides: Vec<Side>,
+    sides: Rc<[Side]>,
     met: Vec<Option<Met>>,
     last: Last,
     /// How many parentheses are open.
@@ -59,7 +60,7 @@ pub struct Recorder {
 }
 
 impl Recorder {
-    pub fn new(sides: Vec<Side>) -> Self {
+    pub fn new(sides: Rc<[Side]>) -> Self {
         let met = sides.iter().map(|_| None).collect();
         Recorder { sides, met, last: Last::Other, open: 0 }
     }

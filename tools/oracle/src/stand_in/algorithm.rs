@@ -21,33 +21,42 @@ pub struct BreakToken {
     pub no_break: Option<char>,
 }
 
-/// A printer that prints nothing and records what it meets.
+/// A printer that prints nothing and records what it meets, if it has a recorder.
 pub struct Printer {
-    pub recorder: Recorder,
+    pub recorder: Option<Recorder>,
 }
 
 /// What expr.rs tells, some of it through lines that the build puts there.
 impl Printer {
     /// An expression is entered, with the owner's grouping test and its context.
     pub fn entered(&mut self, expr: &Expr, needs_paren: bool, fixup: FixupContext) {
-        self.recorder.entered(expr, needs_paren, fixup);
+        if let Some(recorder) = &mut self.recorder {
+            recorder.entered(expr, needs_paren, fixup);
+        }
     }
 
     /// A Verbatim expression is printed.
     pub fn verbatim(&mut self) {
-        self.recorder.other();
+        if let Some(recorder) = &mut self.recorder {
+            recorder.other();
+        }
     }
 
     pub fn word<S: Into<Cow<'static, str>>>(&mut self, word: S) {
+        let Some(recorder) = &mut self.recorder else {
+            return;
+        };
         match &*word.into() {
-            "(" => self.recorder.opening(),
-            ")" => self.recorder.closing(),
-            _ => self.recorder.other(),
+            "(" => recorder.opening(),
+            ")" => recorder.closing(),
+            _ => recorder.other(),
         }
     }
 
     pub fn outer_attrs(&mut self, _attrs: &[Attribute]) {
-        self.recorder.attributes();
+        if let Some(recorder) = &mut self.recorder {
+            recorder.attributes();
+        }
     }
 }
 

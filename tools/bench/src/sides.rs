@@ -1,0 +1,114 @@
+//! What is timed.
+
+use oracle::direct::{context_of_root, Context};
+use oracle::forms::Class;
+use oracle::{table, BuiltTree, NodeTable, Row};
+use std::hint::black_box;
+
+extern "C" {
+    fn tezhukor_decide(
+        context: u16,
+        count: u16,
+        table: *const u16,
+        length: usize,
+        rows: *mut u16,
+        rows_length: usize,
+        scratch: *mut u16,
+        scratch_length: usize,
+    ) -> u16;
+}
+
+/// A tree with all that is made for it before the clock starts.
+pub struct Prepared {
+    table: NodeTable,
+    rows: Vec<u16>,
+    scratch: Vec<u16>,
+    built: BuiltTree,
+    context: Context,
+}
+
+/// What is asked of a tree.
+#[derive(Copy, Clone, PartialEq, Eq, Debug)]
+pub enum Side {
+    /// tezhukor_decide: the refusals 3, 4 and 6 to 11, the rows and the scratch.
+    Ours,
+    /// tezhukor_decide with no room for rows: the same refusals, and then 12.
+    OurChecks,
+    /// The crate's `Printer::expr`, and what is recorded of it for rows.
+    TheirRows,
+    /// The crate's `Printer::expr` alone.
+    TheirPrinting,
+}
+
+impl Side {
+    pub const ALL: [Side; 4] = [Side::Ours, Side::OurChecks, Side::TheirRows, Side::TheirPrinting];
+}
+
+impl Prepared {
+    pub fn new(table: NodeTable) -> Self {
+        let nodes = usize::from(table.count);
+        let built = BuiltTree::new(table.count, &table.cells);
+        let context = context_of_root(table.context);
+        let (rows, scratch) = (vec![0; 5 * nodes], vec![0; 3 * nodes]);
+        Prepared { table, rows, scratch, built, context }
+    }
+
+    pub fn nodes(&self) -> u64 {
+        self.table.count.into()
+    }
+
+    pub fn expressions(&self) -> u64 {
+        let NodeTable { count, ref cells, .. } = self.table;
+        let is_expression = |&node: &u16| table::class(cells, node) == Class::Expression;
+        (1..=count).filter(is_expression).count() as u64
+    }
+
+    /// Asks one side once.
+    #[inline]
+    pub fn ask(&mut self, side: Side) {
+        match side {
+            Side::Ours => {
+                black_box(self.decide(5));
+            }
+            Side::OurChecks => {
+                black_box(self.decide(0));
+            }
+            Side::TheirRows => {
+                black_box(black_box(&self.built).printed(self.context));
+            }
+            Side::TheirPrinting => black_box(&self.built).only_printed(self.context),
+        }
+    }
+
+    /// tezhukor_decide with so many cells a node for rows.
+    fn decide(&mut self, a_node: usize) -> u16 {
+        let rows = &mut self.rows[..a_node * usize::from(self.table.count)];
+        // SAFETY: pointers and lengths are those of slices, of which none overlaps
+        // another; the function demands nothing else of its arguments.
+        unsafe {
+            tezhukor_decide(
+                self.table.context,
+                self.table.count,
+                self.table.cells.as_ptr(),
+                self.table.cells.len(),
+                rows.as_mut_ptr(),
+                rows.len(),
+                self.scratch.as_mut_ptr(),
+                self.scratch.len(),
+            )
+        }
+    }
+
+    /// Stops unless both sides give the same rows.
+    pub fn check(&mut self) {
+        assert_eq!(self.decide(0), 12);
+        assert_eq!(self.decide(5), 0);
+        let theirs = self.built.printed(self.context).into_iter();
+        let theirs: Vec<u16> = theirs.map(Option::unwrap_or_default).flat_map(cells).collect();
+        assert!(self.rows == theirs, "other rows for {:?}", self.table);
+    }
+}
+
+fn cells(row: Row) -> [u16; 5] {
+    row.cells()
+}

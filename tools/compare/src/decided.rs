@@ -1,0 +1,66 @@
+//! The rows that tezhukor_decide writes, beside those that the crate gives while
+//! it prints.
+
+use crate::ours;
+use oracle::{table, NodeTable, Row};
+
+/// Cells of one buffer, for each node of a tree.
+const ROW: usize = 5;
+const SCRATCH: usize = 3;
+
+/// What tezhukor_decide did to what it was lent.
+pub struct Decided {
+    reply: u16,
+    rows: Vec<u16>,
+    scratch: Vec<u16>,
+}
+
+impl Decided {
+    /// Decides an accepted tree in one of document 01's contexts. Both buffers
+    /// have so many cells more than they need.
+    pub fn new(context: u16, tree: &NodeTable, spare: usize) -> Self {
+        let lent = |a_node| (0..a_node * usize::from(tree.count) + spare).map(pattern).collect();
+        let (mut rows, mut scratch): (Vec<u16>, Vec<u16>) = (lent(ROW), lent(SCRATCH));
+        let reply = ours::decide(context, tree.count, &tree.cells, &mut rows, &mut scratch);
+        Decided { reply, rows, scratch }
+    }
+
+    /// What differs from the crate's rows, from node 1 on, or from what document
+    /// 01 says of the other cells.
+    pub fn differences(&self, tree: &NodeTable, theirs: &[Row]) -> Vec<String> {
+        let count = usize::from(tree.count);
+        assert_eq!(theirs.len(), count);
+        let mut differences = Vec::new();
+        if self.reply != 0 {
+            differences.push(format!("reply {}, not 0", self.reply));
+        }
+        let (rows, behind_rows) = self.rows.split_at(ROW * count);
+        for ((node, ours), theirs) in (1..).zip(rows.chunks_exact(ROW)).zip(theirs) {
+            if ours != theirs.cells() {
+                let class = table::class(&tree.cells, node);
+                differences.push(format!("{ours:?}, not {theirs:?}, node {node}, {class:?}"));
+            }
+        }
+        let (scratch, behind_scratch) = self.scratch.split_at(SCRATCH * count);
+        if scratch.iter().any(|&cell| cell != 0) {
+            differences.push(format!("scratch {scratch:?}, not zeros"));
+        }
+        if !as_lent(behind_rows, ROW * count) {
+            differences.push(format!("{behind_rows:?} behind the rows"));
+        }
+        if !as_lent(behind_scratch, SCRATCH * count) {
+            differences.push(format!("{behind_scratch:?} behind the scratch"));
+        }
+        differences
+    }
+}
+
+/// What a cell holds when it is lent; no row has such a number.
+fn pattern(at: usize) -> u16 {
+    0xA000 | (at & 0x0FFF) as u16
+}
+
+/// Whether the cells from a place on hold what they were lent with.
+fn as_lent(cells: &[u16], from: usize) -> bool {
+    (from..).zip(cells).all(|(at, &cell)| cell == pattern(at))
+}
