@@ -1,5 +1,6 @@
 // Goes through the recorded files and replies in the file `files`, loads each file with
-// `tree_file`, and prints how many replies agree with the recorded ones.
+// `tree_file`, and prints how many replies agree with the recorded ones. Then the same with the
+// file `rows`, and the rows that `walk` decides of each file.
 mod judge;
 mod record;
 mod report;
@@ -19,14 +20,14 @@ fn bump(counts: &mut [u64; 17], reply: usize) {
     }
 }
 
-// Goes through all records and prints what came of them.
-fn run(fd: i32) {
+// Goes through all records and prints what came of them. With `decides` they record rows.
+fn run(fd: i32, decides: bool) {
     let mut met = [0u64; 17];
     let mut agreed = [0u64; 17];
     let mut files: u64 = 0;
     let mut different: u64 = 0;
     while files <= MOST {
-        match judge::next(fd) {
+        match judge::next(fd, decides) {
             Step::End => {
                 report::all(&met, &agreed, files, different);
                 return;
@@ -49,14 +50,19 @@ fn run(fd: i32) {
     report::damaged();
 }
 
-// Opens the records and goes through them, or says why they cannot be opened.
-fn main() {
-    let path = b"files";
+// Opens a file of records and goes through them, or says why it cannot be opened.
+fn open(path: &[u8], decides: bool) {
     let fd = os::open_read(path);
     if fd < 0 {
         os::fail(path);
         return;
     }
-    run(fd);
+    run(fd, decides);
     libc::close(fd);
+}
+
+fn main() {
+    open(b"files", false);
+    report::rows();
+    open(b"rows", true);
 }

@@ -1,4 +1,4 @@
-// The parts of a record: a header of 12 bytes, the file's bytes, and the cells of the table.
+// The parts of a record: a header of 12 bytes, the file's bytes, and the cells of the table or the rows.
 
 // What a header says, with its numbers as they stand there.
 pub struct Header {

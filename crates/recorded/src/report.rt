@@ -44,6 +44,11 @@ pub fn all(met: &[u64; 17], agreed: &[u64; 17], files: u64, different: u64) {
     text(b"\n");
 }
 
+// The line between the two files of records.
+pub fn rows() {
+    text(b"rows\n");
+}
+
 // The line for data that is no run of records.
 pub fn damaged() {
     text(b"damaged data\n");

@@ -1,0 +1,40 @@
+//! The program `parens` on many tree files, and files with recorded rows.
+
+mod damage;
+mod files;
+mod nests;
+mod parens;
+mod record;
+
+use std::process::ExitCode;
+
+const USAGE: &str = "usage:
+  scale parens FILES [SEED]   target/bin/parens on so many files, beside the crate's own rows
+  scale record                writes crates/recorded/data/rows";
+
+fn main() -> ExitCode {
+    let arguments: Vec<String> = std::env::args().skip(1).collect();
+    let arguments: Vec<&str> = arguments.iter().map(String::as_str).collect();
+    let number = |text: &str| text.parse::<u64>().ok().filter(|&number| number > 0);
+    if arguments == ["record"] {
+        record::record();
+        return ExitCode::SUCCESS;
+    }
+    let different = match arguments[..] {
+        ["parens", files] => number(files).map(|files| parens::compare(files, 1)),
+        ["parens", files, seed] => {
+            number(files).zip(number(seed)).map(|(n, s)| parens::compare(n, s))
+        }
+        _ => None,
+    };
+    match different {
+        None => {
+            eprintln!("{USAGE}");
+            ExitCode::FAILURE
+        }
+        Some(different) => {
+            println!("different {different}");
+            ExitCode::from(u8::from(different > 0))
+        }
+    }
+}

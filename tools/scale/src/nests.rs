@@ -1,0 +1,23 @@
+//! How long the nests of a table are.
+
+use oracle::generate::{self, Draft, Label, Slot};
+use oracle::NodeTable;
+
+/// The doubling nodes of a right spine of an accepted table, the most there are.
+pub fn levels(table: &NodeTable) -> u32 {
+    let nodes: Vec<&[u16]> = table.cells.chunks(5).collect();
+    let label = |at: usize| Label::new(nodes[at][0], nodes[at][1], nodes[at][2]);
+    let mut slots = vec![None; nodes.len()];
+    for (owner, node) in nodes.iter().enumerate() {
+        for place in 0..2 {
+            if node[3 + place] != 0 {
+                slots[usize::from(node[3 + place]) - 1] = Some(Slot { owner, place });
+            }
+        }
+    }
+    let mut draft = Draft::new(label(0));
+    for (at, slot) in slots.iter().enumerate().skip(1) {
+        draft.put(slot.expect("an owner"), label(at));
+    }
+    generate::levels(&draft)
+}
