@@ -5,12 +5,12 @@ use mathlib.Core.List.{List, [], _∷_}
 use Prim.Native.Nat.{ℕ}
 use Rattle.laws.specs.Choice.{pick, lookup}
 use Rattle.grammar.specs.Tokens.{Add, Sub, Mul, Eq, Lt, Le, Assign, Token}
+use Rattle.grammar.specs.Codes.{tokenOf, tokensOf}
 use Rattle.grammar.specs.Types.{one, named, applied, types, lastType}
 use Rattle.grammar.specs.Expressions.{path, neg, byName, byNumber, Expr, atom, paren, prefix, binary, cast, member, try, call, method, noArguments, arguments, lastArgument}
 use Rattle.grammar.specs.Grammar.{NONE, opensArguments}
 use Rattle.grammar.specs.Pairs.{strength, addPairs}
 use Rattle.grammar.specs.Parser.{Out, fail, ok, startOf, typeStartOf, afterDotOf, goesOn, typeBy, exprBy, parse}
-use Rattle.grammar.proofs.Tokens.{tokenOf}
 
 record Example : Type 0 where
   given : Out (Expr one)
@@ -20,16 +20,12 @@ record Example : Type 0 where
 abbrev pairs : Expr one → Expr one → Example
 pairs e with = record { given = ok (addPairs e false) []; expected = ok with [] }
 
-abbrev spelled : List ℕ → List Token
-spelled [] = []
-spelled (n ∷ ns) = tokenOf n ∷ spelled ns
-
 -- the codes of a token list, and its parse tree; or what the parser stops with
 abbrev reads : List ℕ → Expr one → Example
-reads codes e = record { given = parse NONE (spelled codes); expected = ok e [] }
+reads codes e = record { given = parse NONE (tokensOf codes); expected = ok e [] }
 
 abbrev stops : List ℕ → Out (Expr one) → Example
-stops codes out = record { given = parse NONE (spelled codes); expected = out }
+stops codes out = record { given = parse NONE (tokensOf codes); expected = out }
 
 abbrev a : Expr one
 a = atom path
@@ -72,9 +68,9 @@ examples =
     reads (32 ∷ 31 ∷ 32 ∷ 13 ∷ 32 ∷ 17 ∷ []) castWithArguments ∷
     reads (32 ∷ 31 ∷ 32 ∷ 13 ∷ 32 ∷ 17 ∷ 13 ∷ 32 ∷ []) (binary Lt castWithArguments a) ∷
     -- a == b == c: the second `==` is left
-    stops (32 ∷ 12 ∷ 32 ∷ 12 ∷ 32 ∷ []) (ok (binary Eq a a) (spelled (12 ∷ 32 ∷ []))) ∷
+    stops (32 ∷ 12 ∷ 32 ∷ 12 ∷ 32 ∷ []) (ok (binary Eq a a) (tokensOf (12 ∷ 32 ∷ []))) ∷
     -- a as T << b: the `<<` is left
-    stops (32 ∷ 31 ∷ 32 ∷ 10 ∷ 32 ∷ []) (ok bareCast (spelled (10 ∷ 32 ∷ []))) ∷
+    stops (32 ∷ 31 ∷ 32 ∷ 10 ∷ 32 ∷ []) (ok bareCast (tokensOf (10 ∷ 32 ∷ []))) ∷
     -- f(a,): no comma after the last item
     stops (32 ∷ 35 ∷ 32 ∷ 39 ∷ 36 ∷ []) fail ∷
     -- "The empty token list gives 15."

@@ -1,5 +1,5 @@
 -- Tokens and their codes: 46 tokens, one for each code; and what the parser's tests say of a token list. Assumes nothing.
-use mathlib.Core.Path.{_≡_, refl, sym, subst, ap, _∙_}
+use mathlib.Core.Path.{_≡_, refl, sym, subst, ap, ap₂, _∙_}
 use mathlib.Core.Bool.{Bool, true, _&&_}
 use mathlib.Core.List.{List, [], _∷_}
 use Prim.Native.Nat.{ℕ, zero, suc, _<_}
@@ -10,29 +10,15 @@ use borrow.Author.Tests.{eqb-true}
 use Rattle.laws.specs.Choice.{pick, lookup}
 use Rattle.laws.proofs.Choice.{true-of, of-true, and-true, true-not-false}
 use Rattle.laws.proofs.Each.{all-at}
+use Rattle.laws.proofs.Keys.{allBelow}
 use Rattle.grammar.specs.Tokens.{Operator, Add, Sub, Mul, Div, Rem, And, Or, BitXor, BitAnd, BitOr, Shl, Shr, Eq, Lt, Le, Ne, Ge, Gt, AddAssign, SubAssign, MulAssign, DivAssign, RemAssign, BitXorAssign, BitAndAssign, BitOrAssign, ShlAssign, ShrAssign, Assign, number}
 use Rattle.grammar.specs.Tokens.{Token, operator, code, Bang, AndMut, As, Name, Literal, Dot, LeftParen, RightParen, LeftBracket, RightBracket, Comma, Question, StarConst, StarMut, Underscore, NumberedMember, Await}
+use Rattle.grammar.specs.Codes.{operators, spelled, operatorOf, tokenOf, tokensOf, codesOf}
 use Rattle.grammar.specs.Types.{typePrefixToken, typeSignToken}
 use Rattle.grammar.specs.Expressions.{atomToken, prefixToken, memberToken}
 use Rattle.grammar.specs.Parser.{tail, isFirst, firstBy, Start, noStart, anAtom, aPrefix, aGroup, startOf, start, TypeStart, noType, aName, aTypePrefix, aSign, typeStartOf, typeStart, AfterDot, noMember, aMember, afterDotOf, afterDot, Next, stops, operates, castsTo, dots, calls, indexes, tries, nextOf, next}
 
--- ---- the 46 tokens
-
-abbrev operators : List Operator
-operators = Add ∷ Sub ∷ Mul ∷ Div ∷ Rem ∷ And ∷ Or ∷ BitXor ∷ BitAnd ∷ BitOr ∷ Shl ∷ Shr ∷ Eq ∷ Lt ∷ Le ∷ Ne ∷ Ge ∷ Gt ∷ AddAssign ∷ SubAssign ∷ MulAssign ∷ DivAssign ∷ RemAssign ∷ BitXorAssign ∷ BitAndAssign ∷ BitOrAssign ∷ ShlAssign ∷ ShrAssign ∷ Assign ∷ []
-
-abbrev signs : List Token
-signs = Bang ∷ AndMut ∷ As ∷ Name ∷ Literal ∷ Dot ∷ LeftParen ∷ RightParen ∷ LeftBracket ∷ RightBracket ∷ Comma ∷ Question ∷ StarConst ∷ StarMut ∷ Underscore ∷ NumberedMember ∷ Await ∷ []
-
-abbrev spelled : List Operator → List Token
-spelled [] = signs
-spelled (o ∷ os) = operator o ∷ spelled os
-
-unfoldable pub operatorOf : ℕ → Operator
-operatorOf n = getD operators n Assign
-
-unfoldable pub tokenOf : ℕ → Token
-tokenOf n = getD (spelled operators) n Await
+-- ---- the operators, by number
 
 pub operator-number : (o : Operator) → operatorOf (number o) ≡ o
 unfolding operatorOf
@@ -124,6 +110,16 @@ code-same t u e = sym (token-code t) ∙ ap tokenOf e ∙ token-code u
 pub code-token : (n : ℕ) → n < 46 → code (tokenOf n) ≡ n
 unfolding tokenOf
 code-token n h = eqb→eq (code (tokenOf n)) n (all-at (λ m. eqb (code (tokenOf m)) m) 46 tt n h)
+
+pub tokens-codes : (ts : List Token) → tokensOf (codesOf ts) ≡ ts
+tokens-codes [] = refl
+tokens-codes (t ∷ ts) = ap₂ _∷_ (token-code t) (tokens-codes ts)
+
+pub codes-tokens : (ns : List ℕ) → T (allBelow 46 ns) → codesOf (tokensOf ns) ≡ ns
+codes-tokens [] h = refl
+codes-tokens (n ∷ ns) h =
+    let d = and-true (ltb n 46) (allBelow 46 ns) (true-of h) in
+    ap₂ _∷_ (code-token n (ltb→lt n 46 (of-true (d .0)))) (codes-tokens ns (of-true (d .1)))
 
 -- a rule for every token is one computed test
 abbrev pub ofTokens : (Token → Bool) → Bool
