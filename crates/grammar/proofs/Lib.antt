@@ -6,6 +6,7 @@ pub mod Pairs
 pub mod Needed
 pub mod Injective
 pub mod Removed
+pub mod Ends
 pub mod Follows
 pub mod Types
 pub mod Answers
