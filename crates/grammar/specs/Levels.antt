@@ -58,8 +58,7 @@ level postfixes = 15
 pub data Lean : Type 0 where
   left right neither : Lean
 
--- The same sentence: "right operand first" leans right, "no chains" is neither. The Rust Reference, 'Expression precedence', has the same as
--- 'right to left', 'require parentheses' and 'left to right'.
+-- The same sentence: "right operand first" leans right, "no chains" is neither.
 -- A prefix has an operand after it only, which may be another prefix's expression: right. A postfix form has one before it: left.
 abbrev pub lean : Kind → Lean
 lean assignments = right
