@@ -4,7 +4,7 @@ use mathlib.Core.Bool.{false}
 use mathlib.Core.List.{List, [], _∷_}
 use Prim.Native.Nat.{ℕ}
 use Rattle.laws.specs.Choice.{pick, lookup}
-use Rattle.grammar.specs.Tokens.{Add, Sub, Mul, Eq, Lt, Le, Assign, Token}
+use Rattle.grammar.specs.Tokens.{Operator, Add, Sub, Mul, And, Or, BitXor, BitAnd, BitOr, Shl, Eq, Lt, Le, Assign}
 use Rattle.grammar.specs.Codes.{tokenOf, tokensOf}
 use Rattle.grammar.specs.Types.{one, named, applied, types, lastType}
 use Rattle.grammar.specs.Expressions.{path, neg, byName, byNumber, Expr, atom, paren, prefix, binary, cast, member, try, call, method, noArguments, arguments, lastArgument}
@@ -29,6 +29,10 @@ stops codes out = record { given = parse NONE (tokensOf codes); expected = out }
 
 abbrev a : Expr one
 a = atom path
+
+-- a o b o c without a pair: an operator that leans left
+abbrev leansLeft : Operator → Example
+leansLeft o = pairs (binary o (binary o a a) a) (binary o (binary o a a) a)
 
 -- `a as T`, and `a as T<A>`
 abbrev bareCast : Expr one
@@ -55,7 +59,17 @@ examples =
     -- P7 "comparison under comparison, either side: pair."
     pairs (binary Eq (binary Lt a a) a) (binary Eq (paren (binary Lt a a)) a) ∷
     pairs (binary Eq a (binary Lt a a)) (binary Eq a (paren (binary Lt a a))) ∷
-    -- a = b = c, and (a = b) = c
+    -- "all so far but assignment and comparison lean left"
+    leansLeft Or ∷
+    leansLeft And ∷
+    leansLeft BitOr ∷
+    leansLeft BitXor ∷
+    leansLeft BitAnd ∷
+    leansLeft Shl ∷
+    leansLeft Add ∷
+    leansLeft Mul ∷
+    pairs (cast bareCast named) (cast bareCast named) ∷
+    -- "assignment (right operand first)": a = b = c, and (a = b) = c
     pairs (binary Assign a (binary Assign a a)) (binary Assign a (binary Assign a a)) ∷
     pairs (binary Assign (binary Assign a a) a) (binary Assign (paren (binary Assign a a)) a) ∷
     -- a + b * c; (a + b)
