@@ -4,13 +4,13 @@ use mathlib.Core.Bool.{false}
 use mathlib.Core.List.{List, [], _∷_}
 use Prim.Native.Nat.{ℕ}
 use Rattle.laws.specs.Choice.{pick, lookup}
-use Rattle.grammar.specs.Tokens.{Add, Sub, Mul, Eq, Lt, Le, Assign, Token}
+use Rattle.grammar.specs.Tokens.{Operator, Add, Sub, Mul, And, Or, BitXor, BitAnd, BitOr, Shl, Eq, Lt, Le, Assign}
+use Rattle.grammar.specs.Codes.{tokenOf, tokensOf}
 use Rattle.grammar.specs.Types.{one, named, applied, types, lastType}
 use Rattle.grammar.specs.Expressions.{path, neg, byName, byNumber, Expr, atom, paren, prefix, binary, cast, member, try, call, method, noArguments, arguments, lastArgument}
 use Rattle.grammar.specs.Grammar.{NONE, opensArguments}
 use Rattle.grammar.specs.Pairs.{strength, addPairs}
 use Rattle.grammar.specs.Parser.{Out, fail, ok, startOf, typeStartOf, afterDotOf, goesOn, typeBy, exprBy, parse}
-use Rattle.grammar.proofs.Tokens.{tokenOf}
 
 record Example : Type 0 where
   given : Out (Expr one)
@@ -20,19 +20,19 @@ record Example : Type 0 where
 abbrev pairs : Expr one → Expr one → Example
 pairs e with = record { given = ok (addPairs e false) []; expected = ok with [] }
 
-abbrev spelled : List ℕ → List Token
-spelled [] = []
-spelled (n ∷ ns) = tokenOf n ∷ spelled ns
-
 -- the codes of a token list, and its parse tree; or what the parser stops with
 abbrev reads : List ℕ → Expr one → Example
-reads codes e = record { given = parse NONE (spelled codes); expected = ok e [] }
+reads codes e = record { given = parse NONE (tokensOf codes); expected = ok e [] }
 
 abbrev stops : List ℕ → Out (Expr one) → Example
-stops codes out = record { given = parse NONE (spelled codes); expected = out }
+stops codes out = record { given = parse NONE (tokensOf codes); expected = out }
 
 abbrev a : Expr one
 a = atom path
+
+-- a o b o c without a pair: an operator that leans left
+abbrev leansLeft : Operator → Example
+leansLeft o = pairs (binary o (binary o a a) a) (binary o (binary o a a) a)
 
 -- `a as T`, and `a as T<A>`
 abbrev bareCast : Expr one
@@ -59,7 +59,17 @@ examples =
     -- P7 "comparison under comparison, either side: pair."
     pairs (binary Eq (binary Lt a a) a) (binary Eq (paren (binary Lt a a)) a) ∷
     pairs (binary Eq a (binary Lt a a)) (binary Eq a (paren (binary Lt a a))) ∷
-    -- a = b = c, and (a = b) = c
+    -- "all so far but assignment and comparison lean left"
+    leansLeft Or ∷
+    leansLeft And ∷
+    leansLeft BitOr ∷
+    leansLeft BitXor ∷
+    leansLeft BitAnd ∷
+    leansLeft Shl ∷
+    leansLeft Add ∷
+    leansLeft Mul ∷
+    pairs (cast bareCast named) (cast bareCast named) ∷
+    -- "assignment (right operand first)": a = b = c, and (a = b) = c
     pairs (binary Assign a (binary Assign a a)) (binary Assign a (binary Assign a a)) ∷
     pairs (binary Assign (binary Assign a a) a) (binary Assign (paren (binary Assign a a)) a) ∷
     -- a + b * c; (a + b)
@@ -72,9 +82,9 @@ examples =
     reads (32 ∷ 31 ∷ 32 ∷ 13 ∷ 32 ∷ 17 ∷ []) castWithArguments ∷
     reads (32 ∷ 31 ∷ 32 ∷ 13 ∷ 32 ∷ 17 ∷ 13 ∷ 32 ∷ []) (binary Lt castWithArguments a) ∷
     -- a == b == c: the second `==` is left
-    stops (32 ∷ 12 ∷ 32 ∷ 12 ∷ 32 ∷ []) (ok (binary Eq a a) (spelled (12 ∷ 32 ∷ []))) ∷
+    stops (32 ∷ 12 ∷ 32 ∷ 12 ∷ 32 ∷ []) (ok (binary Eq a a) (tokensOf (12 ∷ 32 ∷ []))) ∷
     -- a as T << b: the `<<` is left
-    stops (32 ∷ 31 ∷ 32 ∷ 10 ∷ 32 ∷ []) (ok bareCast (spelled (10 ∷ 32 ∷ []))) ∷
+    stops (32 ∷ 31 ∷ 32 ∷ 10 ∷ 32 ∷ []) (ok bareCast (tokensOf (10 ∷ 32 ∷ []))) ∷
     -- f(a,): no comma after the last item
     stops (32 ∷ 35 ∷ 32 ∷ 39 ∷ 36 ∷ []) fail ∷
     -- "The empty token list gives 15."

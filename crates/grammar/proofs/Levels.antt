@@ -67,6 +67,10 @@ level-before k = leb→le (level k) (before k) (each-kind (λ x. leb (level x) (
 pub after-positive : (k : Kind) → 0 < after k
 after-positive k = ltb→lt 0 (after k) (each-kind (λ x. ltb 0 (after x)) tt tt k)
 
+-- no plain form has the level of the crate's Range, against which the crate tests the left operand of an assignment
+pub no-range : (k : Kind) → level k ≤ 2 → level k < 2
+no-range k h = ltb→lt (level k) 2 (rw (le-leb (level k) 2 h) at (each-kind (λ x. not (leb (level x) 2) || ltb (level x) 2) tt tt k))
+
 -- What may follow an expression of kind k is not taken by an operand at its end.
 pub stays : (k j : Kind) → before j ≤ level k → level j < after k
 stays k j h =

@@ -1,7 +1,7 @@
 -- With the pairs a tree fits the grammar, and is the same tree but for parentheses. Assumes nothing.
 use mathlib.Core.Path.{_≡_, refl, ap, ap₂, _∙_}
 use mathlib.Core.Bool.{Bool, true, false, not, _&&_, _||_}
-use Prim.Native.Nat.{ℕ, suc, pred, _≤_}
+use Prim.Native.Nat.{ℕ, suc, pred, _≤_, _<_}
 use native.Mathlib.Omega.{arith}
 use lib.Dec.{leb, leb→le}
 use borrow.Author.Tests.{le-leb, ltb-false}
@@ -14,7 +14,7 @@ use Rattle.grammar.specs.Expressions.{Member, byName, byNumber, awaited,
 use Rattle.grammar.specs.Grammar.{Context, NONE, AtLeast, opensArguments, OperatorMayFollow, CallMayFollow, fits, bare}
 use Rattle.grammar.specs.Pairs.{isCastToName, strength, tooWeak, lowestRight, tooWeakAfter, tooWeakBefore, tooWeakToCall, withPair, addPairs}
 use Rattle.grammar.proofs.Tokens.{each-operator}
-use Rattle.grammar.proofs.Levels.{operator-le, operator-high, before-low, before-high, after-high}
+use Rattle.grammar.proofs.Levels.{no-range, operator-le, operator-high, before-low, before-high, after-high}
 use Rattle.grammar.proofs.Complete.{low}
 
 -- ---- the pairs leave no node
@@ -81,6 +81,14 @@ pick-zero-le false n = omega arith
 pub strength-le : (g : Bool) (e : Expr one) → strength g e ≤ level (kindOf e)
 unfolding strength
 strength-le g e = pick-zero-le (g && isCastToName e) (level (kindOf e))
+
+pub strength-no-range : (g : Bool) (e : Expr one) → strength g e ≤ 2 → strength g e < 2
+unfolding strength pick
+strength-no-range g e h = go (g && isCastToName e) h
+  where
+    go : (p : Bool) → pick p 0 (level (kindOf e)) ≤ 2 → pick p 0 (level (kindOf e)) < 2
+    go true q = omega arith
+    go false q = no-range (kindOf e) q
 
 abbrev pub lowest : Kind → ℕ
 lowest k = lowestRight (lean k) (level k)

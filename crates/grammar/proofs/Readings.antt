@@ -1,5 +1,5 @@
--- A token list has at most one reading, and the parser finds it exactly where there is one. Assumes nothing.
-use mathlib.Core.Path.{_≡_, refl, sym, subst, ap, _∙_}
+-- The parser gives a parse tree for the whole list exactly where the grammar does, and the same one. Assumes nothing.
+use mathlib.Core.Path.{_≡_, subst}
 use mathlib.Core.List.{List, []}
 use Prim.Native.Nat.{_*_}
 use native.Mathlib.Omega.{arith}
@@ -7,7 +7,7 @@ use lib.ListN.{length}
 use Rattle.grammar.specs.Tokens.{Token}
 use Rattle.grammar.specs.Types.{one}
 use Rattle.grammar.specs.Expressions.{Expr, write}
-use Rattle.grammar.specs.Grammar.{Context, fits, bare, Reading}
+use Rattle.grammar.specs.Grammar.{Context, fits}
 use Rattle.grammar.specs.Parser.{ok, parse}
 use Rattle.grammar.proofs.Answers.{Good}
 use Rattle.grammar.proofs.Complete.{low, bound, reads-whole, reads}
@@ -30,16 +30,3 @@ one-parse c d e h k q =
     let p = complete c d h in
     let r = complete c e k in
     cc
-
--- At most one reading.
-pub one-reading : (c : Context) (ts : List Token) (t u : Expr one) → Reading c ts t → Reading c ts u → t ≡ u
-one-reading c ts t u r s =
-    sym (r .without) ∙ ap bare (one-parse c (r .parsed) (s .parsed) (r .fit) (s .fit) (r .whole ∙ sym (s .whole))) ∙ s .without
-
--- What the parser gives for the whole list is a reading,
-pub found : (c : Context) (ts : List Token) (e : Expr one) → parse c ts ≡ ok e [] → Reading c ts (bare e)
-found c ts e h = record { parsed = e; fit = correct c ts e h .0; whole = correct c ts e h .1; without = refl }
-
--- and each reading is what the parser gives.
-pub finds : (c : Context) (ts : List Token) (t : Expr one) → Reading c ts t → (e : Expr one) × (parse c ts ≡ ok e []) × (bare e ≡ t)
-finds c ts t r = (r .parsed, subst (λ x. parse c x ≡ ok (r .parsed) []) (r .whole) (complete c (r .parsed) (r .fit)), r .without)

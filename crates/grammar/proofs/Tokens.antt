@@ -1,38 +1,19 @@
--- Tokens and their codes: 46 tokens, one for each code; and what the parser's tests say of a token list. Assumes nothing.
-use mathlib.Core.Path.{_≡_, refl, sym, subst, ap, _∙_}
+-- 46 tokens, one for each code; a rule for every operator, or for every token, is one computed test. Assumes nothing.
+use mathlib.Core.Path.{_≡_, refl, sym, subst, ap, ap₂, _∙_}
 use mathlib.Core.Bool.{Bool, true, _&&_}
 use mathlib.Core.List.{List, [], _∷_}
 use Prim.Native.Nat.{ℕ, zero, suc, _<_}
 use native.Mathlib.Omega.{arith}
 use lib.Dec.{T, eqb, ltb, eqb→eq, ltb→lt}
 use lib.ListN.{getD, length}
-use borrow.Author.Tests.{eqb-true}
-use Rattle.laws.specs.Choice.{pick, lookup}
-use Rattle.laws.proofs.Choice.{true-of, of-true, and-true, true-not-false}
+use Rattle.laws.proofs.Choice.{true-of, of-true, and-true}
 use Rattle.laws.proofs.Each.{all-at}
+use Rattle.laws.proofs.Keys.{allBelow}
 use Rattle.grammar.specs.Tokens.{Operator, Add, Sub, Mul, Div, Rem, And, Or, BitXor, BitAnd, BitOr, Shl, Shr, Eq, Lt, Le, Ne, Ge, Gt, AddAssign, SubAssign, MulAssign, DivAssign, RemAssign, BitXorAssign, BitAndAssign, BitOrAssign, ShlAssign, ShrAssign, Assign, number}
 use Rattle.grammar.specs.Tokens.{Token, operator, code, Bang, AndMut, As, Name, Literal, Dot, LeftParen, RightParen, LeftBracket, RightBracket, Comma, Question, StarConst, StarMut, Underscore, NumberedMember, Await}
-use Rattle.grammar.specs.Types.{typePrefixToken, typeSignToken}
-use Rattle.grammar.specs.Expressions.{atomToken, prefixToken, memberToken}
-use Rattle.grammar.specs.Parser.{tail, isFirst, firstBy, Start, noStart, anAtom, aPrefix, aGroup, startOf, start, TypeStart, noType, aName, aTypePrefix, aSign, typeStartOf, typeStart, AfterDot, noMember, aMember, afterDotOf, afterDot, Next, stops, operates, castsTo, dots, calls, indexes, tries, nextOf, next}
+use Rattle.grammar.specs.Codes.{operators, spelled, operatorOf, tokenOf, tokensOf, codesOf}
 
--- ---- the 46 tokens
-
-abbrev operators : List Operator
-operators = Add ∷ Sub ∷ Mul ∷ Div ∷ Rem ∷ And ∷ Or ∷ BitXor ∷ BitAnd ∷ BitOr ∷ Shl ∷ Shr ∷ Eq ∷ Lt ∷ Le ∷ Ne ∷ Ge ∷ Gt ∷ AddAssign ∷ SubAssign ∷ MulAssign ∷ DivAssign ∷ RemAssign ∷ BitXorAssign ∷ BitAndAssign ∷ BitOrAssign ∷ ShlAssign ∷ ShrAssign ∷ Assign ∷ []
-
-abbrev signs : List Token
-signs = Bang ∷ AndMut ∷ As ∷ Name ∷ Literal ∷ Dot ∷ LeftParen ∷ RightParen ∷ LeftBracket ∷ RightBracket ∷ Comma ∷ Question ∷ StarConst ∷ StarMut ∷ Underscore ∷ NumberedMember ∷ Await ∷ []
-
-abbrev spelled : List Operator → List Token
-spelled [] = signs
-spelled (o ∷ os) = operator o ∷ spelled os
-
-unfoldable pub operatorOf : ℕ → Operator
-operatorOf n = getD operators n Assign
-
-unfoldable pub tokenOf : ℕ → Token
-tokenOf n = getD (spelled operators) n Await
+-- ---- the operators, by number
 
 pub operator-number : (o : Operator) → operatorOf (number o) ≡ o
 unfolding operatorOf
@@ -125,6 +106,16 @@ pub code-token : (n : ℕ) → n < 46 → code (tokenOf n) ≡ n
 unfolding tokenOf
 code-token n h = eqb→eq (code (tokenOf n)) n (all-at (λ m. eqb (code (tokenOf m)) m) 46 tt n h)
 
+pub tokens-codes : (ts : List Token) → tokensOf (codesOf ts) ≡ ts
+tokens-codes [] = refl
+tokens-codes (t ∷ ts) = ap₂ _∷_ (token-code t) (tokens-codes ts)
+
+pub codes-tokens : (ns : List ℕ) → T (allBelow 46 ns) → codesOf (tokensOf ns) ≡ ns
+codes-tokens [] h = refl
+codes-tokens (n ∷ ns) h =
+    let d = and-true (ltb n 46) (allBelow 46 ns) (true-of h) in
+    ap₂ _∷_ (code-token n (ltb→lt n 46 (of-true (d .0)))) (codes-tokens ns (of-true (d .1)))
+
 -- a rule for every token is one computed test
 abbrev pub ofTokens : (Token → Bool) → Bool
 ofTokens p = p Await && allIn p (spelled operators)
@@ -137,69 +128,3 @@ each-token p h t =
 
 pub code-below : (t : Token) → code t < 46
 code-below t = ltb→lt (code t) 46 (each-token (λ x. ltb (code x) 46) tt t)
-
--- ---- what the parser's tests say of the tokens: the first ones are those that the test stands for
-
-pub first-is : (t : Token) (ts : List Token) → isFirst t ts ≡ true → t ∷ tail ts ≡ ts
-first-is t [] e = true-not-false (sym e)
-first-is t (u ∷ ts) e = ap (λ x. x ∷ ts) (sym (code-same u t (eqb-true (code u) (code t) e)))
-
--- a list whose first token, if there is one to put, is u
-abbrev begun : List Token → List Token → List Token
-begun [] ts = ts
-begun (u ∷ us) ts = u ∷ tail ts
-
-abbrev agrees : List Token → Token → Bool
-agrees [] t = true
-agrees (u ∷ us) t = eqb (code u) (code t)
-
--- A class of tokens, with the token that each of its cases stands for: a list of that case begins with it.
-first-of : {A : Type 0} (none : A) (by : Token → A) (token : A → List Token) → token none ≡ [] → T (ofTokens (λ t. agrees (token (by t)) t)) →
-    (ts : List Token) (x : A) → firstBy none by ts ≡ x → begun (token x) ts ≡ ts
-first-of none by token e h [] x q = subst (λ y. begun (token y) [] ≡ []) q (ap (λ l. begun l []) e)
-first-of none by token e h (t ∷ ts) x q =
-    subst (λ y. begun (token y) (t ∷ ts) ≡ t ∷ ts) q (go (token (by t)) (each-token (λ u. agrees (token (by u)) u) h t))
-  where
-    go : (l : List Token) → T (agrees l t) → begun l (t ∷ ts) ≡ t ∷ ts
-    go [] k = refl
-    go (u ∷ us) k = ap (λ y. y ∷ ts) (code-same u t (eqb→eq (code u) (code t) k))
-
-abbrev startToken : Start → List Token
-startToken noStart = []
-startToken (anAtom x) = atomToken x ∷ []
-startToken (aPrefix p) = prefixToken p ∷ []
-startToken aGroup = LeftParen ∷ []
-
-pub start-is : (ts : List Token) (x : Start) → start ts ≡ x → begun (startToken x) ts ≡ ts
-unfolding startOf lookup pick
-start-is = first-of noStart startOf startToken refl tt
-
-abbrev typeStartToken : TypeStart → List Token
-typeStartToken noType = []
-typeStartToken aName = Name ∷ []
-typeStartToken (aTypePrefix p) = typePrefixToken p ∷ []
-typeStartToken (aSign x) = typeSignToken x ∷ []
-
-pub type-start-is : (ts : List Token) (x : TypeStart) → typeStart ts ≡ x → begun (typeStartToken x) ts ≡ ts
-unfolding typeStartOf lookup pick
-type-start-is = first-of noType typeStartOf typeStartToken refl tt
-
-abbrev afterDotToken : AfterDot → List Token
-afterDotToken noMember = []
-afterDotToken (aMember m) = memberToken m ∷ []
-
-pub after-dot-is : (ts : List Token) (x : AfterDot) → afterDot ts ≡ x → begun (afterDotToken x) ts ≡ ts
-unfolding afterDotOf lookup pick
-after-dot-is = first-of noMember afterDotOf afterDotToken refl tt
-
-abbrev nextToken : Next → List Token
-nextToken stops = []
-nextToken (operates o) = operator o ∷ []
-nextToken castsTo = As ∷ []
-nextToken dots = Dot ∷ []
-nextToken calls = LeftParen ∷ []
-nextToken indexes = LeftBracket ∷ []
-nextToken tries = Question ∷ []
-
-pub next-is : (ts : List Token) (x : Next) → next ts ≡ x → begun (nextToken x) ts ≡ ts
-next-is = first-of stops nextOf nextToken refl tt

@@ -9,7 +9,7 @@ use Rattle.grammar.specs.Levels.{casts, prefixes, postfixes, kind, level
 use Rattle.grammar.specs.Types.{Sort, one}
 use Rattle.grammar.specs.Expressions.{Expr, atom, paren, prefix, binary, cast, member, try, index, call, method, noArguments, arguments, lastArgument, moreArguments, write, kindOf, endsInTypeName, endsInDotName}
 
--- where an expression stands: "Context: 0 NONE"
+-- Where an expression stands. "Context: 0 NONE"
 pub data Context : Type 0 where
   NONE : Context
 
@@ -19,7 +19,7 @@ pub data Context : Type 0 where
 abbrev pub AtLeast : ℕ → Expr one → Type 0
 AtLeast n a = n ≤ level (kindOf a)
 
--- `<` and `<<`
+-- the operators `<` and `<<`
 unfoldable pub opensArguments : Operator → Bool
 opensArguments o = isOneOf (number Lt ∷ number Shl ∷ []) (number o)
 
@@ -70,7 +70,7 @@ bare (lastArgument a) = lastArgument (bare a)
 bare (moreArguments a l) = moreArguments (bare a) (bare l)
 
 -- "A reading of a token list is a tree that the grammar gives for the whole list":
--- some parse tree fits, its tokens are exactly the list, and without its parentheses it is the tree.
+-- some parse tree fits, its tokens are exactly the list, and without its parentheses it is the tree. So a reading has no Paren.
 pub record Reading (c : Context) (tokens : List Token) (tree : Expr one) : Type 0 where
   pub parsed : Expr one
   pub fit : fits c parsed

@@ -1,4 +1,5 @@
 pub mod Tokens
+pub mod Codes
 pub mod Levels
 pub mod Types
 pub mod Expressions

@@ -3,7 +3,7 @@ use mathlib.Core.Bool.{Bool, true, false}
 use mathlib.Core.List.{List, _∷_}
 use Rattle.grammar.specs.Tokens.{Token, operator, BitAnd, Lt, Gt, Bang, AndMut, Name, Comma, StarConst, StarMut, Underscore}
 
--- one thing; a list of such things, perhaps empty, with the sign that closes it; the same with at least one item
+-- An expression or a type; a list of them, perhaps empty, with the sign that closes it; the same with at least one item.
 pub data Sort : Type 0 where
   one list items : Sort
 
@@ -27,7 +27,7 @@ pub data Ty : Sort → Type 0 where
   lastType : Ty one → Ty items
   moreTypes : Ty one → Ty items → Ty items
 
--- "8", "30 `&mut`", "41 `*const`, 42 `*mut`"
+-- "41 `*const`, 42 `*mut`"; "Neg, Deref and shared reference use 1, 2 and 8."; "30 `&mut`"
 abbrev pub typePrefixToken : TypePrefix → Token
 typePrefixToken constPtr = StarConst
 typePrefixToken mutPtr = StarMut
