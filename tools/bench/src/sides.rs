@@ -5,19 +5,6 @@ use oracle::forms::Class;
 use oracle::{table, BuiltTree, NodeTable, Row};
 use std::hint::black_box;
 
-extern "C" {
-    fn tezhukor_decide(
-        context: u16,
-        count: u16,
-        table: *const u16,
-        length: usize,
-        rows: *mut u16,
-        rows_length: usize,
-        scratch: *mut u16,
-        scratch_length: usize,
-    ) -> u16;
-}
-
 /// A tree with all that is made for it before the clock starts.
 pub struct Prepared {
     table: NodeTable,
@@ -83,20 +70,8 @@ impl Prepared {
     /// tezhukor_decide with so many cells a node for rows.
     fn decide(&mut self, a_node: usize) -> u16 {
         let rows = &mut self.rows[..a_node * usize::from(self.table.count)];
-        // SAFETY: pointers and lengths are those of slices, of which none overlaps
-        // another; the function demands nothing else of its arguments.
-        unsafe {
-            tezhukor_decide(
-                self.table.context,
-                self.table.count,
-                self.table.cells.as_ptr(),
-                self.table.cells.len(),
-                rows.as_mut_ptr(),
-                rows.len(),
-                self.scratch.as_mut_ptr(),
-                self.scratch.len(),
-            )
-        }
+        let NodeTable { context, count, cells } = &self.table;
+        ours::decide(*context, *count, cells, rows, &mut self.scratch)
     }
 
     /// Stops unless both sides give the same rows.

@@ -1,6 +1,6 @@
 //! The contexts that fixup.rs makes, from every context and every argument.
 
-use crate::ours::{self, contexts};
+use ours::contexts;
 use oracle::direct::{context_of_root, rightmost_context, Context, Subject};
 use oracle::forms::PATH;
 

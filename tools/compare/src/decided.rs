@@ -1,7 +1,6 @@
 //! The rows that tezhukor_decide writes, beside those that the crate gives while
 //! it prints.
 
-use crate::ours;
 use oracle::{table, NodeTable, Row};
 
 /// Cells of one buffer, for each node of a tree.

@@ -1,6 +1,6 @@
 //! Questions about an expression in a context.
 
-use crate::ours::{self, Place};
+use ours::Place;
 use oracle::direct::{context_of_root, Context, Subject};
 use oracle::generate::Dice;
 

@@ -4,7 +4,6 @@
 mod contexts;
 mod decided;
 mod in_context;
-mod ours;
 mod rows;
 
 use decided::Decided;

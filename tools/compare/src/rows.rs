@@ -7,20 +7,10 @@
 //! crate's is shown by `decided`: there tezhukor_decide puts the functions
 //! together, in the four contexts that a header can give.
 
-use crate::ours::{self, contexts, fixup, Place};
 use oracle::direct::Context;
 use oracle::forms::{Class, ASSIGN, BINARY, CAST, RANGE};
 use oracle::{table, NodeTable, Row};
-
-/// What a node gets from its owner.
-#[derive(Copy, Clone)]
-pub struct Handed {
-    pub context: Context,
-    /// A number of [`ours::side`].
-    pub side: u16,
-    /// The owner groups the node if its precedence is smaller than this.
-    pub below: u16,
-}
+use ours::{contexts, fixup, Handed, Place};
 
 /// The rows of an accepted tree, from node 1 on; zeros for types and links.
 pub fn rows(root: Context, tree: &NodeTable) -> Vec<Row> {

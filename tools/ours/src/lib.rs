@@ -1,6 +1,5 @@
 //! Tezhukor's functions, from the static library of the crate `answers`.
 
-use crate::rows::Handed;
 use oracle::direct::Context;
 
 /// The questions, by their numbers in `crates/answers/specs/Questions.antt`.
@@ -133,6 +132,16 @@ extern "C" {
         scratch: *mut u16,
         scratch_length: usize,
     ) -> u16;
+}
+
+/// What a node gets from its owner.
+#[derive(Copy, Clone)]
+pub struct Handed {
+    pub context: Context,
+    /// A number of [`side`].
+    pub side: u16,
+    /// The owner groups the node if its precedence is smaller than this.
+    pub below: u16,
 }
 
 /// A node of a table.
