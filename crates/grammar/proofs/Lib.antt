@@ -1,3 +1,4 @@
+pub mod Parser
 pub mod Theorems
 pub mod Readings
 pub mod Complete

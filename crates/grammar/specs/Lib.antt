@@ -4,5 +4,4 @@ pub mod Levels
 pub mod Types
 pub mod Expressions
 pub mod Grammar
-pub mod Parser
 pub mod Pairs
