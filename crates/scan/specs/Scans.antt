@@ -148,7 +148,7 @@ visitBy Closed x p fail bailout = visit x p fail bailout
 
 -- ---- what follows from the operand's scan: the answer, or the operand's right precedence is asked
 
--- a Fail below stays one only below a method call and the like
+-- an operand's Fail stays one only before a dot, a call and the like
 unfoldable pub failOr : Precedence → Scan
 failOr next = pick (same next level.Unambiguous) Fail Bailout
 
@@ -210,7 +210,7 @@ notConsume Fail = true
 notConsume Bailout = true
 notConsume Consume = false
 
--- the first two tests of rightmost_subexpression_precedence: the operator before, with the precedence by itself, and the operator behind
+-- the first two tests of rightmost_subexpression_precedence: the operator before with the operand's own precedence, and the next operator
 unfoldable pub loose : FixupContext → Precedence → Bool
 loose x d =
     pick

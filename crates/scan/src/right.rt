@@ -24,7 +24,7 @@ ghost use mathlib.Core.Path.{_≡_};
 ghost use Rattle.tree.specs.Trees.{treeAt};
 ghost use Rattle.scan.specs.Scans.{loose, scanned, scanRight, rightmostPrecedence, bailsOut, leftmostPrecedence};
 
-// Whether an operand of this precedence is no tighter than the operator before it.
+// Whether the operator before would group an operand of this precedence.
 fn is_loose(fixup: FixupContext, default: Precedence) -> bool
     ensures { λ r. ⌜ r ≡ loose fixup default ⌝ }
 {
@@ -43,7 +43,7 @@ fn is_loose(fixup: FixupContext, default: Precedence) -> bool
     )
 }
 
-// Whether the operator behind lets a right operand go on to it.
+// Whether the next operator leaves the question to scan_right.
 fn is_scanned(fixup: FixupContext) -> bool
     ensures { λ r. ⌜ r ≡ scanned fixup ⌝ }
 {
@@ -55,7 +55,7 @@ fn is_scanned(fixup: FixupContext) -> bool
     either(ends_operand, !fixup.next_operator_can_begin_expr)
 }
 
-// Whether the operator behind an expression is reached from its right end.
+// How the next operator meets the right end of an expression.
 pub fn scan_right(
     table: &[u16],
     count: u16,
@@ -126,7 +126,7 @@ pub fn rightmost_subexpression_precedence(
     default
 }
 
-// Whether the operator behind a left operand is not reached from it, though it binds no tighter.
+// Whether scan_right bails out of a left operand, and scan_left leaves it whole.
 fn bails_out(fixup: FixupContext, table: &[u16], count: u16, node: u16) -> bool
     ensures { λ r. ⌜ r ≡ bailsOut (treeAt (now (table .entry)) count node) fixup ⌝ }
 {
