@@ -1,0 +1,1 @@
+// Trees numbered anew.
