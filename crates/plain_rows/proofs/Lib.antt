@@ -1,0 +1,5 @@
+pub mod Contexts
+pub mod Nodes
+pub mod Scans
+pub mod Operands
+pub mod Tests
