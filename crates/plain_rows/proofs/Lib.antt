@@ -3,3 +3,5 @@ pub mod Nodes
 pub mod Scans
 pub mod Operands
 pub mod Tests
+pub mod Handed
+pub mod Tokens
