@@ -5,3 +5,4 @@ pub mod Operands
 pub mod Tests
 pub mod Handed
 pub mod Tokens
+pub mod LeftOut

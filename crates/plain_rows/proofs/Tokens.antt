@@ -59,11 +59,11 @@ insideFor x (node l a b) rest = inside (signsOf l b) (tokensFor (handsFirst x (n
 
 -- ---- rows
 
-marked-other : (h : Handed) (t : Tree) → isExpression t ≡ false → marked h t ≡ false
+pub marked-other : (h : Handed) (t : Tree) → isExpression t ≡ false → marked h t ≡ false
 unfolding marked rowOf
 marked-other h t e = rw (pick-false (expressionRow h t) _ e)
 
-marked-expression : (h : Handed) (t : Tree) → isExpression t ≡ true → marked h t ≡ outerPair h t
+pub marked-expression : (h : Handed) (t : Tree) → isExpression t ≡ true → marked h t ≡ outerPair h t
 unfolding marked rowOf expressionRow
 marked-expression h t e = ap (λ r. isOneOf (1 ∷ 3 ∷ []) (r .pair)) (pick-true (expressionRow h t) _ e) ∙ by (outerPair h t) (innerPair t)
   where
@@ -73,7 +73,7 @@ marked-expression h t e = ap (λ r. isOneOf (1 ∷ 3 ∷ []) (r .pair)) (pick-tr
     by false true = refl
     by false false = refl
 
-own-expression : (h : Handed) (t : Tree) → isExpression t ≡ true → ownContext h t ≡ pick (outerPair h t) NONE (h .fixup)
+pub own-expression : (h : Handed) (t : Tree) → isExpression t ≡ true → ownContext h t ≡ pick (outerPair h t) NONE (h .fixup)
 unfolding ownContext
 own-expression h t e = pick-true _ _ e
 
@@ -177,10 +177,10 @@ types-are (moreTypes t l) h rest =
 
 -- ---- expressions, operand by operand
 
-abbrev InsideIs : Expr one → Type 0
+abbrev pub InsideIs : Expr one → Type 0
 InsideIs e = (x : FixupContext) → Calm x → Settled x → (end : List Token) → insideFor x (treeOf e) end ≡ write (addPairs e (x .«next_operator_can_begin_generics»)) end
 
-operand-is : {h : Handed} {a : Expr one} {p g : Bool} → Operand h a p g → InsideIs a → (rest : List Token) → tokensFor h (treeOf a) rest ≡ write (withPair p g (addPairs a)) rest
+pub operand-is : {h : Handed} {a : Expr one} {p g : Bool} → Operand h a p g → InsideIs a → (rest : List Token) → tokensFor h (treeOf a) rest ≡ write (withPair p g (addPairs a)) rest
 operand-is {h} {a} {p} {g} o is rest =
     tokens-by h (treeOf a) rest
     ∙ rw (marked-expression h (treeOf a) (facts a .expression) ∙ o .pair, own-expression h (treeOf a) (facts a .expression) ∙ ap (λ b. pick b NONE (h .fixup)) (o .pair)) (by p)
@@ -189,12 +189,12 @@ operand-is {h} {a} {p} {g} o is rest =
     by true = rw (pick-true NONE (h .fixup) refl) (ap (λ r. LeftParen ∷ r) (is NONE calm-none (λ e. true-not-false (sym e)) (RightParen ∷ rest)))
     by false = rw (pick-false NONE (h .fixup) refl) (is (h .fixup) (o .calm) (o .settled) rest ∙ ap (λ f. write (addPairs a f) rest) (o .flag))
 
-abbrev Is : (s : Sort) → Expr s → Type 0
+abbrev pub Is : (s : Sort) → Expr s → Type 0
 Is one e = InsideIs e
 Is list l = (h : Handed) (end : List Token) → tokensFor h (treeOf l) (RightParen ∷ end) ≡ write (addPairs l false) end
 Is items l = (h : Handed) (end : List Token) → tokensFor h (treeOf l) (RightParen ∷ end) ≡ write (addPairs l false) end
 
-is : (s : Sort) (e : Expr s) → Is s e
+pub is : (s : Sort) (e : Expr s) → Is s e
 unfolding tokensFor signsOf signRows lookup pick classOf
 is s (atom y) = λ x c w end. inside-at x _ _ _ (signs (atomToken y ∷ []) [] []) (atom-signs y) end
 is s (paren a) = λ x c w end.
