@@ -1,0 +1,2 @@
+pub mod Parens
+pub mod FromTable
