@@ -1,2 +1,4 @@
 pub mod Sizes
 pub mod Holds
+pub mod Stores
+pub mod Nodes

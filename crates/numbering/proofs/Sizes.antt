@@ -8,7 +8,7 @@ use lib.Dec.{eqb}
 use borrow.Author.Tests.{eq-eqb, ne-eqb}
 use Rattle.laws.specs.Choice.{pick}
 use Rattle.tree.specs.Table.{firstAt, secondAt}
-use Rattle.tree.specs.Trees.{treeAt}
+use Rattle.tree.specs.Trees.{none, operandAt, treeAt}
 use Rattle.tree.specs.Refusals.{owners, Accepted}
 use Rattle.tree.proofs.Unfold.{tree-zero, unfolds}
 use Rattle.tree.proofs.Accepted.{count-bounds, first-most, second-most, first-operand, second-operand, counted-once}
@@ -93,18 +93,22 @@ module _ (g : ℕ → ℕ) where
 
 -- ---- sizes
 
-pub size-none : (cells : List ℕ) (count : ℕ) → size (treeAt cells count 0) ≡ 0
-unfolding size
-size-none cells count = rw (tree-zero cells count)
+module _ (cells : List ℕ) (count i : ℕ) where
+  pub size-none : treeAt cells count i ≡ none → size (treeAt cells count i) ≡ 0
+  unfolding size
+  size-none e = rw e
+
+  pub size-node : 1 ≤ i → i ≤ count → size (treeAt cells count i) ≡ suc (size (treeAt cells count (operandAt cells count i 3)) + size (treeAt cells count (operandAt cells count i 4)))
+  unfolding size
+  size-node p q = rw (unfolds cells count i p q)
 
 module _ (context count : ℕ) (cells : List ℕ) (ok : Accepted context count cells) where
   abbrev sized : ℕ → ℕ
   sized i = size (treeAt cells count i)
 
-  size-node : (i : ℕ) → 1 ≤ i → i ≤ count → sized i ≡ 1 + (sized (firstAt cells i) + sized (secondAt cells i))
-  unfolding size
-  size-node i p q =
-      rw (unfolds cells count i p q, first-operand context count cells ok i p q, second-operand context count cells ok i p q) (omega arith)
+  sized-node : (i : ℕ) → 1 ≤ i → i ≤ count → sized i ≡ 1 + (sized (firstAt cells i) + sized (secondAt cells i))
+  sized-node i p q =
+      rw (size-node cells count i p q, first-operand context count cells ok i p q, second-operand context count cells ok i p q) (omega arith)
 
   once : (j : ℕ) → 2 ≤ j → j ≤ count → sized j ≡ owners cells count j * sized j
   once j p q = rw (counted-once context count cells ok j p q) (omega arith)
@@ -117,9 +121,9 @@ module _ (context count : ℕ) (cells : List ℕ) (ok : Accepted context count c
   pub size-accepted : size (treeAt cells count 1) ≡ count
   size-accepted =
       let k = count-bounds context count cells ok in
-      let a = sum-same sized (λ i. 1 + (sized (firstAt cells i) + sized (secondAt cells i))) count size-node in
+      let a = sum-same sized (λ i. 1 + (sized (firstAt cells i) + sized (secondAt cells i))) count sized-node in
       let b = sum-add (λ i. 1) (λ i. sized (firstAt cells i) + sized (secondAt cells i)) count in
       let c = sum-ones count in
-      let d = by-owners sized (size-none cells count) cells count count (λ i p q. (first-most context count cells ok i p q, second-most context count cells ok i p q)) in
+      let d = by-owners sized (size-none cells count 0 (tree-zero cells count)) cells count count (λ i p q. (first-most context count cells ok i p q, second-most context count cells ok i p q)) in
       let e = sum-but-first sized (λ j. owners cells count j * sized j) count (k .0) once in
       only-one (owners cells count 1) (sized 1) (k .0) (omega arith)
