@@ -2,3 +2,4 @@ pub mod Sizes
 pub mod Holds
 pub mod Stores
 pub mod Nodes
+pub mod Replies
