@@ -6,3 +6,4 @@ pub mod Tests
 pub mod Handed
 pub mod Tokens
 pub mod LeftOut
+pub mod Numbers
