@@ -1,0 +1,4 @@
+pub mod Plains
+pub mod Putting
+pub mod Spelling
+pub mod Tokens
