@@ -1,34 +1,40 @@
+-- `token_writer::write_plain` meets its contract. Assumes nothing.
+use mathlib.Core.Path.{_≡_}
+use native.Mathlib.Omega.{arith}
 use borrow.Author.Needs.{needs}
+use Rattle.token_writer.proofs.Replies.{codes-written}
+use Rattle.token_writer.proofs.Tokens.{length-codes}
+use Rattle.token_writer.specs.Writes.{written}
 use Rattle.token_writer.proofs.write_plain.Statement.{statement}
 use Rattle.token_writer.proofs.write_plain.Tie as tie
-use Rattle.token_writer.proofs.write_plain.Reads as reads
-use Rattle.token_writer.proofs.write_plain.Lts as lts
-use Rattle.token_writer.proofs.write_from.Reads as write-from-reads
-use Rattle.walk.proofs.decide.Reads as decide-reads
 
--- src/lib.rt:119:5
 decide-requires : tie.Need-decide-requires
 decide-requires c κs = search needs
 
--- src/lib.rt:120:5
 write-from-requires : tie.Need-write-from-requires
-write-from-requires c κs = ?
+write-from-requires c κs =
+    let s = c .before .before .before .before .before .before .before .before .before .before .before .before .before in
+    let a = s .args in
+    let e = codes-written (a .count) (a .table .now) _ _ _ (s .pre .0) (s .pre .1) (c .before .before .before .before .before .before .decide .ensures .1 .0) in
+    let l = length-codes (written (a .count) (a .table .now)) in
+    let r = s .pre .2 in
+    rw e (omega arith)
 
--- src/lib.rt:109:1
 same-length : tie.Need-same-length
 same-length c = search needs
 
--- src/lib.rt:109:1
 same-length-2 : tie.Need-same-length-2
 same-length-2 c = search needs
 
--- src/lib.rt:109:1
 same-length-3 : tie.Need-same-length-3
 same-length-3 c = search needs
 
--- src/lib.rt:109:1
 returns : tie.Need-returns
-returns c = ?
+returns c =
+    let s = c .before .before .before .before .before .before .before .before .before .before .before .before .before .before .before .before in
+    let a = s .args in
+    let e = codes-written (a .count) (a .table .now) _ _ _ (s .pre .0) (s .pre .1) (c .before .before .before .before .before .before .before .before .before .decide .ensures .1 .0) in
+    rw e at (c .before .before .write-from .ensures)
 
 pub write-plain-spec : {M : Type 1} → statement M
 write-plain-spec =
