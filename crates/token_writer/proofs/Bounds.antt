@@ -4,14 +4,19 @@ use mathlib.Core.Bool.{Bool, true, false}
 use mathlib.Core.List.{List, [], _∷_, _++_}
 use Prim.Native.Nat.{ℕ, _+_, _*_, _≤_}
 use native.Mathlib.Omega.{arith}
+use lib.Dec.{eqb}
 use lib.ListN.{length, length-append}
+use borrow.Author.Tests.{eqb-true}
 use Rattle.laws.specs.Choice.{pick, Row, row, lookup, isOneOf}
 use Rattle.tree.specs.Trees.{Label, Tree, none, node, operandAt, treeAt}
+use Rattle.tree.specs.Refusals.{refuse, firstOf, refusal, Accepted}
 use Rattle.tree.specs.Walks.{isThere}
+use Rattle.tree.proofs.Accepted.{count-bounds}
 use Rattle.grammar.specs.Tokens.{Token, LeftParen, RightParen, Comma}
 use Rattle.numbering.specs.Numbered.{size}
+use Rattle.numbering.proofs.Sizes.{size-accepted}
 use Rattle.plain.specs.Written.{Signs, signs, comma, signRows, signsOf, tokensAt, hasPair}
-use Rattle.token_writer.specs.Writes.{rowsFor, written}
+use Rattle.token_writer.specs.Writes.{rowsFor, written, refusal12, refusal13, writeRefusal}
 use Rattle.token_writer.proofs.Tokens.{oneOf, in-row}
 
 -- ---- what holds of all that a table gives
@@ -41,7 +46,7 @@ four : (l : Label) (b : Tree) → few (signsOf l b) ≤ 4
 unfolding signsOf signRows few
 four l b =
     in-table (λ (s : Signs). few s ≤ 4) (signRows (l .detail) (isThere b)) (signs [] [] []) (l .form)
-    (omega arith, omega arith, omega arith, omega arith, omega arith, omega arith, omega arith, omega arith, omega arith, omega arith, omega arith, omega arith, omega arith, omega arith, by-test (λ (s : Signs). few s ≤ 4) _ _ _ (omega arith) (omega arith), omega arith, omega arith, omega arith, link (isThere b), tt)
+    (omega arith, (omega arith, (omega arith, (omega arith, (omega arith, (omega arith, (omega arith, (omega arith, (omega arith, (omega arith, (omega arith, (omega arith, (omega arith, (omega arith, (by-test (λ (s : Signs). few s ≤ 4) _ _ _ (omega arith) (omega arith), (omega arith, (omega arith, (omega arith, (link (isThere b), tt)))))))))))))))))))
     (omega arith)
   where
     link : (b : Bool) → few (signs [] (comma b) []) ≤ 4
@@ -64,8 +69,28 @@ module _ (cells : List ℕ) (count : ℕ) (pair : ℕ → Bool) where
       let end = one-most (pair i) RightParen in
       rw (in-row cells count pair i l a b) (simp length-append (omega arith))
 
-pub written-most : (count : ℕ) (cells : List ℕ) → size (treeAt cells count 1) ≤ count → length (written count cells) ≤ 6 * count
+-- ---- an accepted table
+
+accepted-first : (context count : ℕ) (cells : List ℕ) (lent : ℕ) → writeRefusal context count cells lent ≡ 0 → Accepted context count cells
+unfolding writeRefusal pick
+accepted-first context count cells lent e = go (eqb (refusal context count cells) 0) refl e
+  where
+    go : (b : Bool) → eqb (refusal context count cells) 0 ≡ b → pick b (firstOf (refuse 12 (refusal12 count lent) ∷ refuse 13 (refusal13 context count cells) ∷ [])) (refusal context count cells) ≡ 0 → Accepted context count cells
+    go true p q = eqb-true _ 0 p
+    go false p q = q
+
+written-most : (count : ℕ) (cells : List ℕ) → size (treeAt cells count 1) ≤ count → length (written count cells) ≤ 6 * count
 unfolding written
 written-most count cells h =
     let most = six-a-node cells count (hasPair (rowsFor count cells)) 1 (treeAt cells count 1) in
     omega arith
+
+-- "Tokens written never pass 24,576.": six for each of at most 4,096 nodes
+pub tokens-bound : (context count : ℕ) (cells : List ℕ) (lent : ℕ) → writeRefusal context count cells lent ≡ 0
+    → (length (written count cells) ≤ 6 * count) × (length (written count cells) ≤ 24576)
+tokens-bound context count cells lent e =
+    let ok = accepted-first context count cells lent e in
+    let nodes = size-accepted context count cells ok in
+    let bounds = count-bounds context count cells ok in
+    let most = written-most count cells (omega arith) in
+    (most, omega arith)

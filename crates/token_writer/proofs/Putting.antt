@@ -24,7 +24,8 @@ put-more {before} {after} {last} {at} {mid} {next} {first} {second} p q =
     record {
       cells = q .cells ∙ rw (p .cells, p .ends) (sym (sets-append before at first second));
       ends = rw length-append (omega (arith, p .ends, q .ends));
-      room = q .room ∙ p .room }
+      room = q .room ∙ p .room;
+    }
 
 -- from the first cell on
 pub put-over : (before codes after : List ℕ) (next : ℕ) → length codes ≤ length before → Put before 0 codes after next → after ≡ over codes before

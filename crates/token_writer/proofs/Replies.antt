@@ -1,11 +1,11 @@
 -- The replies of `write`, and what they leave in the buffer. Assumes nothing.
 use mathlib.Core.Path.{_≡_, refl, sym, ap, _∙_}
 use mathlib.Core.Bool.{Bool, true, false, not, _||_}
-use mathlib.Core.List.{List, []}
-use Prim.Native.Nat.{ℕ, _+_, _*_, _≤_, _<_}
+use mathlib.Core.List.{List, [], _∷_}
+use Prim.Native.Nat.{ℕ, zero, suc, _+_, _*_, _≤_, _<_}
 use native.Mathlib.Omega.{arith}
 use lib.Dec.{eqb, ltb}
-use lib.ListN.{length, take, replicate}
+use lib.ListN.{length, take, replicate, length-replicate}
 use borrow.Author.Tests.{eq-eqb, ne-eqb, lt-ltb, le-ltb}
 use Rattle.laws.specs.Choice.{pick}
 use Rattle.laws.proofs.Choice.{pick-true, pick-false, or-here, or-next}
@@ -27,6 +27,15 @@ pub codes-written : (count : ℕ) (cells rows scratch after : List ℕ) → rows
     → after ≡ rowsAfter 0 count cells rows scratch → codesAt cells count after 1 ≡ codesOf (written count cells)
 unfolding codesAt written rowsFor
 codes-written count cells rows scratch after r s e = rw (e, r, s)
+
+-- zeros at the start of more zeros
+pub take-zeros : (n m : ℕ) → n ≤ m → take {A = ℕ} n (replicate m 0) ≡ replicate n 0
+take-zeros zero m h = refl
+take-zeros (suc n) zero h = absurd (omega arith)
+take-zeros (suc n) (suc m) h = ap (λ (l : List ℕ). 0 ∷ l) (take-zeros n m (omega arith))
+
+pub length-zeros : (n m : ℕ) → n ≤ m → n ≡ length {A = ℕ} (take n (replicate m 0))
+length-zeros n m h = sym (ap length (take-zeros n m h) ∙ length-replicate {A = ℕ} n 0)
 
 -- ---- the replies
 

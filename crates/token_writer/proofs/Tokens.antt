@@ -1,7 +1,7 @@
 -- The tokens of a tree, a node at a time. Assumes nothing.
 use mathlib.Core.Path.{_≡_, refl, sym, ap, _∙_}
 use mathlib.Core.Bool.{Bool, true, false}
-use mathlib.Core.List.{List, [], _∷_, _++_, append-assoc}
+use mathlib.Core.List.{List, [], _∷_, _++_, append-assoc, append-nil}
 use Prim.Native.Nat.{ℕ, _+_, _≤_}
 use native.Mathlib.Omega.{arith}
 use lib.ListN.{length, length-append}
@@ -26,10 +26,6 @@ codes-append (x ∷ s) t = ap (λ (r : List ℕ). code x ∷ r) (codes-append s 
 pub length-codes : (s : List Token) → length (codesOf s) ≡ length s
 length-codes [] = refl
 length-codes (x ∷ s) = rw (length-codes s)
-
-append-none : (s : List ℕ) → s ++ [] ≡ s
-append-none [] = refl
-append-none (n ∷ s) = ap (λ (r : List ℕ). n ∷ r) (append-none s)
 
 -- ---- tokens
 
@@ -91,7 +87,7 @@ module _ (cells : List ℕ) (count : ℕ) (rows : List ℕ) (i : ℕ) where
     codes-parts =
         ap (λ (t : Tree). codesOf (tokensAt cells count (hasPair rows) i t [])) (unfolds cells count i low high)
         ∙ ap codesOf (in-row cells count (hasPair rows) i _ _ _)
-        ∙ simp (codes-append, append-none)
+        ∙ simp (codes-append, append-nil)
         (rw (is, one-if (hasPair rows i) LeftParen, one-if (hasPair rows i) RightParen, own .before, own .between, own .behind))
 
     pub length-parts : length (codesAt cells count rows i)

@@ -67,7 +67,14 @@ fn has_pair(rows: &[u16], node: u16) -> bool
 
 // The tokens of a node and of all below it from `at` on; answers the place behind them. Number 0 stands for an
 // operand that is absent.
-fn write_from(table: &[u16], count: u16, rows: &[u16], node: u16, tokens: &mut [u16], at: usize) -> usize
+fn write_from(
+    table: &[u16],
+    count: u16,
+    rows: &[u16],
+    node: u16,
+    tokens: &mut [u16],
+    at: usize,
+) -> usize
     requires { ⌜ at + length (codesAt (now table) count (now rows) node) ≤ length (now tokens) ⌝ }
     ensures { λ r. ⌜ Put (now (tokens .entry)) at (codesAt (now (table .entry)) count (now (rows .entry)) node) (now (tokens .exit)) r ⌝ }
 {

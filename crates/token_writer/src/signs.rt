@@ -129,12 +129,18 @@ fn signs_of(form: u16, detail: u16, more: bool) -> Signs
         forms::EXPR_ASSIGN => amid(Few::One(codes::ASSIGN)),
         forms::EXPR_CAST => amid(Few::One(codes::AS)),
         forms::EXPR_FIELD => {
-            amid(Few::Two(codes::DOT, by_detail(detail, codes::NAME, codes::NUMBERED_MEMBER)))
+            amid(Few::Two(
+                codes::DOT,
+                by_detail(detail, codes::NAME, codes::NUMBERED_MEMBER),
+            ))
         }
         forms::EXPR_INDEX => round(Few::One(codes::LEFT_BRACKET), codes::RIGHT_BRACKET),
         forms::EXPR_CALL => round(Few::One(codes::LEFT_PAREN), codes::RIGHT_PAREN),
         forms::EXPR_METHOD_CALL => {
-            round(Few::Three(codes::DOT, codes::NAME, codes::LEFT_PAREN), codes::RIGHT_PAREN)
+            round(
+                Few::Three(codes::DOT, codes::NAME, codes::LEFT_PAREN),
+                codes::RIGHT_PAREN,
+            )
         }
         forms::EXPR_TRY => amid(Few::One(codes::QUESTION)),
         forms::EXPR_AWAIT => amid(Few::Two(codes::DOT, codes::AWAIT)),

@@ -3,8 +3,7 @@ use mathlib.Core.Path.{_∙_}
 use Prim.Native.Nat.{ℕ, _<_}
 use native.Mathlib.Omega.{arith}
 use borrow.Author.Needs.{needs}
-use Rattle.tree.proofs.Unfold.{tree-zero, tree-past}
-use Rattle.walk.proofs.Placed.{left, left-falls}
+use Rattle.tree.proofs.Unfold.{left, left-falls, tree-zero, tree-past}
 use Rattle.token_writer.proofs.Tokens.{put-nothing, length-parts, put-parts}
 use borrow.Fn.Kinds.{In}
 use borrow.Fn.PlainCycle.{Measures, is, falls, and}
@@ -35,17 +34,17 @@ abbrev claims : ℕ → write-from-lts.Claims
 claims t = (has-pair-reads.Asked, has-pair-reads.Learnt, signs-at-reads.Asked, signs-at-reads.Learnt, one-if-reads.Asked, one-if-reads.Learnt, put-reads.Asked, put-reads.Learnt, operand-number-reads.Asked, operand-number-reads.Learnt, write-from-below t, write-from.Post)
 
 write-from-returns : (t : ℕ) → write-from-lts.Need-returns (claims t) (write-from-at t) write-from.Post
-write-from-returns t c = 
+write-from-returns t c =
     let a = c .before .before .before .before .args in
     put-nothing (a .table .now) (a .count) (a .rows .now) (a .node) (rw (c .if1 .taken) (tree-zero _ _)) _ _
 
 write-from-returns-2 : (t : ℕ) → write-from-lts.Need-returns-2 (claims t) (write-from-at t) write-from.Post
-write-from-returns-2 t c = 
+write-from-returns-2 t c =
     let a = c .before .before .before .before .before .args in
     put-nothing (a .table .now) (a .count) (a .rows .now) (a .node) (tree-past _ _ _ (omega arith)) _ _
 
 write-from-has-pair-requires : (t : ℕ) → write-from-lts.Need-has-pair-requires (claims t) (write-from-at t) write-from.Post
-write-from-has-pair-requires t c κs = 
+write-from-has-pair-requires t c κs =
     let u = c .before .if1 .left in omega arith
 
 write-from-signs-at-requires : (t : ℕ) → write-from-lts.Need-signs-at-requires (claims t) (write-from-at t) write-from.Post
@@ -55,7 +54,7 @@ write-from-one-if-requires : (t : ℕ) → write-from-lts.Need-one-if-requires (
 write-from-one-if-requires t c κs = search needs
 
 write-from-put-requires : (t : ℕ) → write-from-lts.Need-put-requires (claims t) (write-from-at t) write-from.Post
-write-from-put-requires t c κs = 
+write-from-put-requires t c κs =
     let a = c .before .before .before .before .before .before .before .before .before .args in
     let r = c .before .before .before .before .before .before .before .before .before .pre .1 in
     let u = c .before .before .before .before .before .if1 .left in
@@ -64,7 +63,7 @@ write-from-put-requires t c κs =
     rw (c .one-if .ensures) (omega arith)
 
 write-from-put-requires-2 : (t : ℕ) → write-from-lts.Need-put-requires-2 (claims t) (write-from-at t) write-from.Post
-write-from-put-requires-2 t c κs = 
+write-from-put-requires-2 t c κs =
     let a = c .before .before .before .before .before .before .before .before .before .before .before .before .before .args in
     let r = c .before .before .before .before .before .before .before .before .before .before .before .before .before .pre .1 in
     let u = c .before .before .before .before .before .before .before .before .before .if1 .left in
@@ -77,7 +76,7 @@ write-from-operand-number-requires : (t : ℕ) → write-from-lts.Need-operand-n
 write-from-operand-number-requires t c κs = search needs
 
 write-from-write-from-requires : (t : ℕ) → write-from-lts.Need-write-from-requires (claims t) (write-from-at t) write-from.Post
-write-from-write-from-requires t c κs = 
+write-from-write-from-requires t c κs =
     let a = c .before .before .before .before .before .before .before .before .before .before .before .before .before .before .before .before .before .before .args in
     let r = c .before .before .before .before .before .before .before .before .before .before .before .before .before .before .before .before .before .before .pre .1 in
     let u = c .before .before .before .before .before .before .before .before .before .before .before .before .before .before .if1 .left in
@@ -89,7 +88,7 @@ write-from-write-from-requires t c κs =
     (rw (← c .before .before .before .before .before .before .before .before .before .before .before .before .before .before .before .before .before .before .pre .0, c .before .operand-number .ensures) (left-falls (a .count) (a .node) _ (omega arith) (omega arith) (omega arith)), rw (c .before .operand-number .ensures) (omega (arith, p1 .ends, p1 .room, p2 .ends, p2 .room)))
 
 write-from-put-requires-3 : (t : ℕ) → write-from-lts.Need-put-requires-3 (claims t) (write-from-at t) write-from.Post
-write-from-put-requires-3 t c κs = 
+write-from-put-requires-3 t c κs =
     let a = c .before .before .before .before .before .before .before .before .before .before .before .before .before .before .before .before .before .before .before .before .before .before .args in
     let r = c .before .before .before .before .before .before .before .before .before .before .before .before .before .before .before .before .before .before .before .before .before .before .pre .1 in
     let u = c .before .before .before .before .before .before .before .before .before .before .before .before .before .before .before .before .before .before .if1 .left in
@@ -104,7 +103,7 @@ write-from-operand-number-requires-2 : (t : ℕ) → write-from-lts.Need-operand
 write-from-operand-number-requires-2 t c κs = search needs
 
 write-from-write-from-requires-2 : (t : ℕ) → write-from-lts.Need-write-from-requires-2 (claims t) (write-from-at t) write-from.Post
-write-from-write-from-requires-2 t c κs = 
+write-from-write-from-requires-2 t c κs =
     let a = c .before .before .before .before .before .before .before .before .before .before .before .before .before .before .before .before .before .before .before .before .before .before .before .before .before .before .before .args in
     let r = c .before .before .before .before .before .before .before .before .before .before .before .before .before .before .before .before .before .before .before .before .before .before .before .before .before .before .before .pre .1 in
     let u = c .before .before .before .before .before .before .before .before .before .before .before .before .before .before .before .before .before .before .before .before .before .before .before .if1 .left in
@@ -118,7 +117,7 @@ write-from-write-from-requires-2 t c κs =
     (rw (← c .before .before .before .before .before .before .before .before .before .before .before .before .before .before .before .before .before .before .before .before .before .before .before .before .before .before .before .pre .0, c .before .operand-number2 .ensures) (left-falls (a .count) (a .node) _ (omega arith) (omega arith) (omega arith)), rw (c .before .operand-number2 .ensures) (omega (arith, p1 .ends, p1 .room, p2 .ends, p2 .room, p3 .ends, p3 .room, p4 .ends, p4 .room)))
 
 write-from-put-requires-4 : (t : ℕ) → write-from-lts.Need-put-requires-4 (claims t) (write-from-at t) write-from.Post
-write-from-put-requires-4 t c κs = 
+write-from-put-requires-4 t c κs =
     let a = c .before .before .before .before .before .before .before .before .before .before .before .before .before .before .before .before .before .before .before .before .before .before .before .before .before .before .before .before .before .before .before .args in
     let r = c .before .before .before .before .before .before .before .before .before .before .before .before .before .before .before .before .before .before .before .before .before .before .before .before .before .before .before .before .before .before .before .pre .1 in
     let u = c .before .before .before .before .before .before .before .before .before .before .before .before .before .before .before .before .before .before .before .before .before .before .before .before .before .before .before .if1 .left in
@@ -135,7 +134,7 @@ write-from-one-if-requires-2 : (t : ℕ) → write-from-lts.Need-one-if-requires
 write-from-one-if-requires-2 t c κs = search needs
 
 write-from-put-requires-5 : (t : ℕ) → write-from-lts.Need-put-requires-5 (claims t) (write-from-at t) write-from.Post
-write-from-put-requires-5 t c κs = 
+write-from-put-requires-5 t c κs =
     let a = c .before .before .before .before .before .before .before .before .before .before .before .before .before .before .before .before .before .before .before .before .before .before .before .before .before .before .before .before .before .before .before .before .before .before .before .before .args in
     let r = c .before .before .before .before .before .before .before .before .before .before .before .before .before .before .before .before .before .before .before .before .before .before .before .before .before .before .before .before .before .before .before .before .before .before .before .before .pre .1 in
     let u = c .before .before .before .before .before .before .before .before .before .before .before .before .before .before .before .before .before .before .before .before .before .before .before .before .before .before .before .before .before .before .before .before .if1 .left in
@@ -153,7 +152,7 @@ write-from-same-length : (t : ℕ) → write-from-lts.Need-same-length (claims t
 write-from-same-length t c = c .before .before .put5 .ensures .room ∙ c .before .before .before .before .before .before .before .put4 .ensures .room ∙ c .before .before .before .before .before .before .before .before .before .before .before .write-from2 .ensures .room ∙ c .before .before .before .before .before .before .before .before .before .before .before .before .before .before .before .before .put3 .ensures .room ∙ c .before .before .before .before .before .before .before .before .before .before .before .before .before .before .before .before .before .before .before .before .write-from .ensures .room ∙ c .before .before .before .before .before .before .before .before .before .before .before .before .before .before .before .before .before .before .before .before .before .before .before .before .before .put2 .ensures .room ∙ c .before .before .before .before .before .before .before .before .before .before .before .before .before .before .before .before .before .before .before .before .before .before .before .before .before .before .before .before .before .put .ensures .room
 
 write-from-returns-3 : (t : ℕ) → write-from-lts.Need-returns-3 (claims t) (write-from-at t) write-from.Post
-write-from-returns-3 t c = 
+write-from-returns-3 t c =
     let a = c .before .before .before .before .before .before .before .before .before .before .before .before .before .before .before .before .before .before .before .before .before .before .before .before .before .before .before .before .before .before .before .before .before .before .before .before .before .before .before .args in
     let u = c .before .before .before .before .before .before .before .before .before .before .before .before .before .before .before .before .before .before .before .before .before .before .before .before .before .before .before .before .before .before .before .before .before .before .before .if1 .left in
     let v = c .before .before .before .before .before .before .before .before .before .before .before .before .before .before .before .before .before .before .before .before .before .before .before .before .before .before .before .before .before .before .before .before .before .before .if2 .left in

@@ -1,79 +1,117 @@
+-- `token_writer::write` meets its contract. Assumes nothing.
+use mathlib.Core.Path.{_≡_, sym, ap, _∙_}
+use mathlib.Core.Bool.{not}
+use Prim.Native.Nat.{ℕ, _*_, _≤_}
+use native.Mathlib.Nat.{le-trans, mul-le-mul-left}
+use native.Mathlib.Omega.{arith}
+use lib.ListN.{length}
 use borrow.Author.Needs.{needs}
+use borrow.Author.Tests.{not-true, not-false}
+use Rattle.tree.proofs.Accepted.{count-bounds}
+use Rattle.token_writer.specs.Writes.{written}
+use Rattle.token_writer.proofs.Bounds.{tokens-bound}
+use Rattle.token_writer.proofs.Replies.{take-zeros, length-zeros, refused, short, in-context, not-plain, not-refused, done}
+use Rattle.token_writer.proofs.Tokens.{length-codes}
 use Rattle.token_writer.proofs.write.Statement.{statement}
 use Rattle.token_writer.proofs.write.Tie as tie
-use Rattle.token_writer.proofs.write.Reads as reads
-use Rattle.token_writer.proofs.write.Lts as lts
-use Rattle.token_writer.proofs.plainness.is_plain_table.Reads as is-plain-table-reads
-use Rattle.token_writer.proofs.write_plain.Reads as write-plain-reads
-use Rattle.tree.proofs.refusal.check.Reads as check-reads
 
--- src/lib.rt:128:9
+-- k cells for each of at most 4,096 nodes
+times : (k n : ℕ) → n ≤ 4096 → k * n ≤ k * 4096
+times k n h = mul-le-mul-left k h
+
 check-requires : tie.Need-check-requires
 check-requires c κs = search needs
 
--- src/lib.rt:130:9
 returns : tie.Need-returns
-returns c = ?
+returns c =
+    let a = c .before .before .before .before .args in
+    refused (a .context) (a .count) (a .table .now) (a .tokens .now) _ (c .before .check .ensures) (c .if1 .taken)
 
--- src/lib.rt:133:23
 mul-if2 : tie.Need-mul-if2
 mul-if2 c = search needs
 
--- src/lib.rt:134:9
 returns-2 : tie.Need-returns-2
-returns-2 c = ?
+returns-2 c =
+    let a = c .before .before .before .before .before .args in
+    short (a .context) (a .count) (a .table .now) (a .tokens .now) (sym (c .before .before .check .ensures) ∙ c .before .if1 .left) (omega arith)
 
--- src/lib.rt:137:9
 returns-3 : tie.Need-returns-3
-returns-3 c = ?
+returns-3 c =
+    let a = c .before .before .before .before .before .before .args in
+    in-context (a .context) (a .count) (a .table .now) (a .tokens .now) (sym (c .before .before .before .check .ensures) ∙ c .before .before .if1 .left) (c .before .if2 .left) (c .if3 .taken)
 
--- src/lib.rt:139:9
 is-plain-table-requires : tie.Need-is-plain-table-requires
 is-plain-table-requires c κs = search needs
 
--- src/lib.rt:140:9
 returns-4 : tie.Need-returns-4
-returns-4 c = ?
+returns-4 c =
+    let a = c .before .before .before .before .before .before .before .before .args in
+    not-plain (a .context) (a .count) (a .table .now) (a .tokens .now) (sym (c .before .before .before .before .before .check .ensures) ∙ c .before .before .before .before .if1 .left) (c .before .before .before .if2 .left) (c .before .before .if3 .left) (not-true _ (ap not (sym (c .before .is-plain-table .ensures)) ∙ c .if4 .taken))
 
--- src/lib.rt:144:21
 mul-row-cells : tie.Need-mul-row-cells
 mul-row-cells c = search needs
 
--- src/lib.rt:145:25
 mul-scratch-cells : tie.Need-mul-scratch-cells
 mul-scratch-cells c = search needs
 
--- src/lib.rt:149:9
 array-borrow-prefix-rows : tie.Need-array-borrow-prefix-rows
-array-borrow-prefix-rows c = ?
+array-borrow-prefix-rows c =
+    let a = c .before .before .before .before .before .before .before .before .args in
+    let bounds = count-bounds (a .context) (a .count) (a .table .now) (sym (c .before .before .before .before .before .check .ensures) ∙ c .before .before .before .before .if1 .left) in
+    times 5 (a .count) (bounds .1)
 
--- src/lib.rt:149:9
 slice-aggregate-write-plain : tie.Need-slice-aggregate-write-plain
-slice-aggregate-write-plain c = ?
+slice-aggregate-write-plain c =
+    let a = c .before .before .before .before .before .before .before .before .before .args in
+    let bounds = count-bounds (a .context) (a .count) (a .table .now) (sym (c .before .before .before .before .before .before .check .ensures) ∙ c .before .before .before .before .before .if1 .left) in
+    length-zeros (5 * a .count) 20480 (times 5 (a .count) (bounds .1))
 
--- src/lib.rt:150:9
 array-borrow-prefix-scratch : tie.Need-array-borrow-prefix-scratch
-array-borrow-prefix-scratch c = ?
+array-borrow-prefix-scratch c =
+    let a = c .before .before .before .before .before .before .before .before .before .args in
+    let bounds = count-bounds (a .context) (a .count) (a .table .now) (sym (c .before .before .before .before .before .before .check .ensures) ∙ c .before .before .before .before .before .if1 .left) in
+    times 3 (a .count) (bounds .1)
 
--- src/lib.rt:150:9
 slice-aggregate-write-plain-2 : tie.Need-slice-aggregate-write-plain-2
-slice-aggregate-write-plain-2 c = ?
+slice-aggregate-write-plain-2 c =
+    let a = c .before .before .before .before .before .before .before .before .before .before .args in
+    let bounds = count-bounds (a .context) (a .count) (a .table .now) (sym (c .before .before .before .before .before .before .before .check .ensures) ∙ c .before .before .before .before .before .before .if1 .left) in
+    length-zeros (3 * a .count) 12288 (times 3 (a .count) (bounds .1))
 
--- src/lib.rt:146:9
 write-plain-requires : tie.Need-write-plain-requires
-write-plain-requires c κs = ?
+write-plain-requires c κs =
+    let a = c .before .before .before .before .before .before .before .before .before .before .before .args in
+    let ok = sym (c .before .before .before .before .before .before .before .before .check .ensures) ∙ c .before .before .before .before .before .before .before .if1 .left in
+    let fits = c .before .before .before .before .before .before .if2 .left in
+    let none = c .before .before .before .before .before .if3 .left in
+    let plain = not-false _ (ap not (sym (c .before .before .before .before .is-plain-table .ensures)) ∙ c .before .before .before .if4 .left) in
+    let most = tokens-bound (a .context) (a .count) (a .table .now) (length (a .tokens .now)) (not-refused (a .context) (a .count) (a .table .now) (a .tokens .now) ok fits none plain) in
+    let bounds = count-bounds (a .context) (a .count) (a .table .now) ok in
+    (take-zeros (5 * a .count) 20480 (times 5 (a .count) (bounds .1)), take-zeros (3 * a .count) 12288 (times 3 (a .count) (bounds .1)), le-trans (most .0) fits)
 
--- src/lib.rt:153:21
 cast-t22 : tie.Need-cast-t22
-cast-t22 c = ?
+cast-t22 c =
+    let a = c .before .before .before .before .before .before .before .before .before .before .before .before .before .before .before .before .args in
+    let ok = sym (c .before .before .before .before .before .before .before .before .before .before .before .before .before .check .ensures) ∙ c .before .before .before .before .before .before .before .before .before .before .before .before .if1 .left in
+    let fits = c .before .before .before .before .before .before .before .before .before .before .before .if2 .left in
+    let none = c .before .before .before .before .before .before .before .before .before .before .if3 .left in
+    let plain = not-false _ (ap not (sym (c .before .before .before .before .before .before .before .before .before .is-plain-table .ensures)) ∙ c .before .before .before .before .before .before .before .before .if4 .left) in
+    let most = tokens-bound (a .context) (a .count) (a .table .now) (length (a .tokens .now)) (not-refused (a .context) (a .count) (a .table .now) (a .tokens .now) ok fits none plain) in
+    let l = length-codes (written (a .count) (a .table .now)) in
+    omega (arith, c .before .before .before .before .write-plain .ensures .ends)
 
--- src/lib.rt:124:1
 same-length : tie.Need-same-length
 same-length c = search needs
 
--- src/lib.rt:124:1
 returns-5 : tie.Need-returns-5
-returns-5 c = ?
+returns-5 c =
+    let a = c .before .before .before .before .before .before .before .before .before .before .before .before .before .before .before .before .args in
+    let ok = sym (c .before .before .before .before .before .before .before .before .before .before .before .before .before .check .ensures) ∙ c .before .before .before .before .before .before .before .before .before .before .before .before .if1 .left in
+    let fits = c .before .before .before .before .before .before .before .before .before .before .before .if2 .left in
+    let none = c .before .before .before .before .before .before .before .before .before .before .if3 .left in
+    let plain = not-false _ (ap not (sym (c .before .before .before .before .before .before .before .before .before .is-plain-table .ensures)) ∙ c .before .before .before .before .before .before .before .before .if4 .left) in
+    let most = tokens-bound (a .context) (a .count) (a .table .now) (length (a .tokens .now)) (not-refused (a .context) (a .count) (a .table .now) (a .tokens .now) ok fits none plain) in
+    done (a .context) (a .count) (a .table .now) (a .tokens .now) ok fits none plain _ _ (le-trans (most .0) fits) (c .before .before .before .before .write-plain .ensures)
 
 pub write-spec : {M : Type 1} → statement M
 write-spec =
