@@ -1,2 +1,3 @@
 pub mod Parens
 pub mod FromTable
+pub mod Injective

@@ -112,7 +112,7 @@ module _ (count : ℕ) (cells : List ℕ) (ok : Accepted 0 count cells) (into : 
   abbrev rows : List ℕ
   rows = placed cells count 1 (rowsOf (rootHanded 0) root) into
 
-  pair-at : (p : List Step) → isThere (treeBy root p) ≡ true → hasPair rows (numberAt cells count 1 p) ≡ markedAt (neither NONE) root p
+  pub pair-at : (p : List Step) → isThere (treeBy root p) ≡ true → hasPair rows (numberAt cells count 1 p) ≡ markedAt (neither NONE) root p
   unfolding hasPair markedAt marked contextNumbered contexts lookup pick
   pair-at p e =
       let k = count-bounds 0 count cells ok in
