@@ -1,0 +1,166 @@
+//! Token lists: the verdict on each, and our reader's beside it.
+
+use crate::chart::Chart;
+use crate::codes::{text, CODES};
+use crate::makers;
+use crate::ours::Ours;
+use crate::rules::Rules;
+use crate::verdict::{self, Verdict};
+use oracle::generate::Dice;
+use std::time::Instant;
+
+/// One code of each class: what codes of one class are in a list makes no
+/// difference but in the detail. 0 + , 1 -, 2 *, 3 / %, 12 == <= != >=, 18 the
+/// assigning operators, 41 both pointers; the others stand for themselves.
+const CLASSES: [u16; 32] = [
+    0, 1, 2, 3, 5, 6, 7, 8, 9, 10, 11, 12, 13, 17, 18, 28, 29, 30, 31, 32, 33, 34, 35, 36, 37, 38,
+    39, 40, 41, 43, 44, 45,
+];
+
+/// `-`, `&`, `<<`, `<`, `<=`, `>`, `+=`, `=`, `as`, name, dot, parentheses,
+/// brackets, comma, `?`, `_`, numbered member.
+const KINDS: [u16; 19] = [1, 8, 10, 13, 14, 17, 18, 28, 31, 32, 34, 35, 36, 37, 38, 39, 40, 43, 44];
+
+/// `-`, `<`, `>`, `=`, `as`, name, dot, parentheses, brackets, comma.
+const NARROW: [u16; 12] = [1, 13, 17, 28, 31, 32, 34, 35, 36, 37, 38, 39];
+
+/// What came of a set of lists.
+#[derive(Default)]
+pub struct Tally {
+    pub lists: u64,
+    /// By reply, 0 and 14 to 16.
+    pub replies: [u64; 17],
+    pub different: u64,
+    pub longest: usize,
+    /// Of all lists and verdicts in their order.
+    pub digest: u64,
+    shown: Vec<(usize, String)>,
+}
+
+impl Tally {
+    /// Holds our reader to a verdict; several readings are a difference of their own.
+    pub fn list(
+        &mut self,
+        ours: &mut Ours,
+        tokens: &[u16],
+        verdict: Result<Verdict, Vec<Vec<u16>>>,
+    ) {
+        self.lists += 1;
+        self.longest = self.longest.max(tokens.len());
+        let verdict = match verdict {
+            Ok(verdict) => verdict,
+            Err(readings) => {
+                return self.differs(&format!("{} readings", readings.len()), tokens);
+            }
+        };
+        self.replies[usize::from(*verdict.as_ref().err().unwrap_or(&0))] += 1;
+        self.digested(tokens.len() as u16);
+        tokens.iter().for_each(|&code| self.digested(code));
+        match &verdict {
+            Ok(table) => table.iter().for_each(|&cell| self.digested(cell)),
+            Err(refusal) => self.digested(1_000 + refusal),
+        }
+        if let Some(ours) = ours.read(tokens) {
+            if ours != verdict {
+                let reply = |verdict: &Verdict| verdict.as_ref().err().copied().unwrap_or(0);
+                let what = format!("we reply {}, not {}", reply(&ours), reply(&verdict));
+                self.differs(&what, tokens);
+            }
+        }
+    }
+
+    fn digested(&mut self, number: u16) {
+        self.digest = (self.digest ^ u64::from(number)).wrapping_mul(0x0000_0100_0000_01B3);
+        self.digest ^= self.digest >> 29;
+    }
+
+    fn differs(&mut self, what: &str, tokens: &[u16]) {
+        self.different += 1;
+        let mut spelled = text(tokens);
+        spelled.truncate(200);
+        self.shown.push((tokens.len(), format!("{what}: {spelled}")));
+        self.shown.sort_by_key(|shown| shown.0);
+        self.shown.truncate(3);
+    }
+
+    fn print(&self, name: &str, start: Instant) {
+        println!(
+            "{name}: lists {}, longest {}, read {}, by 14, 15, 16: {}, {}, {}; different {}, digest \
+             {:016x}, {} s",
+            self.lists,
+            self.longest,
+            self.replies[0],
+            self.replies[14],
+            self.replies[15],
+            self.replies[16],
+            self.different,
+            self.digest,
+            start.elapsed().as_secs(),
+        );
+        for (_, shown) in &self.shown {
+            println!("  {shown}");
+        }
+    }
+}
+
+/// All lists of up to so many tokens over some codes, in the order of their codes.
+pub fn each_list(chart: &mut Chart, codes: &[u16], length: usize, visit: &mut impl FnMut(&Chart)) {
+    visit(chart);
+    if length > 0 {
+        for &code in codes {
+            chart.push(code);
+            each_list(chart, codes, length - 1, visit);
+            chart.pop();
+        }
+    }
+}
+
+/// The sets that are gone through whole.
+pub fn sets(smaller: usize) -> Vec<(String, Vec<u16>, usize)> {
+    let every: Vec<u16> = (0..CODES).collect();
+    let set = |name: &str, codes: &[u16], most: usize| {
+        let most = most - smaller;
+        (format!("{} {name}, up to {most} tokens", codes.len()), codes.to_vec(), most)
+    };
+    vec![
+        set("codes", &every, 4),
+        set("classes", &CLASSES, 5),
+        set("kinds", &KINDS, 6),
+        set("narrow", &NARROW, 7),
+    ]
+}
+
+/// All lists of few tokens, random ones, and constructed ones. Gives how many
+/// differ.
+pub fn compare(ours: &mut Ours, smaller: usize, lists: u64, seed: u64) -> u64 {
+    let mut chart = Chart::new(Rules::new(None));
+    let mut different = 0;
+    for (name, codes, most) in sets(smaller) {
+        let (mut tally, start) = (Tally::default(), Instant::now());
+        each_list(&mut chart, &codes, most, &mut |chart| {
+            tally.list(ours, chart.tokens(), verdict::verdict(chart));
+        });
+        tally.print(&name, start);
+        different += tally.different;
+    }
+    for (most_tokens, lists) in [(40, lists), (200, lists / 40)] {
+        let (mut tally, start) = (Tally::default(), Instant::now());
+        for index in 0..lists {
+            let tokens = makers::random(&mut Dice::new(seed, index), seed, most_tokens);
+            tally.list(ours, &tokens, verdict::of(&mut chart, &tokens));
+        }
+        tally.print(&format!("random, about {most_tokens} tokens"), start);
+        different += tally.different;
+    }
+    let (mut tally, start) = (Tally::default(), Instant::now());
+    for (tokens, known) in makers::constructed(seed) {
+        // The chart grows with the square of the length.
+        if tokens.len() <= 1_000 {
+            let found = verdict::of(&mut chart, &tokens);
+            assert!(found.as_ref() == Ok(&known), "{}: {found:?}, not {known:?}", text(&tokens));
+        }
+        tally.list(ours, &tokens, Ok(known));
+    }
+    tally.print("constructed", start);
+    different + tally.different
+}
