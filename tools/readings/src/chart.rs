@@ -222,12 +222,13 @@ impl Chart {
             let node = Node { form, detail: 0, operands: [None, None] };
             return self.add(Expression, start, node, TIGHTEST, End::Other);
         }
+        let level = self.rules.level(PREFIX);
         if let Some((form, detail)) = self.rules.prefix(first) {
             for index in self.of(Expression, from + 1, to) {
                 let operand = self.at(Expression, index);
                 if operand.level >= PREFIX {
                     let node = Node { form, detail, operands: [Some(operand.tree), None] };
-                    self.add(Expression, start, node, PREFIX, operand.end);
+                    self.add(Expression, start, node, level, operand.end);
                 }
             }
         }
@@ -284,8 +285,8 @@ impl Chart {
             return;
         }
         if code == AS {
-            let (level, loosest) = self.rules.cast();
-            if left.level >= loosest {
+            let level = self.rules.level(CAST);
+            if left.level >= level {
                 for index in self.of(Type, cut + 1, to) {
                     let ty = self.at(Type, index);
                     let operands = [Some(left.tree), Some(ty.tree)];

@@ -5,24 +5,22 @@ use crate::codes::{text, CODES};
 use crate::makers;
 use crate::ours::Ours;
 use crate::rules::Rules;
-use crate::verdict::{self, Verdict};
+use crate::verdict::{self, Verdict, MOST_NODES};
 use oracle::generate::Dice;
 use std::time::Instant;
 
-/// One code of each class: what codes of one class are in a list makes no
-/// difference but in the detail. 0 + , 1 -, 2 *, 3 / %, 12 == <= != >=, 18 the
-/// assigning operators, 41 both pointers; the others stand for themselves.
-const CLASSES: [u16; 32] = [
-    0, 1, 2, 3, 5, 6, 7, 8, 9, 10, 11, 12, 13, 17, 18, 28, 29, 30, 31, 32, 33, 34, 35, 36, 37, 38,
-    39, 40, 41, 43, 44, 45,
-];
-
-/// `-`, `&`, `<<`, `<`, `<=`, `>`, `+=`, `=`, `as`, name, dot, parentheses,
-/// brackets, comma, `?`, `_`, numbered member.
-const KINDS: [u16; 19] = [1, 8, 10, 13, 14, 17, 18, 28, 31, 32, 34, 35, 36, 37, 38, 39, 40, 43, 44];
+/// One code for each kind of behaviour: `-`, `*`, `&&`, `&`, `<<`, `==`, `<`, `>`,
+/// `+=`, `=`, `!`, `as`, name, dot, parentheses, brackets, comma, `?`, `_`, numbered
+/// member.
+const KINDS: [u16; 22] =
+    [1, 2, 5, 8, 10, 12, 13, 17, 18, 28, 29, 31, 32, 34, 35, 36, 37, 38, 39, 40, 43, 44];
 
 /// `-`, `<`, `>`, `=`, `as`, name, dot, parentheses, brackets, comma.
 const NARROW: [u16; 12] = [1, 13, 17, 28, 31, 32, 34, 35, 36, 37, 38, 39];
+
+/// What types end in and what follows them: `&`, `<<`, `<`, `>`, `as`, name, comma,
+/// parentheses.
+const TYPES: [u16; 9] = [8, 10, 13, 17, 31, 32, 35, 36, 39];
 
 /// What came of a set of lists.
 #[derive(Default)]
@@ -60,7 +58,7 @@ impl Tally {
             Ok(table) => table.iter().for_each(|&cell| self.digested(cell)),
             Err(refusal) => self.digested(1_000 + refusal),
         }
-        if let Some(ours) = ours.read(tokens) {
+        if let Some(ours) = ours.read(tokens, 5 * MOST_NODES) {
             if ours != verdict {
                 let reply = |verdict: &Verdict| verdict.as_ref().err().copied().unwrap_or(0);
                 let what = format!("we reply {}, not {}", reply(&ours), reply(&verdict));
@@ -123,10 +121,10 @@ pub fn sets(smaller: usize) -> Vec<(String, Vec<u16>, usize)> {
         (format!("{} {name}, up to {most} tokens", codes.len()), codes.to_vec(), most)
     };
     vec![
-        set("codes", &every, 4),
-        set("classes", &CLASSES, 5),
+        set("codes", &every, 5),
         set("kinds", &KINDS, 6),
         set("narrow", &NARROW, 7),
+        set("of types", &TYPES, 8),
     ]
 }
 
@@ -162,5 +160,20 @@ pub fn compare(ours: &mut Ours, smaller: usize, lists: u64, seed: u64) -> u64 {
         tally.list(ours, &tokens, Ok(known));
     }
     tally.print("constructed", start);
-    different + tally.different
+    different + tally.different + short_tables(ours)
+}
+
+/// A table of less than 4,096 nodes meets 12 before anything else.
+fn short_tables(ours: &mut Ours) -> u64 {
+    if !ours.is_lent() {
+        return 0;
+    }
+    let mut different = 0;
+    for lent in [0, 5, 5 * MOST_NODES - 1] {
+        for list in [&[][..], &[32], &[32, 0, 32], &[0], &[46], &[36; 24_577]] {
+            different += u64::from(ours.read(list, lent) != Some(Err(12)));
+        }
+    }
+    println!("short tables: lists 18, different {different}");
+    different
 }

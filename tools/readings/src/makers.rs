@@ -6,7 +6,7 @@ use crate::plain;
 use crate::verdict::{within_bounds, Verdict, LONGEST_PATH, MOST_NODES};
 use crate::written::{without_parens, written};
 use oracle::forms;
-use oracle::generate::Dice;
+use oracle::generate::{Dice, Family};
 use oracle::table::NodeTable;
 
 /// A list with up to about so many tokens.
@@ -172,6 +172,41 @@ fn some_type(dice: &mut Dice, tokens: &mut Vec<u16>, depth: usize) {
     }
 }
 
+/// A node table that is plain, or nearly so, or any tree in any context.
+pub fn table(dice: &mut Dice, seed: u64) -> NodeTable {
+    if dice.percent(10) {
+        return Family::Mixed.tree(seed, dice.below(1 << 40) as u64);
+    }
+    let mut tree = drawn(dice, seed, 60);
+    for _ in 0..dice.below(3) {
+        let node = 5 * dice.below(tree.count.into());
+        match dice.below(12) {
+            0 => tree.context = dice.below(5) as u16,
+            1 => tree.count = dice.pick(&[0, tree.count - 1, tree.count + 1, 4_097]),
+            2 => tree.cells[node] = dice.below(58) as u16,
+            3 => tree.cells[node + 1] = dice.below(4) as u16,
+            4..=7 => tree.cells[node + 2] = dice.below(30) as u16,
+            8 => tree.cells[node + 3] = dice.below(usize::from(tree.count) + 2) as u16,
+            9 => tree.cells[node + 4] = dice.below(usize::from(tree.count) + 2) as u16,
+            // A leaf or an operand's owner becomes another of its kind.
+            _ => {
+                let leaf = tree.cells[node + 3..node + 5] == [0, 0];
+                let others: &[u16] = if leaf {
+                    &[forms::PATH, forms::LIT, forms::BLOCK, forms::TYPE_TUPLE, forms::TYPE_INFER]
+                } else {
+                    &[forms::GROUP, forms::RANGE, forms::LET, forms::RETURN, forms::PAREN]
+                };
+                tree.cells[node] = dice.pick(others);
+                tree.cells[node + 2] = 0;
+            }
+        }
+        if tree.cells.len() < 5 * usize::from(tree.count) || tree.count == 0 {
+            break;
+        }
+    }
+    tree
+}
+
 /// A list with its verdict.
 pub type Constructed = (Vec<u16>, Verdict);
 
@@ -326,7 +361,7 @@ fn links(items: usize, item: &[u16]) -> Vec<u16> {
 
 /// A tree called with arguments that make it so many nodes. A `?` behind it mends
 /// an odd number.
-fn called(tree: &NodeTable, nodes: usize) -> Option<Constructed> {
+pub fn called(tree: &NodeTable, nodes: usize) -> Option<Constructed> {
     let mut tokens = vec![OPEN];
     tokens.extend(written(tree).tokens);
     tokens.push(CLOSE);
@@ -353,7 +388,7 @@ fn called(tree: &NodeTable, nodes: usize) -> Option<Constructed> {
 }
 
 /// A cast to a type with so many arguments.
-fn type_arguments(nodes: usize) -> Constructed {
+pub fn type_arguments(nodes: usize) -> Constructed {
     let mut tokens = vec![NAME, AS];
     let mut room = nodes - 3;
     if room % 2 == 1 {
@@ -379,8 +414,14 @@ fn type_arguments(nodes: usize) -> Constructed {
     (tokens, within_bounds(table))
 }
 
-/// A name in so many parentheses.
-fn grouped(pairs: usize, inner: &[u16], table: &[u16]) -> Constructed {
+/// A name, or one with a prefix, in so many parentheses.
+pub fn grouped(pairs: usize, inner: &[u16]) -> Constructed {
+    const NEGATED: [u16; 10] = [forms::UNARY, 0, 2, 2, 0, forms::PATH, 0, 0, 0, 0];
+    let table = match inner {
+        [NAME] => &PATH_CELLS[..],
+        [SUB, NAME] => &NEGATED[..],
+        _ => panic!("neither {inner:?}"),
+    };
     let mut tokens = vec![OPEN; pairs];
     tokens.extend(inner);
     tokens.extend(vec![CLOSE; pairs]);
@@ -406,13 +447,12 @@ pub fn constructed(seed: u64) -> Vec<Constructed> {
         }
     }
     lists.push(type_arguments(10_001));
-    let negated = [forms::UNARY, 0, 2, 2, 0, forms::PATH, 0, 0, 0, 0];
     for pairs in [1, 127, 128, 129, 4_096, 12_286, 12_287, 12_288] {
-        lists.push(grouped(pairs, &[NAME], &PATH_CELLS));
-        lists.push(grouped(pairs, &[SUB, NAME], &negated));
+        lists.push(grouped(pairs, &[NAME]));
+        lists.push(grouped(pairs, &[SUB, NAME]));
     }
     for pairs in [1, 128, 4_096, 12_287] {
-        let mut short = grouped(pairs, &[NAME], &PATH_CELLS).0;
+        let mut short = grouped(pairs, &[NAME]).0;
         short.pop();
         lists.push((short, Err(15)));
     }

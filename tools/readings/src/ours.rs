@@ -41,23 +41,30 @@ impl Ours {
         matches!(self, Ours::Programs)
     }
 
-    /// The tokens of a tree in context 0, or the refusal.
-    pub fn write(&mut self, tree: &NodeTable) -> Option<Result<Vec<u16>, u16>> {
+    /// Whether buffers of any length can be lent.
+    pub fn is_lent(&self) -> bool {
+        !matches!(self, Ours::Absent | Ours::Programs)
+    }
+
+    /// The tokens of a node table, or the refusal, with so many cells lent.
+    #[allow(unused_variables)]
+    pub fn write(&mut self, tree: &NodeTable, lent: usize) -> Option<Result<Vec<u16>, u16>> {
         match self {
             Ours::Absent => None,
             Ours::Programs => Some(printed_tokens(&run("tokens", &table::write(tree)))),
             #[cfg(feature = "library")]
-            Ours::Library(lent) => Some(lent.write(tree)),
+            Ours::Library(library) => Some(library.write(tree, lent)),
         }
     }
 
-    /// The table of a list's reading, or the refusal.
-    pub fn read(&mut self, tokens: &[u16]) -> Option<Verdict> {
+    /// The table of a list's reading, or the refusal, with so many cells lent.
+    #[allow(unused_variables)]
+    pub fn read(&mut self, tokens: &[u16], lent: usize) -> Option<Verdict> {
         match self {
             Ours::Absent => None,
             Ours::Programs => Some(printed_table(&run("reading", &numbers(tokens)))),
             #[cfg(feature = "library")]
-            Ours::Library(lent) => Some(lent.read(tokens)),
+            Ours::Library(library) => Some(library.read(tokens, lent)),
         }
     }
 }
@@ -153,7 +160,7 @@ mod library {
         ) -> u32;
     }
 
-    /// Cells behind those that an answer needs.
+    /// Cells that are looked at behind those of an answer.
     const SPARE: usize = 64;
 
     /// A buffer that is lent again and again, with a pattern in every cell.
@@ -170,13 +177,12 @@ mod library {
 
     impl Lent {
         pub fn new() -> Self {
-            let cells = (0..6 * MOST_NODES + SPARE).map(pattern).collect();
+            let cells = (0..6 * (MOST_NODES + 1) + SPARE).map(pattern).collect();
             Lent { cells, asked: 0 }
         }
 
-        pub fn write(&mut self, tree: &NodeTable) -> Result<Vec<u16>, u16> {
-            let length = 6 * usize::from(tree.count) + SPARE;
-            let tokens = &mut self.cells[..length];
+        pub fn write(&mut self, tree: &NodeTable, lent: usize) -> Result<Vec<u16>, u16> {
+            let tokens = &mut self.cells[..lent];
             // SAFETY: pointers and lengths are those of slices that don't overlap;
             // the function demands nothing else of its arguments.
             let answer = unsafe {
@@ -186,18 +192,17 @@ mod library {
                     tree.cells.as_ptr(),
                     tree.cells.len(),
                     tokens.as_mut_ptr(),
-                    length,
+                    lent,
                 )
             };
             self.taken(answer, 1)
         }
 
-        pub fn read(&mut self, tokens: &[u16]) -> Verdict {
-            let length = 5 * MOST_NODES + SPARE;
-            let table = &mut self.cells[..length];
+        pub fn read(&mut self, tokens: &[u16], lent: usize) -> Verdict {
+            let table = &mut self.cells[..lent];
             // SAFETY: as above.
             let answer =
-                unsafe { tezhukor_read(tokens.as_ptr(), tokens.len(), table.as_mut_ptr(), length) };
+                unsafe { tezhukor_read(tokens.as_ptr(), tokens.len(), table.as_mut_ptr(), lent) };
             self.taken(answer, 5)
         }
 

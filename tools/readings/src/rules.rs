@@ -36,28 +36,19 @@ pub struct Infix {
 /// A change of one rule.
 #[derive(Copy, Clone, PartialEq, Eq, Debug)]
 pub enum Change {
-    /// Comparisons chain, leaning left.
-    ComparisonsChain,
-    /// Assignment leans left.
-    AssignmentLeansLeft,
-    /// Sums lean right.
-    SumsLeanRight,
+    /// The operators of a level, `as` or the prefixes are of the next tighter one.
+    Tightened(Level),
+    /// A level leans the other way; comparisons, which lean neither way, left.
+    LeansOtherwise(Level),
     /// Sums lean both ways, so that there are several readings.
     SumsLeanBothWays,
-    /// Shifts are sums.
-    ShiftsAreSums,
-    /// `&` is as loose as `|`.
-    BitAndIsBitOr,
-    /// `as` is a prefix's equal, so that it stands below no prefix.
-    CastIsPrefix,
     /// `<` after a type name may be an operator.
     LessAfterTypeName,
     /// `<<` after a type name may be an operator.
     ShiftAfterTypeName,
     /// `<=` after a type name never is an operator.
     NoLessOrEqualAfterTypeName,
-    /// After a name in type arguments, too, `<` and `<<` never are operators:
-    /// what ends in `>` counts as a type name.
+    /// What ends in type arguments counts as a type name.
     NoLessAfterTypeArguments,
     /// Dot, name, `(` may call a field.
     FieldIsCalled,
@@ -76,26 +67,25 @@ pub enum Change {
 }
 
 impl Change {
-    pub const ALL: [Change; 18] = [
-        Change::ComparisonsChain,
-        Change::AssignmentLeansLeft,
-        Change::SumsLeanRight,
-        Change::SumsLeanBothWays,
-        Change::ShiftsAreSums,
-        Change::BitAndIsBitOr,
-        Change::CastIsPrefix,
-        Change::LessAfterTypeName,
-        Change::ShiftAfterTypeName,
-        Change::NoLessOrEqualAfterTypeName,
-        Change::NoLessAfterTypeArguments,
-        Change::FieldIsCalled,
-        Change::NumberedIsNotCalled,
-        Change::TrailingComma,
-        Change::NoEmptyArguments,
-        Change::NoEmptyTypeArguments,
-        Change::AndIsTwoReferences,
-        Change::GroupsLeaveNodes,
-    ];
+    pub fn all() -> impl Iterator<Item = Change> {
+        let single = [
+            Change::SumsLeanBothWays,
+            Change::LessAfterTypeName,
+            Change::ShiftAfterTypeName,
+            Change::NoLessOrEqualAfterTypeName,
+            Change::NoLessAfterTypeArguments,
+            Change::FieldIsCalled,
+            Change::NumberedIsNotCalled,
+            Change::TrailingComma,
+            Change::NoEmptyArguments,
+            Change::NoEmptyTypeArguments,
+            Change::AndIsTwoReferences,
+            Change::GroupsLeaveNodes,
+        ];
+        let tightened = (ASSIGNMENT..=PREFIX).map(Change::Tightened);
+        let leaning = (ASSIGNMENT..=PRODUCT).map(Change::LeansOtherwise);
+        tightened.chain(leaning).chain(single)
+    }
 }
 
 /// Document 01's rules, or these with one changed.
@@ -132,23 +122,22 @@ impl Rules {
             5 => AND,
             6 => OR,
             7 => BIT_XOR_LEVEL,
-            8 if self.has(Change::BitAndIsBitOr) => BIT_OR_LEVEL,
             8 => BIT_AND_LEVEL,
             9 => BIT_OR_LEVEL,
-            10 | 11 if self.has(Change::ShiftsAreSums) => SUM,
             10 | 11 => SHIFT,
             12..=17 => COMPARISON,
             18..=28 => ASSIGNMENT,
             _ => return None,
         };
-        let (left, right) = match level {
-            ASSIGNMENT if self.has(Change::AssignmentLeansLeft) => (level, level + 1),
-            ASSIGNMENT => (level + 1, level),
-            COMPARISON if self.has(Change::ComparisonsChain) => (level, level + 1),
-            COMPARISON => (level + 1, level + 1),
-            SUM if self.has(Change::SumsLeanRight) => (level + 1, level),
-            SUM if self.has(Change::SumsLeanBothWays) => (level, level),
-            _ => (level, level + 1),
+        let otherwise = self.has(Change::LeansOtherwise(level));
+        let level = self.level(level);
+        let (leans_left, leans_right) = ((level, level + 1), (level + 1, level));
+        let (left, right) = match code {
+            0 | 1 if self.has(Change::SumsLeanBothWays) => (level, level),
+            12..=17 if !otherwise => (level + 1, level + 1),
+            18..=28 if !otherwise => leans_right,
+            0..=11 if otherwise => leans_right,
+            _ => leans_left,
         };
         let (form, detail) =
             if code == EQUALS { (forms::ASSIGN, 0) } else { (forms::BINARY, code) };
@@ -165,13 +154,9 @@ impl Rules {
         }
     }
 
-    /// The level of `as`, and the loosest that its operand may have.
-    pub fn cast(&self) -> (Level, Level) {
-        if self.has(Change::CastIsPrefix) {
-            (PREFIX, PREFIX)
-        } else {
-            (CAST, CAST)
-        }
+    /// A level, or the next one.
+    pub fn level(&self, level: Level) -> Level {
+        level + u8::from(self.has(Change::Tightened(level)))
     }
 
     /// The form and the detail of a prefix.

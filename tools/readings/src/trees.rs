@@ -3,10 +3,12 @@
 
 use crate::chart::Chart;
 use crate::codes::text;
+use crate::makers;
 use crate::ours::Ours;
 use crate::plain::{self, PlainTrees};
 use crate::rules::Rules;
-use crate::written::{without_parens, written};
+use crate::verdict::MOST_NODES;
+use crate::written::{self, without_parens, written};
 use oracle::generate::Dice;
 use oracle::table::NodeTable;
 use std::time::Instant;
@@ -60,10 +62,11 @@ impl Tally {
                 self.differs("a needless pair", tokens);
             }
         }
-        if ours.write(tree).is_some_and(|ours| ours.as_ref() != Ok(tokens)) {
+        let lent = 6 * usize::from(tree.count);
+        if ours.write(tree, lent).is_some_and(|ours| ours.as_ref() != Ok(tokens)) {
             self.differs("we write otherwise", tokens);
         }
-        if ours.read(tokens).is_some_and(|ours| ours != Ok(meant)) {
+        if ours.read(tokens, 5 * MOST_NODES).is_some_and(|ours| ours != Ok(meant)) {
             self.differs("we read otherwise", tokens);
         }
     }
@@ -135,6 +138,39 @@ pub fn random(seed: u64, trees: u64, most_tokens: usize, mut visit: impl FnMut(&
     }
 }
 
+/// Node tables, plain or not, with enough cells lent or too few: our writer's reply
+/// beside document 01's. Gives how many differ.
+fn replies(ours: &mut Ours, tables: u64, seed: u64) -> u64 {
+    let mut counts = [0u64; 17];
+    let mut different = 0;
+    for index in 0..tables {
+        let dice = &mut Dice::new(seed, index);
+        let tree = makers::table(dice, seed);
+        if !ours.is_lent() && !written::fits_a_file(&tree) {
+            continue;
+        }
+        let needed = 6 * usize::from(tree.count);
+        let lent = if dice.percent(10) { needed.saturating_sub(1) } else { needed };
+        let lent = if ours.is_lent() { lent } else { needed };
+        let reply = written::reply(&tree, lent);
+        counts[usize::from(*reply.as_ref().err().unwrap_or(&0))] += 1;
+        if ours.write(&tree, lent).is_some_and(|ours| ours != reply) {
+            different += 1;
+            if different <= 3 {
+                println!("  our reply is not {reply:?} for {tree:?}");
+            }
+        }
+    }
+    let refused: Vec<String> = (1..).zip(&counts[1..]).map(|(n, c)| format!("{n}: {c}")).collect();
+    println!(
+        "tables, plain or not: {}, written {}, refused by {}, different {different}",
+        counts.iter().sum::<u64>(),
+        counts[0],
+        refused.join(", ")
+    );
+    different
+}
+
 /// All trees of few nodes, and random ones. Gives how many differ.
 pub fn compare(ours: &mut Ours, smaller: usize, trees: u64, seed: u64) -> u64 {
     let mut chart = Chart::new(Rules::new(None));
@@ -151,5 +187,5 @@ pub fn compare(ours: &mut Ours, smaller: usize, trees: u64, seed: u64) -> u64 {
         tally.print(&format!("random up to {most_tokens} tokens"), start);
         different += tally.different;
     }
-    different
+    different + replies(ours, 2 * trees, seed)
 }

@@ -1,6 +1,7 @@
 //! What is written for a plain tree, stated from document 01.
 
 use crate::codes::*;
+use oracle::accept;
 use oracle::forms::{self, *};
 use oracle::table::{self, NodeTable};
 use oracle::BuiltTree;
@@ -187,4 +188,35 @@ pub fn without_parens(tree: &NodeTable) -> Vec<u16> {
         }
     }
     cells
+}
+
+/// The tokens that must be written for any node table with so many cells lent, or
+/// the refusal.
+pub fn reply(tree: &NodeTable, lent: usize) -> Result<Vec<u16>, u16> {
+    match accept::refusal(tree) {
+        0 if lent < 6 * usize::from(tree.count) => Err(12),
+        0 if !is_plain(tree) || tree.context != 0 => Err(13),
+        0 => Ok(written(tree).tokens),
+        refusal => Err(refusal),
+    }
+}
+
+/// Whether all nodes of an accepted table are plain.
+fn is_plain(tree: &NodeTable) -> bool {
+    tree.cells[..5 * usize::from(tree.count)].chunks(5).all(|node| {
+        let form = match node[0] {
+            PATH | LIT | PAREN | UNARY | REFERENCE | BINARY | ASSIGN | CAST | FIELD | INDEX => true,
+            CALL | METHOD_CALL | TRY | forms::AWAIT => true,
+            TYPE_PATH => matches!(node[2], 1 | 2),
+            TYPE_PTR | TYPE_REFERENCE | TYPE_INFER | TYPE_NEVER | LINK => true,
+            _ => false,
+        };
+        form && node[1] == 0
+    })
+}
+
+/// Whether a table's numbers, written as a tree file, are loaded as that table or
+/// refused for what is refused in it.
+pub fn fits_a_file(tree: &NodeTable) -> bool {
+    !(1..=4_096).contains(&tree.count) || tree.cells.len() == 5 * usize::from(tree.count)
 }
