@@ -3,7 +3,7 @@
 use crate::chart::Chart;
 use crate::codes::{text, CODES};
 use crate::makers;
-use crate::ours::Ours;
+use crate::ours::{numbers, Ours};
 use crate::rules::Rules;
 use crate::verdict::{self, Verdict, MOST_NODES};
 use oracle::generate::Dice;
@@ -160,7 +160,51 @@ pub fn compare(ours: &mut Ours, smaller: usize, lists: u64, seed: u64) -> u64 {
         tally.list(ours, &tokens, Ok(known));
     }
     tally.print("constructed", start);
-    different + tally.different + short_tables(ours)
+    different + tally.different + short_tables(ours) + damaged_numbers(ours, seed)
+}
+
+/// Bytes on the standard input of the program `reading`, some with a malformed
+/// number, which is met by 14.
+fn damaged_numbers(ours: &mut Ours, seed: u64) -> u64 {
+    if ours.is_lent() || !ours.is_slow() {
+        return 0;
+    }
+    let mut chart = Chart::new(Rules::new(None));
+    let (mut malformed, mut different) = (0, 0);
+    for index in 0..1_000 {
+        let dice = &mut Dice::new(seed + 3, index);
+        let mut bytes = numbers(&makers::random(dice, seed, 40));
+        let at = dice.below(bytes.len() + 1);
+        let behind: &[u8] =
+            dice.pick(&[&[0x80], &[0x80, 0], &[0xFF, 0xFF, 4], &[0xA0, 0], &[0x20]]);
+        bytes.splice(at..at, behind.iter().copied());
+        let verdict = match codes_of(&bytes) {
+            Some(tokens) => verdict::of(&mut chart, &tokens).expect("at most one reading"),
+            None => Err(14),
+        };
+        malformed += u64::from(codes_of(&bytes).is_none());
+        if ours.read_file(&bytes) != Some(verdict) {
+            different += 1;
+            println!("  we read otherwise: {bytes:?}");
+        }
+    }
+    println!("bytes: lists 1000, malformed {malformed}, different {different}");
+    different
+}
+
+/// The numbers that bytes hold, none if one is malformed: a number is a run that
+/// its first byte without the high bit ends.
+fn codes_of(bytes: &[u8]) -> Option<Vec<u16>> {
+    let number = |run: &[u8]| {
+        let (&last, others) = run.split_last()?;
+        if last & 0x80 != 0 || last == 0 && !others.is_empty() {
+            return None;
+        }
+        let add =
+            |value: u32, group: &u8| value.checked_mul(128)?.checked_add(u32::from(group & 0x7F));
+        run.iter().rev().try_fold(0, add).and_then(|value| u16::try_from(value).ok())
+    };
+    bytes.split_inclusive(|byte| byte & 0x80 == 0).map(number).collect()
 }
 
 /// A table of less than 4,096 nodes meets 12 before anything else.

@@ -59,10 +59,11 @@ fn run(arguments: &[&str]) -> Option<u64> {
             let mut ours = Ours::named(rest.first().unwrap_or(&"absent"))?;
             let seed = rest.get(1).map_or(Some(1), number)?;
             // A program takes a thousand times as long as a function.
-            let (smaller, random) = if ours.is_slow() { (3, 1_000) } else { (0, 1_000_000) };
-            match *what {
-                "trees" => Some(trees::compare(&mut ours, smaller, random / 10, seed)),
-                "lists" => Some(lists::compare(&mut ours, smaller, random, seed)),
+            match (*what, ours.is_slow()) {
+                ("trees", false) => Some(trees::compare(&mut ours, 0, 100_000, seed)),
+                ("trees", true) => Some(trees::compare(&mut ours, 2, 2_000, seed)),
+                ("lists", false) => Some(lists::compare(&mut ours, 0, 1_000_000, seed)),
+                ("lists", true) => Some(lists::compare(&mut ours, 3, 20_000, seed)),
                 _ => None,
             }
         }

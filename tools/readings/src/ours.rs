@@ -67,6 +67,16 @@ impl Ours {
             Ours::Library(library) => Some(library.read(tokens, lent)),
         }
     }
+
+    /// What the program `tokens` answers to any bytes.
+    pub fn write_file(&mut self, file: &[u8]) -> Option<Result<Vec<u16>, u16>> {
+        matches!(self, Ours::Programs).then(|| printed_tokens(&run("tokens", file)))
+    }
+
+    /// What the program `reading` answers to any bytes.
+    pub fn read_file(&mut self, file: &[u8]) -> Option<Verdict> {
+        matches!(self, Ours::Programs).then(|| printed_table(&run("reading", file)))
+    }
 }
 
 /// Numbers as a tree file holds them.

@@ -4,13 +4,13 @@
 use crate::chart::Chart;
 use crate::codes::text;
 use crate::makers;
-use crate::ours::Ours;
+use crate::ours::{numbers, Ours};
 use crate::plain::{self, PlainTrees};
 use crate::rules::Rules;
 use crate::verdict::MOST_NODES;
 use crate::written::{self, without_parens, written};
 use oracle::generate::Dice;
-use oracle::table::NodeTable;
+use oracle::table::{self, NodeTable};
 use std::time::Instant;
 
 /// What came of a set of trees.
@@ -187,5 +187,45 @@ pub fn compare(ours: &mut Ours, smaller: usize, trees: u64, seed: u64) -> u64 {
         tally.print(&format!("random up to {most_tokens} tokens"), start);
         different += tally.different;
     }
-    different + replies(ours, 2 * trees, seed)
+    different + replies(ours, 2 * trees, seed) + damaged_files(ours, seed)
+}
+
+/// Tree files on the standard input of the program `tokens` that are cut off, too
+/// long, or have bytes behind them.
+fn damaged_files(ours: &mut Ours, seed: u64) -> u64 {
+    if ours.is_lent() || !ours.is_slow() {
+        return 0;
+    }
+    let mut different = 0;
+    for index in 0..300 {
+        let dice = &mut Dice::new(seed + 3, index);
+        let tree = makers::drawn(dice, seed, 60);
+        let mut file = table::write(&tree);
+        let header = 1 + numbers(&[tree.count]).len();
+        let reply = match dice.below(3) {
+            0 => {
+                let left = dice.below(file.len());
+                file.truncate(left);
+                if left < header {
+                    2
+                } else {
+                    5
+                }
+            }
+            1 => {
+                file.push(dice.below(256) as u8);
+                5
+            }
+            _ => {
+                file.resize(65_537, 0);
+                1
+            }
+        };
+        if ours.write_file(&file) != Some(Err(reply)) {
+            different += 1;
+            println!("  our reply is not {reply} for a file of {} bytes", file.len());
+        }
+    }
+    println!("damaged files: 300, different {different}");
+    different
 }
