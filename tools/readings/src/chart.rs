@@ -475,3 +475,68 @@ impl Chart {
         cells
     }
 }
+
+#[cfg(test)]
+mod tests {
+    use super::*;
+    use forms::{ASSIGN, BINARY, CALL, CAST, FIELD, METHOD_CALL, PATH, UNARY};
+
+    /// The forms of the only reading in the order of their numbers, none if there is
+    /// no reading. `a` is a name, and words are parted by spaces.
+    fn forms_of(text: &str) -> Option<Vec<u16>> {
+        let tokens: Vec<u16> = text.split_whitespace().map(code).collect();
+        let mut chart = Chart::new(Rules::new(None));
+        chart.read(&tokens);
+        let readings = chart.readings();
+        assert!(readings.len() < 2, "{text}");
+        readings.first().map(|table| table.chunks(5).map(|node| node[0]).collect())
+    }
+
+    fn code(word: &str) -> u16 {
+        let spelled = if word == "a" { "x" } else { word };
+        (0..CODES).find(|&code| text(&[code]) == spelled).expect("a token")
+    }
+
+    #[test]
+    fn sums_lean_left_and_assignments_right() {
+        assert_eq!(forms_of("a - a - a"), Some(vec![BINARY, BINARY, PATH, PATH, PATH]));
+        assert_eq!(forms_of("a = a = a"), Some(vec![ASSIGN, PATH, ASSIGN, PATH, PATH]));
+        assert_eq!(forms_of("a - ( a - a )"), Some(vec![BINARY, PATH, BINARY, PATH, PATH]));
+    }
+
+    #[test]
+    fn comparisons_do_not_chain() {
+        assert_eq!(forms_of("a < a == a"), None);
+        assert_eq!(forms_of("( a < a ) == a"), Some(vec![BINARY, BINARY, PATH, PATH, PATH]));
+    }
+
+    #[test]
+    fn less_after_a_type_name_opens_arguments() {
+        assert_eq!(forms_of("a as a < a"), None);
+        assert_eq!(forms_of("a as a << a"), None);
+        assert_eq!(forms_of("- a as & a < a"), None);
+        assert_eq!(forms_of("a as a <= a"), forms_of("( a as a ) < a"));
+        assert_eq!(forms_of("a as a < > < a").map(|forms| forms.len()), Some(5));
+    }
+
+    #[test]
+    fn dot_name_parenthesis_calls_a_method() {
+        assert_eq!(forms_of("a . a ( )"), Some(vec![METHOD_CALL, PATH]));
+        assert_eq!(forms_of("( a . a ) ( )"), Some(vec![CALL, FIELD, PATH]));
+        assert_eq!(forms_of("a . 0 ( )"), Some(vec![CALL, FIELD, PATH]));
+    }
+
+    #[test]
+    fn prefixes_hold_less_than_dots_and_more_than_casts() {
+        assert_eq!(forms_of("- a . a"), Some(vec![UNARY, FIELD, PATH]));
+        assert_eq!(forms_of("- a as a"), Some(vec![CAST, UNARY, PATH, forms::TYPE_PATH]));
+    }
+
+    #[test]
+    fn lists_have_commas_between_items_only() {
+        assert_eq!(forms_of("a ( a , )"), None);
+        assert_eq!(forms_of("a ( , )"), None);
+        assert_eq!(forms_of(""), None);
+        assert_eq!(forms_of("a ( a , a )").map(|forms| forms.len()), Some(6));
+    }
+}

@@ -58,7 +58,8 @@ impl Tally {
             Ok(table) => table.iter().for_each(|&cell| self.digested(cell)),
             Err(refusal) => self.digested(1_000 + refusal),
         }
-        if let Some(ours) = ours.read(tokens, 5 * MOST_NODES) {
+        let lent = 5 * MOST_NODES + self.lists as usize % 7;
+        if let Some(ours) = ours.read(tokens, lent) {
             if ours != verdict {
                 let reply = |verdict: &Verdict| verdict.as_ref().err().copied().unwrap_or(0);
                 let what = format!("we reply {}, not {}", reply(&ours), reply(&verdict));
