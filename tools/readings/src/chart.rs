@@ -313,10 +313,10 @@ impl Chart {
                 };
                 self.add(Expression, start, node, TIGHTEST, end);
             }
-            DOT if cut + 2 < to && self.tokens[cut + 1..cut + 3] == [NAME, OPEN] => {
-                if closed(&self.tokens, cut + 2, CLOSE) {
-                    self.called(forms::METHOD_CALL, left, cut + 3, to - 1, start);
-                }
+            DOT if closed(&self.tokens, cut + 2, CLOSE)
+                && self.tokens[cut + 1..cut + 3] == [NAME, OPEN] =>
+            {
+                self.called(forms::METHOD_CALL, left, cut + 3, to - 1, start);
             }
             OPEN if closed(&self.tokens, cut, CLOSE) => {
                 let barred = match left.end {
