@@ -1,7 +1,10 @@
 // The reading of a token list, as a node table.
+mod node; // node.rt: the reader's own table
+mod piece; // piece.rt: what is handed on
+mod token; // token.rt: what a token says
 
 // What reading answers.
-pub enum Read {
+pub enum Reply {
     // The number of the first refusal that applies.
     Refused(u16),
     // How many nodes the lent table now holds.

@@ -1,4 +1,4 @@
--- A parser of the plain grammar as a function: precedence climbing, with fuel. Readings says what it gives. Assumes nothing.
+-- A parser of the plain grammar as a function: precedence climbing, with fuel. Nothing here is to be believed: proofs/Readings says what it gives.
 use mathlib.Core.Bool.{Bool, true, false, not, _&&_}
 use mathlib.Core.List.{List, [], _∷_}
 use Prim.Native.Nat.{ℕ, zero, suc, _*_}
