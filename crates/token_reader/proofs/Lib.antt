@@ -1,2 +1,5 @@
 pub mod Cells
 pub mod Nodes
+pub mod First
+pub mod Tells
+pub mod TypeEnds

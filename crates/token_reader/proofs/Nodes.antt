@@ -110,12 +110,13 @@ pub carried : (own now : List ℕ) (free low i : ℕ) (t : Tree) → Kept own no
 unfolding labelAt
 carried own now free low i none h k p = p
 carried own now free low i (node l a b) h k p =
-    let cell : (n : ℕ) → cellAt now i n ≡ cellAt own i n = λ n. kept-cell own now free i n h (omega (arith, p .0)) in
-    (p .0,
-     p .1,
-     rw (cell 0, cell 1, cell 2) (p .2),
-     subst (λ o. Placed now i o a) (sym (cell 3)) (carried own now free i _ a h (omega (arith, p .0)) (p .3)),
-     subst (λ o. Placed now i o b) (sym (cell 4)) (carried own now free i _ b h (omega (arith, p .0)) (p .4)))
+    let cell : (n : ℕ) → cellAt now i n ≡ cellAt own i n = λ n. kept-cell own now free i n h (omega (arith, p .0)) in (
+      p .0,
+      p .1,
+      rw (cell 0, cell 1, cell 2) (p .2),
+      subst (λ o. Placed now i o a) (sym (cell 3)) (carried own now free i _ a h (omega (arith, p .0)) (p .3)),
+      subst (λ o. Placed now i o b) (sym (cell 4)) (carried own now free i _ b h (omega (arith, p .0)) (p .4)),
+    )
 
 pub lower : (own : List ℕ) (low to i : ℕ) (t : Tree) → to ≤ low → Placed own low i t → Placed own to i t
 lower own low to i none h p = p
@@ -125,12 +126,13 @@ lower own low to i (node l a b) h p = (omega (arith, p .0), p .1, p .2, p .3, p 
 pub placed : {own now : List ℕ} {free left form detail first second : ℕ} (a b : Tree) (l : Label) → Stored own now free left form detail first second → label form detail ≡ l →
     free ≤ 24576 → Placed own free first a → Placed own free second b → Placed now left (left + 1) (node l a b)
 placed {own} {now} {free} {left} a b l s e h p q =
-    subst (λ i. Placed now left i (node l a b)) (sym (s .fewer))
-    (omega (arith, s .fewer),
-     h,
-     s .labelled ∙ e,
-     subst (λ o. Placed now free o a) (sym (s .to-first)) (carried own now free free _ a (s .kept) (omega arith) p),
-     subst (λ o. Placed now free o b) (sym (s .to-second)) (carried own now free free _ b (s .kept) (omega arith) q))
+    subst (λ i. Placed now left i (node l a b)) (sym (s .fewer)) (
+      omega (arith, s .fewer),
+      h,
+      s .labelled ∙ e,
+      subst (λ o. Placed now free o a) (sym (s .to-first)) (carried own now free free _ a (s .kept) (omega arith) p),
+      subst (λ o. Placed now free o b) (sym (s .to-second)) (carried own now free free _ b (s .kept) (omega arith) q),
+    )
 
 -- ---- the tree that the table stands for
 
@@ -150,9 +152,9 @@ placed-tree own low i l a b p =
 pub grew-none : (own : List ℕ) (at free to : ℕ) → at ≤ to → Grew own own at free to free
 grew-none own at free to h = record { upto = h; room = omega arith; less = omega arith; kept = λ j k. refl; same = refl }
 
--- and a part more
-pub grew-on : {own mid now : List ℕ} {at free to left : ℕ} (to₂ left₂ at₂ : ℕ) → to ≤ at₂ → Grew own mid at free to left → Grew mid now at₂ left to₂ left₂ → Grew own now at free to₂ left₂
-grew-on to₂ left₂ at₂ h g k =
+-- and a part more, perhaps with tokens between the two that have no node yet
+pub grew-on : {own mid now : List ℕ} {at free to left at₂ to₂ left₂ : ℕ} (at₃ : ℕ) → at₃ + to ≤ at + at₂ → Grew own mid at free to left → Grew mid now at₂ left to₂ left₂ → Grew own now at₃ free to₂ left₂
+grew-on at₃ h g k =
     record {
       upto = omega (arith, g .upto, k .upto);
       room = omega (arith, g .room, k .room);

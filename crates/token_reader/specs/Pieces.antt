@@ -70,9 +70,12 @@ Enough codes at k fuel = k + 2 * length codes ≤ fuel + 2 * at
 
 -- ---- types
 
-pub record IsType {s : Sort} (now : List ℕ) (r : Piece) (t : Ty s) : Type 0 where
+pub record IsType (now : List ℕ) (r : Piece) (t : Ty one) : Type 0 where
   pub ends : r .named ≡ typeEndsInName t
   pub placed : Placed now (r .free) (r .free + 1) (treeOfType t)
+
+pub record IsTypes (now : List ℕ) (r : Piece) (l : Ty items) : Type 0 where
+  pub placed : Placed now (r .free) (r .free + 1) (treeOfType l)
 
 pub record TypeAt (codes own now : List ℕ) (at free : ℕ) (r : Piece) : Type 0 where
   pub grew : r .at ≤ length codes → Grew own now at free (r .at) (r .free)
@@ -80,13 +83,12 @@ pub record TypeAt (codes own now : List ℕ) (at free : ℕ) (r : Piece) : Type 
 
 pub record TypesAt (codes own now : List ℕ) (at free : ℕ) (r : Piece) : Type 0 where
   pub grew : r .at ≤ length codes → Grew own now at free (r .at) (r .free)
-  pub tells : (f : ℕ) → Enough codes at 1 f → Tells (IsType now r) codes (r .at) (someTypesBy f (from codes at))
+  pub tells : (f : ℕ) → Enough codes at 1 f → Tells (IsTypes now r) codes (r .at) (someTypesBy f (from codes at))
 
 -- a type of one token
-pub record SignAt (own now : List ℕ) (at free form : ℕ) (r : Piece) : Type 0 where
-  pub past : r .at ≡ at + 1
+pub record SignAt (codes own now : List ℕ) (at free form : ℕ) (r : Piece) : Type 0 where
   pub grew : Grew own now at free (r .at) (r .free)
-  pub tells : (x : TypeSign) → label form 0 ≡ typeSignLabel x → IsType now r (sign x)
+  pub tells : (x : TypeSign) → label form 0 ≡ typeSignLabel x → Tells (IsType now r) codes (r .at) (ok (sign x) (from codes (at + 1)))
 
 -- a type behind a token
 pub record PointingAt (codes own now : List ℕ) (at free form detail : ℕ) (r : Piece) : Type 0 where

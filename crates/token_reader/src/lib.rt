@@ -2,6 +2,7 @@
 mod node; // node.rt: the reader's own table
 mod piece; // piece.rt: what is handed on
 mod token; // token.rt: what a token says
+mod types; // types.rt: types and their lists
 
 // What reading answers.
 pub enum Reply {

@@ -44,7 +44,7 @@ returns-7 c = sym (found levelRows (levelPast _) 1 (upTo 2 3) _ tt tt (in-range 
 
 returns-8 : tie.Need-returns-8
 unfolding levelOf levelRows
-returns-8 c = 
+returns-8 c =
     let r = c .before .before .before .match .rest in
     sym (found levelRows (levelPast _) 7 (upTo 10 2) _ tt tt (in-range 10 2 _ (shifts _ (c .before .if2 .left) (r .0 .0 .0 .0 .1) (r .0 .0 .0 .1) (r .0 .0 .1) (r .0 .1) (r .1)) (c .if3 .taken)))
 
