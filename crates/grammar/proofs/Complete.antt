@@ -139,7 +139,7 @@ by-prefix : (f : ℕ) (c : Context) (n : ℕ) (p : Prefix) (ts : List Token) →
 unfolding exprBy
 by-prefix f c n p ts = rw (start-prefix p, exprBy)
 
-on-stop : (f : ℕ) (c : Context) (n : ℕ) (e : Expr one) (ts : List Token) → goesOn n e (next ts) ≡ false → onBy (suc f) c n e ts ≡ ok e ts
+pub on-stop : (f : ℕ) (c : Context) (n : ℕ) (e : Expr one) (ts : List Token) → goesOn n e (next ts) ≡ false → onBy (suc f) c n e ts ≡ ok e ts
 unfolding onBy
 on-stop f c n e ts h = rw (h, onBy)
 
@@ -166,7 +166,7 @@ onStep f c n e ts x =
       | tries ↦ onBy f c n (try e) (tail ts)
     ]
 
-on-step : (f : ℕ) (c : Context) (n : ℕ) (e : Expr one) (ts : List Token) → goesOn n e (next ts) ≡ true → onBy (suc f) c n e ts ≡ onStep f c n e ts (next ts)
+pub on-step : (f : ℕ) (c : Context) (n : ℕ) (e : Expr one) (ts : List Token) → goesOn n e (next ts) ≡ true → onBy (suc f) c n e ts ≡ onStep f c n e ts (next ts)
 unfolding onBy
 on-step f c n e ts h = rw (h, onBy)
 

@@ -23,6 +23,13 @@ there [] at k e h = absurd (omega arith)
 there (n ∷ ns) zero k e h = omega arith
 there (n ∷ ns) (suc at) k e h = omega (arith, there ns at k e h)
 
+-- and what stands past its end reads as 46
+pub code-most : (codes : List ℕ) (at : ℕ) → anyAbove 45 codes ≡ false → getD codes at 46 < 47
+unfolding anyAbove
+code-most [] at h = omega arith
+code-most (n ∷ ns) zero h = omega (arith, ltb-false 45 n (or-false (ltb 45 n) (anyAbove 45 ns) h .0))
+code-most (n ∷ ns) (suc at) h = code-most ns at (or-false (ltb 45 n) (anyAbove 45 ns) h .1)
+
 pub tail-from : (codes : List ℕ) (at : ℕ) → tail (from codes at) ≡ from codes (at + 1)
 tail-from codes at = go codes at ∙ ap (from codes) (sym (add-one at))
   where

@@ -152,6 +152,11 @@ placed-tree own low i l a b p =
 pub grew-none : (own : List ℕ) (at free to : ℕ) → at ≤ to → Grew own own at free to free
 grew-none own at free to h = record { upto = h; room = omega arith; less = omega arith; kept = λ j k. refl; same = refl }
 
+-- and tokens that have no node
+pub grew-wider : {own now : List ℕ} {at free to left : ℕ} (at₂ to₂ : ℕ) → at₂ ≤ at → to ≤ to₂ → Grew own now at free to left → Grew own now at₂ free to₂ left
+grew-wider at₂ to₂ h k g =
+    record { upto = omega (arith, g .upto); room = omega (arith, g .room); less = g .less; kept = g .kept; same = g .same }
+
 -- and a part more, perhaps with tokens between the two that have no node yet
 pub grew-on : {own mid now : List ℕ} {at free to left at₂ to₂ left₂ : ℕ} (at₃ : ℕ) → at₃ + to ≤ at + at₂ → Grew own mid at free to left → Grew mid now at₂ left to₂ left₂ → Grew own now at₃ free to₂ left₂
 grew-on at₃ h g k =

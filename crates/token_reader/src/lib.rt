@@ -1,4 +1,5 @@
 // The reading of a token list, as a node table.
+mod expressions; // expressions.rt: expressions and their lists
 mod node; // node.rt: the reader's own table
 mod piece; // piece.rt: what is handed on
 mod token; // token.rt: what a token says
