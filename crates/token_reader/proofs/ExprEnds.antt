@@ -1,5 +1,5 @@
 -- What the reader of expressions answers at each of its ends is what the parser gives. Assumes nothing.
-use mathlib.Core.Path.{_≡_, refl, sym, subst, ap, _∙_}
+use mathlib.Core.Path.{_≡_, refl, sym, subst, ap, ap₂, _∙_}
 use mathlib.Core.Bool.{Bool, true, false, _&&_}
 use mathlib.Core.List.{List, [], _∷_}
 use Prim.Native.Nat.{ℕ, zero, suc, _+_, _*_, _≤_, _<_}
@@ -169,12 +169,16 @@ module _ {codes own mid now : List ℕ} {at free : ℕ} (ready : Ready codes own
         grew = λ q. grew-node at (r .at) (omega (arith, w .upto)) (omega arith) w s;
         tells = λ p e g q.
             tells-some (IsExpr mid r) (IsExpr now z) codes (r .at) (r .at) (exprBy g NONE 14 (from codes (at + 1))) (λ a rest. ok (prefix p a) rest) h (i .tells g q)
-            (λ a y. (h, refl, record {
-              strong = refl;
-              type-last = y .type-last;
-              name-last = y .name-last;
-              placed = placed (treeOf (bare a)) none (prefixLabel p) s e (omega (arith, ready .most, w .less)) (y .placed) refl;
-            }));
+            (λ a y. (
+              h,
+              refl,
+              record {
+                strong = refl;
+                type-last = y .type-last;
+                name-last = y .name-last;
+                placed = placed (treeOf (bare a)) none (prefixLabel p) s e (omega (arith, ready .most, w .less)) (y .placed) refl;
+              },
+            ));
       }
 
 -- ---- what it goes on with
@@ -284,26 +288,30 @@ module _ {codes own now : List ℕ} (left : Parsed) (ready : Ready codes own (le
       }
 
 module _ {codes own mid now : List ℕ} (left : Parsed) (ready : Ready codes own (left .at) (left .free)) where
-  pub binary-stored : {n left₂ : ℕ} (r : Parsed) → n < 29 → r .at ≤ length codes → ExprAt codes own mid (left .at + 1) (left .free) (afterOf (levelOf n)) r →
-      Stored mid now (r .free) left₂ (operatorForm n) (operatorDetail n) (left .free + 1) (r .free + 1) →
-      BinaryAt codes own now left n (record { at = r .at; free = left₂; level = levelOf n; named = r .named; dotted = r .dotted })
-  binary-stored {n} {left₂} r k h i s =
+  pub binary-stored : {n left₂ strength form detail : ℕ} (r : Parsed) → n < 29 → strength ≡ levelOf n → form ≡ operatorForm n → detail ≡ operatorDetail n → r .at ≤ length codes →
+      ExprAt codes own mid (left .at + 1) (left .free) (afterOf (levelOf n)) r → Stored mid now (r .free) left₂ form detail (left .free + 1) (r .free + 1) →
+      BinaryAt codes own now left n (record { at = r .at; free = left₂; level = strength; named = r .named; dotted = r .dotted })
+  binary-stored {n} {left₂} {strength} {form} {detail} r k l f d h i s =
       let w = i .grew h in
-      let z : Parsed = record { at = r .at; free = left₂; level = levelOf n; named = r .named; dotted = r .dotted } in
+      let z : Parsed = record { at = r .at; free = left₂; level = strength; named = r .named; dotted = r .dotted } in
       record {
         past = λ q. omega (arith, w .upto);
         grew = λ q. grew-node (left .at) (r .at) (omega (arith, w .upto)) (omega arith) w s;
         tells = λ e y g q.
             tells-some (IsExpr mid r) (IsExpr now z) codes (r .at) (r .at) (exprBy g NONE (after (kind (operatorOf n))) (from codes (left .at + 1))) (λ b rest. ok (binary (operatorOf n) e b) rest) h
-            (subst (λ l. Tells (IsExpr mid r) codes (r .at) (exprBy g NONE l (from codes (left .at + 1)))) (operator-after n k) (i .tells g (omega arith)))
-            (λ b x. (h, refl, record {
-              strong = operator-level n k;
-              type-last = x .type-last;
-              name-last = x .name-last;
-              placed =
-                  placed (treeOf (bare e)) (treeOf (bare b)) (operatorLabel (operatorOf n)) s (operator-labelled n k) (omega (arith, ready .most, w .less))
-                  (kept-operand (treeOf (bare e)) w (y .placed)) (x .placed);
-            }));
+            (subst (λ m. Tells (IsExpr mid r) codes (r .at) (exprBy g NONE m (from codes (left .at + 1)))) (operator-after n k) (i .tells g (omega arith)))
+            (λ b x. (
+              h,
+              refl,
+              record {
+                strong = l ∙ operator-level n k;
+                type-last = x .type-last;
+                name-last = x .name-last;
+                placed =
+                    placed (treeOf (bare e)) (treeOf (bare b)) (operatorLabel (operatorOf n)) s (ap₂ label f d ∙ operator-labelled n k) (omega (arith, ready .most, w .less))
+                    (kept-operand (treeOf (bare e)) w (y .placed)) (x .placed);
+              },
+            ));
       }
 
   pub cast-none : {t : Piece} {r : Parsed} → length codes < t .at → TypeAt codes own mid (left .at + 1) (left .free) t → r .at ≡ length codes + 1 → CastAt codes own now left r
@@ -325,14 +333,18 @@ module _ {codes own mid now : List ℕ} (left : Parsed) (ready : Ready codes own
         grew = λ q. grew-node (left .at) (t .at) (omega (arith, w .upto)) (omega arith) w s;
         tells = λ e y g q.
             tells-some (IsType mid t) (IsExpr now z) codes (t .at) (t .at) (typeBy g (from codes (left .at + 1))) (λ x rest. ok (cast e x) rest) h (i .tells g (omega arith))
-            (λ x u. (h, refl, record {
-              strong = refl;
-              type-last = u .ends;
-              name-last = refl;
-              placed =
-                  placed (treeOf (bare e)) (treeOfType x) (label ExprCast 0) s refl (omega (arith, ready .most, w .less))
-                  (kept-operand (treeOf (bare e)) w (y .placed)) (u .placed);
-            }));
+            (λ x u. (
+              h,
+              refl,
+              record {
+                strong = refl;
+                type-last = u .ends;
+                name-last = refl;
+                placed =
+                    placed (treeOf (bare e)) (treeOfType x) (label ExprCast 0) s refl (omega (arith, ready .most, w .less))
+                    (kept-operand (treeOf (bare e)) w (y .placed)) (u .placed);
+              },
+            ));
       }
 
   pub index-none : {r : Parsed} (inner : Parsed) → (getD codes (inner .at) 46 ≡ 38 → ⊥) → ExprAt codes own mid (left .at + 1) (left .free) 1 inner → r .at ≡ length codes + 1 → IndexAt codes own now left r
@@ -378,13 +390,16 @@ module _ {codes own now : List ℕ} (left : Parsed) (ready : Ready codes own (le
       record {
         past = omega arith;
         grew = grew-node (left .at) (left .at + 2) (omega arith) (omega arith) (grew-none own (left .at) (left .free) (left .at) (omega arith)) s;
-        tells = λ e y m l d.
-            (omega arith, refl, record {
-              strong = refl;
-              type-last = refl;
-              name-last = d ∙ by m e;
-              placed = placed (treeOf (bare e)) none (memberLabel m) s l (ready .most) (y .placed) refl;
-            });
+        tells = λ e y m l d. (
+          omega arith,
+          refl,
+          record {
+            strong = refl;
+            type-last = refl;
+            name-last = d ∙ by m e;
+            placed = placed (treeOf (bare e)) none (memberLabel m) s l (ready .most) (y .placed) refl;
+          },
+        );
       }
     where
       by : (m : Member) (e : Expr one) → isByName m ≡ endsInDotName (member m e)
@@ -579,10 +594,14 @@ module _ {codes own mid : List ℕ} {at free : ℕ} (ready : Ready codes own at 
             (λ g q t x y.
             rw (tail-from codes (first .at))
             (tells-some (IsArguments mid₂ r) (IsArguments now (record { at = r .at; free = left; named = false })) codes (r .at) (r .at) (someArgumentsBy g (from codes (first .at + 1))) (λ l z. ok (moreArguments t l) z) h (j .tells g (omega (arith, w .upto)))
-            (λ l u. (h, refl, record {
-              placed =
-                  placed (treeOf (bare t)) (treeOf (bare l)) (label Link 0) s refl (omega (arith, ready .most, w .less, v .less))
-                  (kept-operand (treeOf (bare t)) v (y .placed))
-                  (u .placed);
-            }))));
+            (λ l u. (
+              h,
+              refl,
+              record {
+                placed =
+                    placed (treeOf (bare t)) (treeOf (bare l)) (label Link 0) s refl (omega (arith, ready .most, w .less, v .less))
+                    (kept-operand (treeOf (bare t)) v (y .placed))
+                    (u .placed);
+              },
+            ))));
       }

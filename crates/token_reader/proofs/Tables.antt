@@ -158,3 +158,8 @@ unfolding tokenOf
 others-stop n h k e =
     stop-is (nextOf (tokenOf n))
     (rw (le-ltb n 29 k, e) at (all-at (λ m. ltb m 29 || (isOneOf (31 ∷ 34 ∷ 35 ∷ 37 ∷ 40 ∷ []) m || isStop (nextOf (tokenOf m)))) 47 tt n h))
+
+-- what the reader's last arm knows of a code
+pub no-form : (n : ℕ) → (n ≡ 31 → ⊥) → (n ≡ 34 → ⊥) → (n ≡ 35 → ⊥) → (n ≡ 37 → ⊥) → (n ≡ 40 → ⊥) → isOneOf (31 ∷ 34 ∷ 35 ∷ 37 ∷ 40 ∷ []) n ≡ false
+no-form n a b c d e =
+    rw (ne-eqb 31 n (λ q. a (sym q)), ne-eqb 34 n (λ q. b (sym q)), ne-eqb 35 n (λ q. c (sym q)), ne-eqb 37 n (λ q. d (sym q)), ne-eqb 40 n (λ q. e (sym q)))

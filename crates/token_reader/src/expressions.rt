@@ -50,7 +50,14 @@ fn cast(tokens: &[u16], own: &mut [u16], left: Parsed) -> Parsed
     }
     Parsed {
         at: target.at,
-        free: store(own, target.free, forms::EXPR_CAST, 0, left.free + 1, target.free + 1),
+        free: store(
+            own,
+            target.free,
+            forms::EXPR_CAST,
+            0,
+            left.free + 1,
+            target.free + 1,
+        ),
         level: 13,
         named: target.named,
         dotted: false,
@@ -58,7 +65,14 @@ fn cast(tokens: &[u16], own: &mut [u16], left: Parsed) -> Parsed
 }
 
 // A Field or an Await.
-fn member(tokens: &[u16], own: &mut [u16], left: Parsed, form: u16, detail: u16, dotted: bool) -> Parsed
+fn member(
+    tokens: &[u16],
+    own: &mut [u16],
+    left: Parsed,
+    form: u16,
+    detail: u16,
+    dotted: bool,
+) -> Parsed
     requires { ⌜ Ready (now tokens) (now own) (left .at) (left .free) × (left .at + 1 < length (now tokens)) ⌝ }
     ensures { λ r. ⌜ MemberAt (now (tokens .entry)) (now (own .entry)) (now (own .exit)) left form detail dotted r ⌝ }
 {
@@ -236,7 +250,14 @@ fn index(tokens: &[u16], own: &mut [u16], left: Parsed) -> Parsed
     }
     strongest(
         inner.at + 1,
-        store(own, inner.free, forms::EXPR_INDEX, 0, left.free + 1, inner.free + 1),
+        store(
+            own,
+            inner.free,
+            forms::EXPR_INDEX,
+            0,
+            left.free + 1,
+            inner.free + 1,
+        ),
     )
 }
 
@@ -281,7 +302,14 @@ fn arguments(tokens: &[u16], own: &mut [u16], at: usize, free: u16) -> Piece
     }
     Piece {
         at: more.at,
-        free: store(own, more.free, forms::LINK, 0, first.free + 1, more.free + 1),
+        free: store(
+            own,
+            more.free,
+            forms::LINK,
+            0,
+            first.free + 1,
+            more.free + 1,
+        ),
         named: false,
     }
 }
