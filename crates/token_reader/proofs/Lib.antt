@@ -6,3 +6,5 @@ pub mod TypeEnds
 pub mod Tables
 pub mod Steps
 pub mod ExprEnds
+pub mod Codes
+pub mod Whole

@@ -143,8 +143,9 @@ placed-operand own low i (node l a b) p =
     (unfolds own 24576 i (omega (arith, p .0)) (p .1)
     ∙ rw (p .2, placed-operand own i (firstAt own i) a (p .3), placed-operand own i (secondAt own i) b (p .4)))
 
-pub placed-tree : (own : List ℕ) (low i : ℕ) (l : Label) (a b : Tree) → Placed own low i (node l a b) → treeAt own 24576 i ≡ node l a b
-placed-tree own low i l a b p =
+pub placed-tree : (own : List ℕ) (low i : ℕ) (t : Tree) → 1 ≤ i → Placed own low i t → treeAt own 24576 i ≡ t
+placed-tree own low i none h p = absurd (omega arith)
+placed-tree own low i (node l a b) h p =
     subst (λ o. treeAt own 24576 o ≡ node l a b) (operand-in 24576 low i (p .0) (p .1)) (placed-operand own low i (node l a b) p)
 
 -- ---- how far reading came

@@ -1,11 +1,13 @@
 -- What the parser gives in steps, and what the reader knows of each. Assumes nothing.
 use mathlib.Core.Path.{_≡_, refl, sym, subst, ap, _∙_}
+use mathlib.Core.Bool.{false}
 use mathlib.Core.List.{List}
 use Prim.Native.Nat.{ℕ, _+_, _*_, _≤_, _<_}
 use native.Mathlib.Omega.{arith}
 use lib.ListN.{length}
 use Rattle.grammar.specs.Tokens.{Token}
 use Rattle.grammar.specs.Parser.{Out, fail, ok, then}
+use Rattle.token_reader.specs.Reading.{anyAbove}
 use Rattle.token_reader.specs.Pieces.{Ready, Grew, Tells, from}
 
 -- where nothing is found, nothing comes of it
@@ -27,6 +29,9 @@ tells-then Is Be codes to to₂ fail k t g f = g t
 tells-then Is Be codes to to₂ (ok a rest) k t g f = subst (λ q. Tells Be codes to₂ (k a q)) (sym (t .1)) (f a (t .0) (t .2))
 
 -- ---- where reading can go on
+
+pub ready-start : (codes own : List ℕ) → length codes ≤ 24576 → anyAbove 45 codes ≡ false → length own ≡ 122880 → Ready codes own 0 24576
+ready-start codes own h k e = record { short = h; known = k; cells = e; room = omega arith; most = omega arith; within = omega arith }
 
 pub ready-on : {codes own : List ℕ} {at free : ℕ} (to : ℕ) → at ≤ to → to ≤ length codes → Ready codes own at free → Ready codes own to free
 ready-on to h k r =

@@ -16,6 +16,10 @@ use Rattle.grammar.specs.Grammar.{NONE, bare}
 use Rattle.grammar.specs.Parser.{Out, fail, ok, then, tail, isFirst, Start, noStart, anAtom, aPrefix, aGroup, start, AfterDot, noMember, aMember, afterDot, isByName, Next, stops, operates, castsTo, dots, calls, indexes, tries, next, typeBy, typesBy, someTypesBy, exprBy, onBy, argumentsBy, someArgumentsBy}
 use Rattle.plain.specs.Trees.{label, treeOf, treeOfType, atomLabel, prefixLabel, memberLabel, typePrefixLabel, typeSignLabel}
 use Rattle.token_reader.specs.Reading.{anyAbove}
+use Rattle.numbering.specs.declared.Renumbered.{Renumbered}
+use Rattle.numbering.specs.declared.Renumbered.the-variants as renumbered
+use Rattle.token_reader.specs.declared.Reply.{Reply}
+use Rattle.token_reader.specs.declared.Reply.the-variants.{Refused, Nodes}
 use Rattle.token_reader.specs.declared.piece.Piece.{Piece}
 use Rattle.token_reader.specs.declared.piece.Parsed.{Parsed}
 
@@ -265,3 +269,10 @@ pub record CallAt (codes own now : List ℕ) (at free form : ℕ) (r : Parsed) :
   pub grew : r .at ≤ length codes → Grew own now at free (r .at) (r .free)
   pub tells : (a : Tree) → Placed own free (free + 1) a → (whole : Expr list → Expr one) → ((l : Expr list) → Called form a l (whole l)) → (g : ℕ) → Enough codes at 0 g →
       Tells (IsExpr now r) codes (r .at) (callBy g whole (from codes (at + 1)))
+
+-- ---- the reply
+
+unfoldable pub replyOf : Renumbered → Reply
+replyOf renumbered.TooLarge = Refused 16
+replyOf renumbered.TooShort = Refused 12
+replyOf (renumbered.Nodes n) = Nodes n
