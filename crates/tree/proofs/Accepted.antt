@@ -161,8 +161,11 @@ module _ (context count : ℕ) (cells : List ℕ) (ok : Accepted context count c
     pub second-standing : (secondAt cells i ≡ 0) ⊎ Within count i (secondAt cells i)
     second-standing = not-misplaced count i (secondAt cells i) second-placed
 
-    first-most : firstAt cells i ≤ count
+    pub first-most : firstAt cells i ≤ count
     first-most = ⊎-elim (λ z. omega arith) (λ w. w .1) first-standing
+
+    pub second-most : secondAt cells i ≤ count
+    second-most = ⊎-elim (λ z. omega arith) (λ w. w .1) second-standing
 
     -- a closure with a written output has a plain block for its body
     pub output-block : formAt cells i ≡ ExprClosure → detailAt cells i ≡ 1
@@ -223,12 +226,16 @@ module _ (context count : ℕ) (cells : List ℕ) (ok : Accepted context count c
   pub second-operand : (i : ℕ) → 1 ≤ i → i ≤ count → operandAt cells count i 4 ≡ secondAt cells i
   second-operand i low high = standing-operand i (secondAt cells i) (second-standing i low high)
 
-  -- each node but 1 has exactly one owner, at one place
-  pub one-owner : (j : ℕ) → 2 ≤ j → j ≤ count → OwnedOnce cells count j
+  -- each node but 1 is counted once as an operand
+  pub counted-once : (j : ℕ) → 2 ≤ j → j ≤ count → owners cells count j ≡ 1
   unfolding refusal8 badOwner
-  one-owner j low high =
+  counted-once j low high =
       let b = some-none (badOwner cells count) count (or-false (some (badOrder cells count) count) _ (passes context count cells ok .not8) .1) j (omega arith) high in
-      owned-once cells j count (eqb-true (owners cells count j) 1 (not-false _ (rw (ne-eqb j 1 (λ e. omega arith)) at b)))
+      eqb-true (owners cells count j) 1 (not-false _ (rw (ne-eqb j 1 (λ e. omega arith)) at b))
+
+  -- so it has exactly one owner, at one place
+  pub one-owner : (j : ℕ) → 2 ≤ j → j ≤ count → OwnedOnce cells count j
+  one-owner j low high = owned-once cells j count (counted-once j low high)
 
   -- and that owner's number is smaller
   pub owner-smaller : (j : ℕ) (o : OwnedOnce cells count j) → 2 ≤ j → o .owner < j

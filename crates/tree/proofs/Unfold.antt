@@ -2,7 +2,7 @@
 use mathlib.Core.Path.{_≡_, refl, sym, ap, ap₂, _∙_}
 use mathlib.Core.Bool.{Bool, true, false, _&&_}
 use mathlib.Core.List.{List}
-use Prim.Native.Nat.{ℕ, zero, suc, _+_, _≤_, _<_, max}
+use Prim.Native.Nat.{ℕ, zero, suc, _+_, _-_, _≤_, _<_, max}
 use native.Mathlib.Omega.{arith}
 use native.Mathlib.Decide.{decLe}
 use lib.Dec.{eqb, ltb, leb}
@@ -66,6 +66,28 @@ operand-root count i o = go (operandOf count i o) (standing count i o)
     go : (p : ℕ) → Standing count i o p → operandOf count 0 p ≡ p
     go p absent = operand-zero count 0
     go p (present a b) = operand-in count 0 p (omega arith) b
+
+-- ---- numbers that are left above a node; none where an operand is absent: a recursion over a node's operands ends
+
+abbrev pub left : ℕ → ℕ
+left zero = 0
+left (suc n) = 65535 - n
+
+pub left-falls : (count i o : ℕ) → 1 ≤ i → i ≤ count → count ≤ 65535 → left (operandOf count i o) < left i
+left-falls count i o h k l = go (operandOf count i o) (standing count i o)
+  where
+    above : (n m : ℕ) → 1 ≤ n → n < m → m ≤ 65535 → left m < left n
+    above zero m h k l = absurd (omega arith)
+    above (suc n) zero h k l = absurd (omega arith)
+    above (suc n) (suc m) h k l = omega arith
+
+    below : (n : ℕ) → 1 ≤ n → n ≤ 65535 → 0 < left n
+    below zero h k = absurd (omega arith)
+    below (suc n) h k = omega arith
+
+    go : (p : ℕ) → Standing count i o p → left p < left i
+    go p absent = below i h (omega arith)
+    go p (present a b) = above i p h a (omega arith)
 
 -- ---- trees
 

@@ -229,14 +229,14 @@ fn has_wrong_owners(table: &[u16], count: u16) -> bool
 
 // ---- 11
 
-fn larger(a: u16, b: u16) -> u16
+pub fn larger(a: u16, b: u16) -> u16
     ensures { λ r. ⌜ r ≡ max a b ⌝ }
 {
     if a < b { b } else { a }
 }
 
 // 1 for an expression or a type, 0 for a link.
-fn own_level(table: &[u16], node: u16) -> u16
+pub fn own_level(table: &[u16], node: u16) -> u16
     ensures { λ r. ⌜ r ≡ ownLevel (formAt (now (table .entry)) node) ⌝ }
 {
     if class_of(cell(table, node, 0)) == 3 {

@@ -1,11 +1,10 @@
 -- The rows of a tree in the cells of its nodes, a node at a time. Assumes nothing.
 use mathlib.Core.Path.{_≡_, refl, sym, ap, _∙_}
 use mathlib.Core.List.{List}
-use Prim.Native.Nat.{ℕ, zero, suc, _-_, _≤_, _<_}
-use native.Mathlib.Omega.{arith}
+use Prim.Native.Nat.{ℕ, _≤_}
 use lib.ListN.{length, length-set}
-use Rattle.tree.specs.Trees.{none, labelAt, operandOf, operandAt, treeAt}
-use Rattle.tree.proofs.Unfold.{Standing, absent, present, standing, unfolds}
+use Rattle.tree.specs.Trees.{none, operandAt, treeAt}
+use Rattle.tree.proofs.Unfold.{unfolds}
 use Rattle.expr.specs.declared.Handed.{Handed}
 use Rattle.expr.specs.Expr.{handsFirst, handsSecond}
 use Rattle.walk.specs.declared.decision.Row.{Row}
@@ -28,28 +27,6 @@ length-placed cells count i (rows.present r a b) into =
     length-placed cells count (operandAt cells count i 4) b _
     ∙ length-placed cells count (operandAt cells count i 3) a _
     ∙ length-stored i r into
-
--- ---- numbers that are left above a node; none where an operand is absent
-
-abbrev pub left : ℕ → ℕ
-left zero = 0
-left (suc n) = 65535 - n
-
-pub left-falls : (count i o : ℕ) → 1 ≤ i → i ≤ count → count ≤ 65535 → left (operandOf count i o) < left i
-left-falls count i o h k l = go (operandOf count i o) (standing count i o)
-  where
-    above : (n m : ℕ) → 1 ≤ n → n < m → m ≤ 65535 → left m < left n
-    above zero m h k l = absurd (omega arith)
-    above (suc n) zero h k l = absurd (omega arith)
-    above (suc n) (suc m) h k l = omega arith
-
-    below : (n : ℕ) → 1 ≤ n → n ≤ 65535 → 0 < left n
-    below zero h k = absurd (omega arith)
-    below (suc n) h k = omega arith
-
-    go : (p : ℕ) → Standing count i o p → left p < left i
-    go p absent = below i h (omega arith)
-    go p (present a b) = above i p h a (omega arith)
 
 -- ---- one node
 

@@ -4,8 +4,8 @@ use Prim.Native.Nat.{ℕ, _<_}
 use lib.ListN.{length}
 use native.Mathlib.Omega.{arith}
 use borrow.Author.Needs.{needs}
-use Rattle.tree.proofs.Unfold.{tree-zero, tree-past}
-use Rattle.walk.proofs.Placed.{length-stored, length-placed, left, left-falls, placed-none, placed-by}
+use Rattle.tree.proofs.Unfold.{left, left-falls, tree-zero, tree-past}
+use Rattle.walk.proofs.Placed.{length-stored, length-placed, placed-none, placed-by}
 use borrow.Fn.Kinds.{In}
 use borrow.Fn.PlainCycle.{Measures, is, falls, and}
 use Rattle.walk.proofs.walk_from.Reads as walk-from

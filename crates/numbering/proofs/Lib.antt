@@ -1,0 +1,5 @@
+pub mod Sizes
+pub mod Holds
+pub mod Stores
+pub mod Nodes
+pub mod Replies

@@ -1,0 +1,4 @@
+pub mod Plain
+pub mod Trees
+pub mod Written
+pub mod Reads

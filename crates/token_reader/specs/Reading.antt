@@ -1,0 +1,42 @@
+-- What reading a token list answers, and what the lent table holds afterwards: by the grammar's readings.
+use mathlib.Core.Path.{_≡_}
+use mathlib.Core.Bool.{Bool, true, false, _||_}
+use mathlib.Core.List.{List, [], _∷_}
+use Prim.Native.Nat.{ℕ, _*_}
+use lib.Dec.{ltb}
+use lib.ListN.{length}
+use Rattle.laws.specs.Choice.{pick}
+use Rattle.laws.specs.Lists.{over}
+use Rattle.tree.specs.Trees.{Tree}
+use Rattle.numbering.specs.Numbered.{size, numbered, tooLarge}
+use Rattle.plain.specs.Reads.{Reads}
+use Rattle.token_reader.specs.declared.Reply.{Reply}
+use Rattle.token_reader.specs.declared.Reply.the-variants.{Refused, Nodes}
+
+-- 12. "A lent buffer is too short: .. a table of 4,096 nodes for the token reader." `lent` is the table's length
+unfoldable pub refusal12 : ℕ → Bool
+refusal12 lent = ltb lent (5 * 4096)
+
+-- 14. "A token list is longer than 24,576 or holds a code above 45."
+unfoldable pub anyAbove : ℕ → List ℕ → Bool
+anyAbove most [] = false
+anyAbove most (n ∷ ns) = ltb most n || anyAbove most ns
+
+unfoldable pub refusal14 : List ℕ → Bool
+refusal14 codes = ltb 24576 (length codes) || anyAbove 45 codes
+
+-- 16, or the count of the reading's nodes
+unfoldable pub countOrLarge : Tree → Reply
+countOrLarge t = pick (tooLarge t) (Refused 16) (Nodes (size t))
+
+-- "On 0 the reader's table holds the reading of its token list", and cells past it are as they were
+unfoldable pub stored : Tree → List ℕ → List ℕ
+stored t table = pick (tooLarge t) table (over (numbered t) table)
+
+-- The reply and the table afterwards. Each token list has a reading or has none, and at most one: so both are fixed in every case.
+pub record Answers (codes table : List ℕ) (reply : Reply) (after : List ℕ) : Type 0 where
+  pub short : refusal12 (length table) ≡ true → (reply ≡ Refused 12) × (after ≡ table)
+  pub unknown : refusal12 (length table) ≡ false → refusal14 codes ≡ true → (reply ≡ Refused 14) × (after ≡ table)
+  -- 15. "The grammar below gives the token list no reading."
+  pub unread : refusal12 (length table) ≡ false → refusal14 codes ≡ false → ((t : Tree) → Reads codes t → ⊥) → (reply ≡ Refused 15) × (after ≡ table)
+  pub read : refusal12 (length table) ≡ false → refusal14 codes ≡ false → (t : Tree) → Reads codes t → (reply ≡ countOrLarge t) × (after ≡ stored t table)

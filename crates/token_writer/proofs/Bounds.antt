@@ -1,0 +1,96 @@
+-- A node writes at most six tokens, its pair included: tokens written never pass 24,576. Assumes nothing.
+use mathlib.Core.Path.{_≡_, refl, sym, ap, _∙_}
+use mathlib.Core.Bool.{Bool, true, false}
+use mathlib.Core.List.{List, [], _∷_, _++_}
+use Prim.Native.Nat.{ℕ, _+_, _*_, _≤_}
+use native.Mathlib.Omega.{arith}
+use lib.Dec.{eqb}
+use lib.ListN.{length, length-append}
+use borrow.Author.Tests.{eqb-true}
+use Rattle.laws.specs.Choice.{pick, Row, row, lookup, isOneOf}
+use Rattle.tree.specs.Trees.{Label, Tree, none, node, operandAt, treeAt}
+use Rattle.tree.specs.Refusals.{refuse, firstOf, refusal, Accepted}
+use Rattle.tree.specs.Walks.{isThere}
+use Rattle.tree.proofs.Accepted.{count-bounds}
+use Rattle.grammar.specs.Tokens.{Token, LeftParen, RightParen, Comma}
+use Rattle.numbering.specs.Numbered.{size}
+use Rattle.numbering.proofs.Sizes.{size-accepted}
+use Rattle.plain.specs.Written.{Signs, signs, comma, signRows, signsOf, tokensAt, hasPair}
+use Rattle.token_writer.specs.Writes.{rowsFor, written, refusal12, refusal13, writeRefusal}
+use Rattle.token_writer.proofs.Tokens.{oneOf, in-row}
+
+-- ---- what holds of all that a table gives
+
+module _ {A : Type 0} (P : A → Type 0) where
+  by-test : (b : Bool) (x y : A) → P x → P y → P (pick b x y)
+  unfolding pick
+  by-test true x y p q = p
+  by-test false x y p q = q
+
+  abbrev Each : List (Row A) → Type 0
+  Each [] = Unit {0}
+  Each (row ks a ∷ rows) = P a × Each rows
+
+  in-table : (rows : List (Row A)) (other : A) (n : ℕ) → Each rows → P other → P (lookup rows other n)
+  unfolding lookup
+  in-table [] other n e o = o
+  in-table (row ks a ∷ rows) other n e o = by-test (isOneOf ks n) a (lookup rows other n) (e .0) (in-table rows other n (e .1) o)
+
+-- ---- a node
+
+few : Signs → ℕ
+few s = length (s .before) + (length (s .between) + length (s .behind))
+
+-- a node's own tokens are at most four
+four : (l : Label) (b : Tree) → few (signsOf l b) ≤ 4
+unfolding signsOf signRows few
+four l b =
+    in-table (λ (s : Signs). few s ≤ 4) (signRows (l .detail) (isThere b)) (signs [] [] []) (l .form)
+    (omega arith, (omega arith, (omega arith, (omega arith, (omega arith, (omega arith, (omega arith, (omega arith, (omega arith, (omega arith, (omega arith, (omega arith, (omega arith, (omega arith, (by-test (λ (s : Signs). few s ≤ 4) _ _ _ (omega arith) (omega arith), (omega arith, (omega arith, (omega arith, (link (isThere b), tt)))))))))))))))))))
+    (omega arith)
+  where
+    link : (b : Bool) → few (signs [] (comma b) []) ≤ 4
+    link b = by-test (λ (s : List Token). few (signs [] s []) ≤ 4) b (Comma ∷ []) [] (omega arith) (omega arith)
+
+one-most : (b : Bool) (t : Token) → length (oneOf b t) ≤ 1
+one-most b t = by-test (λ (s : List Token). length s ≤ 1) b (t ∷ []) [] (omega arith) (omega arith)
+
+-- ---- a tree
+
+module _ (cells : List ℕ) (count : ℕ) (pair : ℕ → Bool) where
+  pub six-a-node : (i : ℕ) (t : Tree) → length (tokensAt cells count pair i t []) ≤ 6 * size t
+  unfolding tokensAt size few
+  six-a-node i none = omega arith
+  six-a-node i (node l a b) =
+      let first = six-a-node (operandAt cells count i 3) a in
+      let second = six-a-node (operandAt cells count i 4) b in
+      let own = four l b in
+      let start = one-most (pair i) LeftParen in
+      let end = one-most (pair i) RightParen in
+      rw (in-row cells count pair i l a b) (simp length-append (omega arith))
+
+-- ---- an accepted table
+
+pub accepted-first : (context count : ℕ) (cells : List ℕ) (lent : ℕ) → writeRefusal context count cells lent ≡ 0 → Accepted context count cells
+unfolding writeRefusal pick
+accepted-first context count cells lent e = go (eqb (refusal context count cells) 0) refl e
+  where
+    go : (b : Bool) → eqb (refusal context count cells) 0 ≡ b → pick b (firstOf (refuse 12 (refusal12 count lent) ∷ refuse 13 (refusal13 context count cells) ∷ [])) (refusal context count cells) ≡ 0 → Accepted context count cells
+    go true p q = eqb-true _ 0 p
+    go false p q = q
+
+written-most : (count : ℕ) (cells : List ℕ) → size (treeAt cells count 1) ≤ count → length (written count cells) ≤ 6 * count
+unfolding written
+written-most count cells h =
+    let most = six-a-node cells count (hasPair (rowsFor count cells)) 1 (treeAt cells count 1) in
+    omega arith
+
+-- "Tokens written never pass 24,576.": six for each of at most 4,096 nodes
+pub tokens-bound : (context count : ℕ) (cells : List ℕ) (lent : ℕ) → writeRefusal context count cells lent ≡ 0
+    → (length (written count cells) ≤ 6 * count) × (length (written count cells) ≤ 24576)
+tokens-bound context count cells lent e =
+    let ok = accepted-first context count cells lent e in
+    let nodes = size-accepted context count cells ok in
+    let bounds = count-bounds context count cells ok in
+    let most = written-most count cells (omega arith) in
+    (most, omega arith)

@@ -1,0 +1,6 @@
+pub mod Bounds
+pub mod Plains
+pub mod Putting
+pub mod Replies
+pub mod Spelling
+pub mod Tokens

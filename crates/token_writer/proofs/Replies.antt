@@ -1,0 +1,94 @@
+-- The replies of `write`, and what they leave in the buffer. Assumes nothing.
+use mathlib.Core.Path.{_≡_, refl, sym, ap, _∙_}
+use mathlib.Core.Bool.{Bool, true, false, not, _||_}
+use mathlib.Core.List.{List, [], _∷_}
+use Prim.Native.Nat.{ℕ, zero, suc, _+_, _*_, _≤_, _<_}
+use native.Mathlib.Omega.{arith}
+use lib.Dec.{eqb, ltb}
+use lib.ListN.{length, take, replicate, length-replicate}
+use borrow.Author.Tests.{eq-eqb, ne-eqb, lt-ltb, le-ltb}
+use Rattle.laws.specs.Choice.{pick}
+use Rattle.laws.proofs.Choice.{pick-true, pick-false, or-here, or-next}
+use Rattle.tree.specs.Refusals.{firstOf, refusal}
+use Rattle.walk.specs.Walk.{rowsAfter}
+use Rattle.grammar.specs.Codes.{codesOf}
+use Rattle.plain.specs.Plain.{plainTable}
+use Rattle.token_writer.specs.declared.Written.{Written}
+use Rattle.token_writer.specs.declared.Written.the-variants.{Refused, Tokens}
+use Rattle.token_writer.specs.Puts.{Put, codesAt}
+use Rattle.token_writer.specs.Writes.{rowsFor, written, refusal12, refusal13, writeRefusal, answered, tokensAfter}
+use Rattle.token_writer.proofs.Putting.{put-over}
+use Rattle.token_writer.proofs.Tokens.{length-codes}
+
+-- ---- the rows
+
+-- in a buffer of just the length that they need, and the tokens with them
+pub codes-written : (count : ℕ) (cells rows scratch after : List ℕ) → rows ≡ replicate (5 * count) 0 → scratch ≡ replicate (3 * count) 0
+    → after ≡ rowsAfter 0 count cells rows scratch → codesAt cells count after 1 ≡ codesOf (written count cells)
+unfolding codesAt written rowsFor
+codes-written count cells rows scratch after r s e = rw (e, r, s)
+
+-- zeros at the start of more zeros
+pub take-zeros : (n m : ℕ) → n ≤ m → take {A = ℕ} n (replicate m 0) ≡ replicate n 0
+take-zeros zero m h = refl
+take-zeros (suc n) zero h = absurd (omega arith)
+take-zeros (suc n) (suc m) h = ap (λ (l : List ℕ). 0 ∷ l) (take-zeros n m (omega arith))
+
+pub length-zeros : (n m : ℕ) → n ≤ m → n ≡ length {A = ℕ} (take n (replicate m 0))
+length-zeros n m h = sym (ap length (take-zeros n m h) ∙ length-replicate {A = ℕ} n 0)
+
+-- ---- the replies
+
+module _ (context count : ℕ) (cells tokens : List ℕ) where
+  -- what the two clauses of the contract say of a reply and of the buffer afterwards
+  abbrev pub Answers : Written → List ℕ → Type 0
+  Answers r after = (r ≡ answered context count cells (length tokens)) × (after ≡ tokensAfter context count cells tokens)
+
+  -- a refusal leaves the buffer as it was
+  refuses : (r : ℕ) → r ≡ writeRefusal context count cells (length tokens) → (r ≡ 0 → ⊥) → Answers (Refused r) tokens
+  unfolding answered tokensAfter
+  refuses r e n =
+      let f : eqb (writeRefusal context count cells (length tokens)) 0 ≡ false = rw (← e) (ne-eqb r 0 n) in
+      (ap Refused e ∙ sym (pick-false _ _ f), sym (pick-false _ _ f))
+
+  pub refused : (r : ℕ) → r ≡ refusal context count cells → (r ≡ 0 → ⊥) → Answers (Refused r) tokens
+  unfolding writeRefusal
+  refused r e n = refuses r (e ∙ sym (pick-false _ _ (rw (← e) (ne-eqb r 0 n)))) n
+
+  module _ (accepted : refusal context count cells ≡ 0) where
+    after : writeRefusal context count cells (length tokens) ≡ pick (refusal12 count (length tokens)) 12 (pick (refusal13 context count cells) 13 0)
+    unfolding writeRefusal firstOf
+    after = pick-true _ _ (eq-eqb _ 0 accepted)
+
+    pub short : length tokens < 6 * count → Answers (Refused 12) tokens
+    unfolding refusal12
+    short h = refuses 12 (sym (after ∙ pick-true _ _ (lt-ltb _ _ h))) (λ z. omega arith)
+
+    module _ (fits : 6 * count ≤ length tokens) where
+      behind12 : writeRefusal context count cells (length tokens) ≡ pick (refusal13 context count cells) 13 0
+      unfolding refusal12
+      behind12 = after ∙ pick-false _ _ (le-ltb _ _ fits)
+
+      pub in-context : (context ≡ 0 → ⊥) → Answers (Refused 13) tokens
+      unfolding refusal13
+      in-context h = refuses 13 (sym (behind12 ∙ pick-true 13 0 (or-here _ (ap not (ne-eqb context 0 h))))) (λ z. omega arith)
+
+      module _ (none : context ≡ 0) where
+        is13 : refusal13 context count cells ≡ not (plainTable count cells)
+        unfolding refusal13
+        is13 = or-next _ (ap not (eq-eqb context 0 none))
+
+        pub not-plain : plainTable count cells ≡ false → Answers (Refused 13) tokens
+        not-plain h = refuses 13 (sym (behind12 ∙ pick-true 13 0 (is13 ∙ ap not h))) (λ z. omega arith)
+
+        module _ (plain : plainTable count cells ≡ true) where
+          pub not-refused : writeRefusal context count cells (length tokens) ≡ 0
+          not-refused = behind12 ∙ pick-false 13 0 (is13 ∙ ap not plain)
+
+          pub done : (last : List ℕ) (next : ℕ) → length (written count cells) ≤ length tokens → Put tokens 0 (codesOf (written count cells)) last next → Answers (Tokens next) last
+          unfolding answered tokensAfter
+          done last next room p =
+              let e = eq-eqb _ 0 not-refused in
+              let l = length-codes (written count cells) in
+              let n : next ≡ length (written count cells) = omega (arith, p .ends) in
+              (ap Tokens n ∙ sym (pick-true _ _ e), put-over tokens (codesOf (written count cells)) last next (omega arith) p ∙ sym (pick-true _ _ e))

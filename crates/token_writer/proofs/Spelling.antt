@@ -1,0 +1,110 @@
+-- A node's signs as codes: what each arm of the `match` on its form answers. Assumes nothing.
+use mathlib.Core.Path.{_≡_, refl, sym, ap, _∙_}
+use mathlib.Core.Bool.{Bool, true, false, not}
+use mathlib.Core.List.{List, [], _∷_}
+use Prim.Native.Nat.{ℕ, zero, suc, _+_, _*_, _-_, _<_, _≤_}
+use native.Mathlib.Omega.{arith}
+use native.Mathlib.Decide.{ℕ-discrete}
+use lib.ListN.{getD, List·getD-eq-default}
+use lib.Dec.{T, eqb, ltb, eqb→eq}
+use types.Run.{OneOf}
+use borrow.Author.Tests.{eq-eqb, ne-eqb}
+use Rattle.laws.specs.Choice.{pick, lookup}
+use Rattle.laws.proofs.Choice.{pick-true, pick-false}
+use Rattle.laws.proofs.Each.{all-at}
+use Rattle.laws.proofs.Keys.{numbersAt, givenAt, apartBefore, arm, Missed, rest}
+use Rattle.tree.specs.Table.{cellAt}
+use Rattle.tree.specs.Shapes.{presence}
+use Rattle.tree.specs.Trees.{labelAt, operandOf, operandAt, treeAt}
+use Rattle.tree.specs.Walks.{isThere, isPresent}
+use Rattle.tree.proofs.Walks.{there}
+use Rattle.grammar.specs.Tokens.{Token, operator, Assign, Lt, Gt, Name, code, number}
+use Rattle.grammar.specs.Codes.{operators, operatorOf, codesOf}
+use Rattle.plain.specs.Written.{signs, signRows, signsOf}
+use Rattle.plain.specs.Written as plain
+use Rattle.token_writer.specs.declared.signs.Few.{Few}
+use Rattle.token_writer.specs.declared.signs.Few.the-variants.{Nothing, One, Two, Three}
+use Rattle.token_writer.specs.declared.signs.Signs.{Signs}
+use Rattle.token_writer.specs.Puts.{spelled, Spells, onlyBefore, onlyBetween, enclosing, made, pathType, oneIf}
+
+-- ---- a choice between two tokens, or between a token and none
+
+pub code-pick : (b : Bool) (t u : Token) → pick b (code t) (code u) ≡ code (pick b t u)
+unfolding pick
+code-pick true t u = refl
+code-pick false t u = refl
+
+pub one-if : (b : Bool) (t : Token) → spelled (oneIf b (code t)) ≡ codesOf (pick b (t ∷ []) [])
+unfolding pick
+one-if true t = refl
+one-if false t = refl
+
+-- ---- pairs
+
+-- the first of a node's five cells
+pub pair-cell : (rows : List ℕ) (i : ℕ) → 1 ≤ i → cellAt rows i 0 ≡ getD rows (5 * (i - 1)) 0
+unfolding cellAt
+pair-cell rows zero h = absurd (omega arith)
+pair-cell rows (suc i) h = let e : 5 * i + 0 ≡ 5 * (suc i - 1) = omega arith in rw e
+
+-- ---- operators
+
+pub operator-low : (n : ℕ) → n < 28 → number (operatorOf n) ≡ n
+unfolding operatorOf
+operator-low n h = eqb→eq (number (operatorOf n)) n (all-at (λ m. eqb (number (operatorOf m)) m) 28 tt n h)
+
+pub operator-high : (n : ℕ) → 28 ≤ n → number (operatorOf n) ≡ 28
+unfolding operatorOf
+operator-high n h = go (ℕ-discrete n 28)
+  where
+    past : 29 ≤ n → number (operatorOf n) ≡ 28
+    past k = ap number (List·getD-eq-default operators Assign k)
+
+    go : Dec (n ≡ 28) → number (operatorOf n) ≡ 28
+    go (yes e) = rw e
+    go (no e) = past (omega arith)
+
+-- ---- the arms
+
+module _ (detail form : ℕ) (more : Bool) (s : Signs) where
+  -- the arm of row j
+  pub spells-arm : (j : ℕ) → T (apartBefore (signRows detail more) j (numbersAt (signRows detail more) j)) → OneOf (numbersAt (signRows detail more) j) form → Spells s (givenAt (signRows detail more) (signs [] [] []) j) → Spells s (lookup (signRows detail more) (signs [] [] []) form)
+  spells-arm j t o h = rw (arm (signRows detail more) (signs [] [] []) form j t o) h
+
+  -- the default arm
+  pub spells-rest : Missed (Unit {0}) (signRows detail more) form → Spells s (signs [] [] []) → Spells s (lookup (signRows detail more) (signs [] [] []) form)
+  spells-rest m h = rw (rest (signRows detail more) (signs [] [] []) form m) h
+
+module _ (s : Signs) (f : Few) (ts : List Token) where
+  pub before-only : s ≡ onlyBefore f → spelled f ≡ codesOf ts → Spells s (signs ts [] [])
+  before-only e h = rw e (record { before = h; between = refl; behind = refl })
+
+  pub between-only : s ≡ onlyBetween f → spelled f ≡ codesOf ts → Spells s (signs [] ts [])
+  between-only e h = rw e (record { before = refl; between = h; behind = refl })
+
+  pub round-second : (t : Token) → s ≡ enclosing f (code t) → spelled f ≡ codesOf ts → Spells s (signs [] ts (t ∷ []))
+  round-second t e h = rw e (record { before = refl; between = h; behind = refl })
+
+-- a path type's
+pub path-signs : (s : Signs) (detail : ℕ) → s ≡ pathType detail → Spells s (pick (eqb detail 2) (signs (Name ∷ operator Lt ∷ []) [] (operator Gt ∷ [])) (signs (Name ∷ []) [] []))
+unfolding pick
+path-signs s detail e = rw e (go (eqb detail 2))
+  where
+    go : (b : Bool) → Spells (pick b (made (Two 32 13) Nothing (One 17)) (onlyBefore (One 32))) (pick b (signs (Name ∷ operator Lt ∷ []) [] (operator Gt ∷ [])) (signs (Name ∷ []) [] []))
+    go true = record { before = refl; between = refl; behind = refl }
+    go false = record { before = refl; between = refl; behind = refl }
+
+-- ---- the signs of a node of a table
+
+module _ (cells : List ℕ) (count i : ℕ) where
+  there-by : (p : ℕ) → isPresent (presence p) ≡ not (eqb p 0)
+  unfolding presence
+  there-by zero = refl
+  there-by (suc p) = sym (ap not (ne-eqb (suc p) 0 (λ e. omega arith)))
+
+  pub spells-at : (s : Signs) (form detail second : ℕ) → form ≡ cellAt cells i 0 → detail ≡ cellAt cells i 2 → second ≡ operandAt cells count i 4
+      → Spells s (lookup (signRows detail (not (eqb second 0))) (signs [] [] []) form)
+      → Spells s (signsOf (labelAt cells i) (treeAt cells count (operandAt cells count i 4)))
+  unfolding signsOf labelAt
+  spells-at s form detail second f d o h =
+      rw (there cells count i (cellAt cells i 4), there-by (operandAt cells count i 4), ← o, ← d, ← f) h

@@ -1,0 +1,114 @@
+-- The tokens of a tree, a node at a time. Assumes nothing.
+use mathlib.Core.Path.{_≡_, refl, sym, ap, _∙_}
+use mathlib.Core.Bool.{Bool, true, false}
+use mathlib.Core.List.{List, [], _∷_, _++_, append-assoc, append-nil}
+use Prim.Native.Nat.{ℕ, _+_, _≤_}
+use native.Mathlib.Omega.{arith}
+use lib.ListN.{length, length-append}
+use Rattle.laws.specs.Choice.{pick}
+use Rattle.tree.specs.Trees.{Label, Tree, none, node, labelAt, operandAt, treeAt}
+use Rattle.tree.proofs.Unfold.{unfolds}
+use Rattle.grammar.specs.Tokens.{Token, code, LeftParen, RightParen}
+use Rattle.grammar.specs.Codes.{codesOf}
+use Rattle.plain.specs.Written.{within, signsOf, tokensAt, hasPair}
+use Rattle.token_writer.specs.declared.signs.Few.{Few}
+use Rattle.token_writer.specs.declared.signs.Signs.{Signs}
+use Rattle.token_writer.specs.Puts.{spelled, Put, Spells, oneIf, codesAt}
+use Rattle.token_writer.proofs.Putting.{put-none, put-more}
+use Rattle.token_writer.proofs.Spelling.{one-if}
+
+-- ---- codes
+
+pub codes-append : (s t : List Token) → codesOf (s ++ t) ≡ codesOf s ++ codesOf t
+codes-append [] t = refl
+codes-append (x ∷ s) t = ap (λ (r : List ℕ). code x ∷ r) (codes-append s t)
+
+pub length-codes : (s : List Token) → length (codesOf s) ≡ length s
+length-codes [] = refl
+length-codes (x ∷ s) = rw (length-codes s)
+
+-- ---- tokens
+
+-- a token where a test holds
+abbrev pub oneOf : Bool → Token → List Token
+oneOf b t = pick b (t ∷ []) []
+
+within-by : (b : Bool) (inside : List Token → List Token) (rest : List Token) → within b inside rest ≡ oneOf b LeftParen ++ inside (oneOf b RightParen ++ rest)
+unfolding pick
+within-by true inside rest = refl
+within-by false inside rest = refl
+
+module _ (cells : List ℕ) (count : ℕ) (pair : ℕ → Bool) where
+  -- the parts of a node's tokens, in a row
+  abbrev pub inRow : ℕ → Label → Tree → Tree → List Token → List Token
+  inRow i l a b rest =
+      oneOf (pair i) LeftParen
+      ++ (signsOf l b .before
+      ++ (tokensAt cells count pair (operandAt cells count i 3) a []
+      ++ (signsOf l b .between
+      ++ (tokensAt cells count pair (operandAt cells count i 4) b []
+      ++ (signsOf l b .behind
+      ++ (oneOf (pair i) RightParen ++ rest))))))
+
+  -- so they stand where what follows an operand's tokens stands behind them
+  in-row-by : (i : ℕ) (l : Label) (a b : Tree)
+      → ((r : List Token) → tokensAt cells count pair (operandAt cells count i 3) a r ≡ tokensAt cells count pair (operandAt cells count i 3) a [] ++ r)
+      → ((r : List Token) → tokensAt cells count pair (operandAt cells count i 4) b r ≡ tokensAt cells count pair (operandAt cells count i 4) b [] ++ r)
+      → (rest : List Token) → tokensAt cells count pair i (node l a b) rest ≡ inRow i l a b rest
+  unfolding tokensAt
+  in-row-by i l a b first second rest =
+      within-by (pair i) _ rest
+      ∙ rw (second (signsOf l b .behind ++ (oneOf (pair i) RightParen ++ rest)))
+      (rw (first (signsOf l b .between ++ (tokensAt cells count pair (operandAt cells count i 4) b [] ++ (signsOf l b .behind ++ (oneOf (pair i) RightParen ++ rest))))))
+
+  -- what follows a tree's tokens stands behind them
+  pub rest-last : (i : ℕ) (t : Tree) (rest : List Token) → tokensAt cells count pair i t rest ≡ tokensAt cells count pair i t [] ++ rest
+  unfolding tokensAt
+  rest-last i none rest = refl
+  rest-last i (node l a b) rest =
+      let first = rest-last (operandAt cells count i 3) a in
+      let second = rest-last (operandAt cells count i 4) b in
+      in-row-by i l a b first second rest ∙ sym (ap (λ (s : List Token). s ++ rest) (in-row-by i l a b first second []) ∙ simp append-assoc)
+
+  pub in-row : (i : ℕ) (l : Label) (a b : Tree) → tokensAt cells count pair i (node l a b) [] ≡ inRow i l a b []
+  in-row i l a b = in-row-by i l a b (rest-last (operandAt cells count i 3) a) (rest-last (operandAt cells count i 4) b) []
+
+-- ---- the codes of the tree at a node
+
+module _ (cells : List ℕ) (count : ℕ) (rows : List ℕ) (i : ℕ) where
+  pub put-nothing : treeAt cells count i ≡ none → (before : List ℕ) (at : ℕ) → Put before at (codesAt cells count rows i) before at
+  unfolding codesAt tokensAt
+  put-nothing e before at = rw e (put-none before at)
+
+  module _ (low : 1 ≤ i) (high : i ≤ count) (pair : Bool) (is : pair ≡ hasPair rows i) (s : Signs) (own : Spells s (signsOf (labelAt cells i) (treeAt cells count (operandAt cells count i 4)))) where
+    pub codes-parts : codesAt cells count rows i
+        ≡ spelled (oneIf pair 35) ++ (spelled (s .before) ++ (codesAt cells count rows (operandAt cells count i 3) ++ (spelled (s .between) ++ (codesAt cells count rows (operandAt cells count i 4) ++ (spelled (s .behind) ++ spelled (oneIf pair 36))))))
+    unfolding codesAt
+    codes-parts =
+        ap (λ (t : Tree). codesOf (tokensAt cells count (hasPair rows) i t [])) (unfolds cells count i low high)
+        ∙ ap codesOf (in-row cells count (hasPair rows) i _ _ _)
+        ∙ simp (codes-append, append-nil)
+        (rw (is, one-if (hasPair rows i) LeftParen, one-if (hasPair rows i) RightParen, own .before, own .between, own .behind))
+
+    pub length-parts : length (codesAt cells count rows i)
+        ≡ length (spelled (oneIf pair 35)) + (length (spelled (s .before)) + (length (codesAt cells count rows (operandAt cells count i 3)) + (length (spelled (s .between)) + (length (codesAt cells count rows (operandAt cells count i 4)) + (length (spelled (s .behind)) + length (spelled (oneIf pair 36)))))))
+    length-parts = ap length codes-parts ∙ simp length-append
+
+    pub put-parts : (f : Few) → f ≡ oneIf pair 35 → (g : Few) → g ≡ oneIf pair 36 → (o : ℕ) → o ≡ operandAt cells count i 3 → (p : ℕ) → p ≡ operandAt cells count i 4
+        → {t0 t1 t2 t3 t4 t5 t6 t7 : List ℕ} {n0 n1 n2 n3 n4 n5 n6 n7 : ℕ}
+        → Put t0 n0 (spelled f) t1 n1
+        → Put t1 n1 (spelled (s .before)) t2 n2
+        → Put t2 n2 (codesAt cells count rows o) t3 n3
+        → Put t3 n3 (spelled (s .between)) t4 n4
+        → Put t4 n4 (codesAt cells count rows p) t5 n5
+        → Put t5 n5 (spelled (s .behind)) t6 n6
+        → Put t6 n6 (spelled g) t7 n7
+        → Put t0 n0 (codesAt cells count rows i) t7 n7
+    put-parts f ef g eg o eo p ep a b c d e h k =
+        rw codes-parts
+        (put-more (rw ef at a)
+        (put-more b
+        (put-more (rw eo at c)
+        (put-more d
+        (put-more (rw ep at e)
+        (put-more h (rw eg at k)))))))

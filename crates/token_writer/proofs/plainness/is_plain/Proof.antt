@@ -1,0 +1,98 @@
+-- `token_writer::plainness::is_plain` meets its contract. Assumes nothing.
+use mathlib.Core.Path.{sym, ap, _∙_}
+use mathlib.Core.List.{List, [], _∷_}
+use Prim.Native.Nat.{ℕ}
+use Rattle.tree.specs.Trees.{labelAt}
+use Rattle.token_writer.proofs.Plains.{with-attributes, plain-expression, plain-type, plain-path, not-plain}
+use borrow.Author.Needs.{needs}
+use Rattle.token_writer.proofs.plainness.is_plain.Statement.{statement}
+use Rattle.token_writer.proofs.plainness.is_plain.Tie as tie
+
+-- the numbers of the arms, in their order
+abbrev expressions : List ℕ
+expressions = 2 ∷ 5 ∷ 9 ∷ 13 ∷ 17 ∷ 20 ∷ 24 ∷ 26 ∷ 29 ∷ 33 ∷ 36 ∷ []
+
+abbrev moreExpressions : List ℕ
+moreExpressions = 4 ∷ 8 ∷ 25 ∷ []
+
+abbrev types : List ℕ
+types = 45 ∷ 47 ∷ 50 ∷ 56 ∷ []
+
+abbrev moreTypes : List ℕ
+moreTypes = 51 ∷ []
+
+cell-requires : tie.Need-cell-requires
+cell-requires c κs = search needs
+
+returns : tie.Need-returns
+unfolding labelAt
+returns c = let s = c .before .before .before in
+    sym (with-attributes (labelAt (s .args .table .now) (s .args .node)) (λ e. c .if1 .taken (c .before .cell .ensures ∙ e)))
+
+cell-requires-2 : tie.Need-cell-requires-2
+cell-requires-2 c κs = search needs
+
+cell-requires-3 : tie.Need-cell-requires-3
+cell-requires-3 c κs = search needs
+
+is-plain-path-requires : tie.Need-is-plain-path-requires
+is-plain-path-requires c κs = search needs
+
+returns-2 : tie.Need-returns-2
+unfolding labelAt
+returns-2 c = let s = c .before .before .before .before .before in
+    let l = labelAt (s .args .table .now) (s .args .node) in
+    let w = sym (c .before .before .before .cell .ensures) ∙ c .before .before .if1 .left in
+    sym (plain-expression l w expressions tt (rw (c .before .cell2 .ensures) at (c .match .keys1)))
+
+returns-3 : tie.Need-returns-3
+unfolding labelAt
+returns-3 c = let s = c .before .before .before .before .before in
+    let l = labelAt (s .args .table .now) (s .args .node) in
+    let w = sym (c .before .before .before .cell .ensures) ∙ c .before .before .if1 .left in
+    sym (plain-expression l w moreExpressions tt (rw (c .before .cell2 .ensures) at (c .match .keys2)))
+
+returns-4 : tie.Need-returns-4
+unfolding labelAt
+returns-4 c = let s = c .before .before .before .before .before in
+    let l = labelAt (s .args .table .now) (s .args .node) in
+    let w = sym (c .before .before .before .cell .ensures) ∙ c .before .before .if1 .left in
+    sym (plain-type l w types tt tt (rw (c .before .cell2 .ensures) at (c .match .keys3)))
+
+returns-5 : tie.Need-returns-5
+unfolding labelAt
+returns-5 c = let s = c .before .before .before .before .before in
+    let l = labelAt (s .args .table .now) (s .args .node) in
+    let w = sym (c .before .before .before .cell .ensures) ∙ c .before .before .if1 .left in
+    sym (plain-type l w moreTypes tt tt (rw (c .before .cell2 .ensures) at (c .match .keys4)))
+
+returns-6 : tie.Need-returns-6
+unfolding labelAt
+returns-6 c =
+    let s = c .before .before .before .before .before .before .before in
+    let l = labelAt (s .args .table .now) (s .args .node) in
+    let w = sym (c .before .before .before .before .before .cell .ensures) ∙ c .before .before .before .before .if1 .left in
+    c .is-plain-path .ensures ∙ rw (c .before .cell3 .ensures) (sym (plain-path l w (rw (c .before .before .before .cell2 .ensures) at (c .before .before .match .keys5))))
+
+returns-7 : tie.Need-returns-7
+unfolding labelAt
+returns-7 c = let s = c .before .before .before .before .before in
+    let l = labelAt (s .args .table .now) (s .args .node) in
+    let w = sym (c .before .before .before .cell .ensures) ∙ c .before .before .if1 .left in
+    sym (not-plain l w expressions moreExpressions types moreTypes tt tt (rw (c .before .cell2 .ensures) at (c .match .rest)))
+
+pub is-plain-spec : {M : Type 1} → statement M
+is-plain-spec =
+    tie.close
+    (tie.spec
+    cell-requires
+    returns
+    cell-requires-2
+    cell-requires-3
+    is-plain-path-requires
+    returns-2
+    returns-3
+    returns-4
+    returns-5
+    returns-6
+    returns-7)

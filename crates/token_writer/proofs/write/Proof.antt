@@ -1,0 +1,136 @@
+-- `token_writer::write` meets its contract. Assumes nothing.
+use mathlib.Core.Path.{_≡_, sym, ap, _∙_}
+use mathlib.Core.Bool.{not}
+use Prim.Native.Nat.{ℕ, _*_, _≤_}
+use native.Mathlib.Nat.{le-trans, mul-le-mul-left}
+use native.Mathlib.Omega.{arith}
+use lib.ListN.{length}
+use borrow.Author.Needs.{needs}
+use borrow.Author.Tests.{not-true, not-false}
+use Rattle.tree.proofs.Accepted.{count-bounds}
+use Rattle.token_writer.specs.Writes.{written}
+use Rattle.token_writer.proofs.Bounds.{tokens-bound}
+use Rattle.token_writer.proofs.Replies.{take-zeros, length-zeros, refused, short, in-context, not-plain, not-refused, done}
+use Rattle.token_writer.proofs.Tokens.{length-codes}
+use Rattle.token_writer.proofs.write.Statement.{statement}
+use Rattle.token_writer.proofs.write.Tie as tie
+
+-- k cells for each of at most 4,096 nodes
+times : (k n : ℕ) → n ≤ 4096 → k * n ≤ k * 4096
+times k n h = mul-le-mul-left k h
+
+check-requires : tie.Need-check-requires
+check-requires c κs = search needs
+
+returns : tie.Need-returns
+returns c =
+    let a = c .before .before .before .before .args in
+    refused (a .context) (a .count) (a .table .now) (a .tokens .now) _ (c .before .check .ensures) (c .if1 .taken)
+
+mul-if2 : tie.Need-mul-if2
+mul-if2 c = search needs
+
+returns-2 : tie.Need-returns-2
+returns-2 c =
+    let a = c .before .before .before .before .before .args in
+    short (a .context) (a .count) (a .table .now) (a .tokens .now) (sym (c .before .before .check .ensures) ∙ c .before .if1 .left) (omega arith)
+
+returns-3 : tie.Need-returns-3
+returns-3 c =
+    let a = c .before .before .before .before .before .before .args in
+    in-context (a .context) (a .count) (a .table .now) (a .tokens .now) (sym (c .before .before .before .check .ensures) ∙ c .before .before .if1 .left) (c .before .if2 .left) (c .if3 .taken)
+
+is-plain-table-requires : tie.Need-is-plain-table-requires
+is-plain-table-requires c κs = search needs
+
+returns-4 : tie.Need-returns-4
+returns-4 c =
+    let a = c .before .before .before .before .before .before .before .before .args in
+    not-plain (a .context) (a .count) (a .table .now) (a .tokens .now) (sym (c .before .before .before .before .before .check .ensures) ∙ c .before .before .before .before .if1 .left) (c .before .before .before .if2 .left) (c .before .before .if3 .left) (not-true _ (ap not (sym (c .before .is-plain-table .ensures)) ∙ c .if4 .taken))
+
+mul-row-cells : tie.Need-mul-row-cells
+mul-row-cells c = search needs
+
+mul-scratch-cells : tie.Need-mul-scratch-cells
+mul-scratch-cells c = search needs
+
+array-borrow-prefix-rows : tie.Need-array-borrow-prefix-rows
+array-borrow-prefix-rows c =
+    let a = c .before .before .before .before .before .before .before .before .args in
+    let bounds = count-bounds (a .context) (a .count) (a .table .now) (sym (c .before .before .before .before .before .check .ensures) ∙ c .before .before .before .before .if1 .left) in
+    times 5 (a .count) (bounds .1)
+
+slice-aggregate-write-plain : tie.Need-slice-aggregate-write-plain
+slice-aggregate-write-plain c =
+    let a = c .before .before .before .before .before .before .before .before .before .args in
+    let bounds = count-bounds (a .context) (a .count) (a .table .now) (sym (c .before .before .before .before .before .before .check .ensures) ∙ c .before .before .before .before .before .if1 .left) in
+    length-zeros (5 * a .count) 20480 (times 5 (a .count) (bounds .1))
+
+array-borrow-prefix-scratch : tie.Need-array-borrow-prefix-scratch
+array-borrow-prefix-scratch c =
+    let a = c .before .before .before .before .before .before .before .before .before .args in
+    let bounds = count-bounds (a .context) (a .count) (a .table .now) (sym (c .before .before .before .before .before .before .check .ensures) ∙ c .before .before .before .before .before .if1 .left) in
+    times 3 (a .count) (bounds .1)
+
+slice-aggregate-write-plain-2 : tie.Need-slice-aggregate-write-plain-2
+slice-aggregate-write-plain-2 c =
+    let a = c .before .before .before .before .before .before .before .before .before .before .args in
+    let bounds = count-bounds (a .context) (a .count) (a .table .now) (sym (c .before .before .before .before .before .before .before .check .ensures) ∙ c .before .before .before .before .before .before .if1 .left) in
+    length-zeros (3 * a .count) 12288 (times 3 (a .count) (bounds .1))
+
+write-plain-requires : tie.Need-write-plain-requires
+write-plain-requires c κs =
+    let a = c .before .before .before .before .before .before .before .before .before .before .before .args in
+    let ok = sym (c .before .before .before .before .before .before .before .before .check .ensures) ∙ c .before .before .before .before .before .before .before .if1 .left in
+    let fits = c .before .before .before .before .before .before .if2 .left in
+    let none = c .before .before .before .before .before .if3 .left in
+    let plain = not-false _ (ap not (sym (c .before .before .before .before .is-plain-table .ensures)) ∙ c .before .before .before .if4 .left) in
+    let most = tokens-bound (a .context) (a .count) (a .table .now) (length (a .tokens .now)) (not-refused (a .context) (a .count) (a .table .now) (a .tokens .now) ok fits none plain) in
+    let bounds = count-bounds (a .context) (a .count) (a .table .now) ok in
+    (take-zeros (5 * a .count) 20480 (times 5 (a .count) (bounds .1)), take-zeros (3 * a .count) 12288 (times 3 (a .count) (bounds .1)), le-trans (most .0) fits)
+
+cast-t22 : tie.Need-cast-t22
+cast-t22 c =
+    let a = c .before .before .before .before .before .before .before .before .before .before .before .before .before .before .before .before .args in
+    let ok = sym (c .before .before .before .before .before .before .before .before .before .before .before .before .before .check .ensures) ∙ c .before .before .before .before .before .before .before .before .before .before .before .before .if1 .left in
+    let fits = c .before .before .before .before .before .before .before .before .before .before .before .if2 .left in
+    let none = c .before .before .before .before .before .before .before .before .before .before .if3 .left in
+    let plain = not-false _ (ap not (sym (c .before .before .before .before .before .before .before .before .before .is-plain-table .ensures)) ∙ c .before .before .before .before .before .before .before .before .if4 .left) in
+    let most = tokens-bound (a .context) (a .count) (a .table .now) (length (a .tokens .now)) (not-refused (a .context) (a .count) (a .table .now) (a .tokens .now) ok fits none plain) in
+    let l = length-codes (written (a .count) (a .table .now)) in
+    omega (arith, c .before .before .before .before .write-plain .ensures .ends)
+
+same-length : tie.Need-same-length
+same-length c = search needs
+
+returns-5 : tie.Need-returns-5
+returns-5 c =
+    let a = c .before .before .before .before .before .before .before .before .before .before .before .before .before .before .before .before .args in
+    let ok = sym (c .before .before .before .before .before .before .before .before .before .before .before .before .before .check .ensures) ∙ c .before .before .before .before .before .before .before .before .before .before .before .before .if1 .left in
+    let fits = c .before .before .before .before .before .before .before .before .before .before .before .if2 .left in
+    let none = c .before .before .before .before .before .before .before .before .before .before .if3 .left in
+    let plain = not-false _ (ap not (sym (c .before .before .before .before .before .before .before .before .before .is-plain-table .ensures)) ∙ c .before .before .before .before .before .before .before .before .if4 .left) in
+    let most = tokens-bound (a .context) (a .count) (a .table .now) (length (a .tokens .now)) (not-refused (a .context) (a .count) (a .table .now) (a .tokens .now) ok fits none plain) in
+    done (a .context) (a .count) (a .table .now) (a .tokens .now) ok fits none plain _ _ (le-trans (most .0) fits) (c .before .before .before .before .write-plain .ensures)
+
+pub write-spec : {M : Type 1} → statement M
+write-spec =
+    tie.close
+    (tie.spec
+    check-requires
+    returns
+    mul-if2
+    returns-2
+    returns-3
+    is-plain-table-requires
+    returns-4
+    mul-row-cells
+    mul-scratch-cells
+    array-borrow-prefix-rows
+    slice-aggregate-write-plain
+    array-borrow-prefix-scratch
+    slice-aggregate-write-plain-2
+    write-plain-requires
+    cast-t22
+    same-length
+    returns-5)

@@ -1,0 +1,54 @@
+-- What writing answers, and what the lent buffer holds afterwards.
+use mathlib.Core.Bool.{Bool, not, _||_}
+use mathlib.Core.List.{List, [], _∷_}
+use Prim.Native.Nat.{ℕ, _*_}
+use lib.Dec.{eqb, ltb}
+use lib.ListN.{length, replicate}
+use Rattle.laws.specs.Choice.{pick}
+use Rattle.laws.specs.Lists.{over}
+use Rattle.tree.specs.Trees.{treeAt}
+use Rattle.tree.specs.Refusals.{refusal, refuse, firstOf}
+use Rattle.walk.specs.Walk.{rowsAfter}
+use Rattle.grammar.specs.Tokens.{Token}
+use Rattle.grammar.specs.Codes.{codesOf}
+use Rattle.plain.specs.Plain.{plainTable}
+use Rattle.plain.specs.Written.{tokensAt, hasPair}
+use Rattle.token_writer.specs.declared.Written.{Written}
+use Rattle.token_writer.specs.declared.Written.the-variants.{Refused, Tokens}
+
+-- the rows of a table in context 0, in a buffer of just the length that they need
+unfoldable pub rowsFor : ℕ → List ℕ → List ℕ
+rowsFor count cells = rowsAfter 0 count cells (replicate (5 * count) 0) (replicate (3 * count) 0)
+
+-- "Written for a plain tree are its nodes' tokens in the grammar's order"
+unfoldable pub written : ℕ → List ℕ → List Token
+written count cells = tokensAt cells count (hasPair (rowsFor count cells)) 1 (treeAt cells count 1) []
+
+-- 12. "A lent buffer is too short: .. six for the writer's tokens" (cells a node); `lent` is the buffer's length
+unfoldable pub refusal12 : ℕ → ℕ → Bool
+refusal12 count lent = ltb lent (6 * count)
+
+-- 13. "The writer is given a tree that is not plain or a context that is not 0."
+unfoldable pub refusal13 : ℕ → ℕ → List ℕ → Bool
+refusal13 context count cells = not (eqb context 0) || not (plainTable count cells)
+
+-- the first that applies: the table's refusals, then 12, then 13; or 0
+unfoldable pub writeRefusal : ℕ → ℕ → List ℕ → ℕ → ℕ
+writeRefusal context count cells lent =
+    pick
+    (eqb (refusal context count cells) 0)
+    (firstOf (refuse 12 (refusal12 count lent) ∷ refuse 13 (refusal13 context count cells) ∷ []))
+    (refusal context count cells)
+
+-- the answer: the number of tokens, or the refusal
+unfoldable pub answered : ℕ → ℕ → List ℕ → ℕ → Written
+answered context count cells lent =
+    pick
+    (eqb (writeRefusal context count cells lent) 0)
+    (Tokens (length (written count cells)))
+    (Refused (writeRefusal context count cells lent))
+
+-- the buffer afterwards: on a refusal as it was; else the tokens' codes over its start
+unfoldable pub tokensAfter : ℕ → ℕ → List ℕ → List ℕ → List ℕ
+tokensAfter context count cells tokens =
+    pick (eqb (writeRefusal context count cells (length tokens)) 0) (over (codesOf (written count cells)) tokens) tokens

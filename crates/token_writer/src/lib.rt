@@ -1,0 +1,161 @@
+// The tokens of a plain tree, with the pairs that its rows have.
+mod codes; // codes.rt: the codes of the tokens
+mod plainness; // plainness.rt: whether a table is plain
+mod signs; // signs.rt: a node's own tokens
+
+use plainness::is_plain_table;
+use signs::Few;
+use signs::one_if;
+use signs::signs_at;
+use tree::refusal::check;
+use tree::table::cell;
+use tree::table::operand_number;
+ghost use mathlib.Core.Path.{_≡_};
+ghost use mathlib.Core.List.{[]};
+ghost use Prim.Native.Nat.{_+_, _*_, _≤_};
+ghost use lib.ListN.{length, replicate};
+ghost use Rattle.tree.specs.Trees.{treeAt};
+ghost use Rattle.tree.specs.Refusals.{refusal};
+ghost use Rattle.plain.specs.Written.{tokensAt, hasPair};
+ghost use Rattle.grammar.specs.Codes.{codesOf};
+ghost use Rattle.token_writer.specs.Puts.{spelled, Put, codesAt};
+ghost use Rattle.token_writer.specs.Writes.{rowsFor, written, answered, tokensAfter};
+
+// What writing answers.
+pub enum Written {
+    // The number of the first refusal that applies.
+    Refused(u16),
+    // How many tokens the lent buffer now holds.
+    Tokens(u16),
+}
+
+// Up to three codes from `at` on; answers the place behind them.
+fn put(tokens: &mut [u16], at: usize, few: Few) -> usize
+    requires { ⌜ at + length (spelled few) ≤ length (now tokens) ⌝ }
+    ensures { λ r. ⌜ Put (now (tokens .entry)) at (spelled few) (now (tokens .exit)) r ⌝ }
+{
+    match few {
+        Few::Nothing => at,
+        Few::One(a) => {
+            tokens[at] = a;
+            at + 1
+        }
+        Few::Two(a, b) => {
+            tokens[at] = a;
+            tokens[at + 1] = b;
+            at + 2
+        }
+        Few::Three(a, b, c) => {
+            tokens[at] = a;
+            tokens[at + 1] = b;
+            tokens[at + 2] = c;
+            at + 3
+        }
+    }
+}
+
+// Whether a node's row has an outer pair: rows have five cells a node, as tables have.
+fn has_pair(rows: &[u16], node: u16) -> bool
+    requires { ⌜ 1 ≤ node ⌝ }
+    ensures { λ r. ⌜ r ≡ hasPair (now (rows .entry)) node ⌝ }
+{
+    match cell(rows, node, 0) {
+        1 | 3 => true,
+        _ => false,
+    }
+}
+
+// The tokens of a node and of all below it from `at` on; answers the place behind them. Number 0 stands for an
+// operand that is absent.
+fn write_from(
+    table: &[u16],
+    count: u16,
+    rows: &[u16],
+    node: u16,
+    tokens: &mut [u16],
+    at: usize,
+) -> usize
+    requires { ⌜ at + length (codesAt (now table) count (now rows) node) ≤ length (now tokens) ⌝ }
+    ensures { λ r. ⌜ Put (now (tokens .entry)) at (codesAt (now (table .entry)) count (now (rows .entry)) node) (now (tokens .exit)) r ⌝ }
+{
+    if node == 0 {
+        return at;
+    }
+    if count < node {
+        return at;
+    }
+    let pair = has_pair(rows, node);
+    let signs = signs_at(table, count, node);
+    let before = signs.before;
+    let between = signs.between;
+    let behind = signs.behind;
+    let open = put(tokens, at, one_if(pair, codes::LEFT_PAREN));
+    let first = put(tokens, open, before);
+    let after_first = write_from(
+        table,
+        count,
+        rows,
+        operand_number(table, count, node, 3),
+        tokens,
+        first,
+    );
+    let second = put(tokens, after_first, between);
+    let after_second = write_from(
+        table,
+        count,
+        rows,
+        operand_number(table, count, node, 4),
+        tokens,
+        second,
+    );
+    let close = put(tokens, after_second, behind);
+    put(tokens, close, one_if(pair, codes::RIGHT_PAREN))
+}
+
+// The tokens of an accepted plain table, with the rows made in buffers of just the length that they need.
+fn write_plain(
+    count: u16,
+    table: &[u16],
+    rows: &mut [u16],
+    scratch: &mut [u16],
+    tokens: &mut [u16],
+) -> usize
+    requires { ⌜ (now rows ≡ replicate (5 * count) 0) × (now scratch ≡ replicate (3 * count) 0) × (length (written count (now table)) ≤ length (now tokens)) ⌝ }
+    ensures { λ r. ⌜ Put (now (tokens .entry)) 0 (codesOf (written count (now (table .entry)))) (now (tokens .exit)) r ⌝ }
+{
+    walk::decide(0, count, table, rows, scratch);
+    write_from(table, count, rows, 1, tokens, 0)
+}
+
+// The tokens of a plain table into `tokens`: how many there are, or the first refusal that applies.
+pub fn write(context: u16, count: u16, table: &[u16], tokens: &mut [u16]) -> Written
+    ensures reply { λ r. ⌜ r ≡ answered context count (now (table .entry)) (length (now (tokens .entry))) ⌝ }
+    ensures tokens { λ r. ⌜ now (tokens .exit) ≡ tokensAfter context count (now (table .entry)) (now (tokens .entry)) ⌝ }
+{
+    let refused = check(context, count, table);
+    if refused != 0 {
+        return Written::Refused(refused);
+    }
+    let nodes = count as usize;
+    if tokens.len() < 6 * nodes {
+        return Written::Refused(12);
+    }
+    if context != 0 {
+        return Written::Refused(13);
+    }
+    if !is_plain_table(count, table) {
+        return Written::Refused(13);
+    }
+    let mut rows = [0u16; 20480];
+    let mut scratch = [0u16; 12288];
+    let row_cells = 5 * nodes;
+    let scratch_cells = 3 * nodes;
+    let end = write_plain(
+        count,
+        table,
+        &mut rows[..row_cells],
+        &mut scratch[..scratch_cells],
+        tokens,
+    );
+    Written::Tokens(end as u16)
+}
