@@ -4,13 +4,10 @@ use mathlib.Core.List.{List, [], _∷_, _++_}
 use Prim.Native.Nat.{ℕ, suc, _+_, _≤_}
 use native.Mathlib.Omega.{arith}
 use lib.ListN.{length, take, drop, set, length-append, length-set}
-use lib.Seq.{sets, length-sets, sets-eq}
+use lib.Seq.{sets-eq}
 use Rattle.laws.specs.Lists.{over}
+use Rattle.laws.proofs.Lists.{sets-append}
 use Rattle.token_writer.specs.Puts.{Put}
-
-sets-append : (l : List ℕ) (i : ℕ) (a b : List ℕ) → sets l i (a ++ b) ≡ sets (sets l i a) (i + length a) b
-sets-append l i [] b = let e : i + 0 ≡ i = omega arith in rw e
-sets-append l i (n ∷ a) b = let e : i + suc (length a) ≡ suc i + length a = omega arith in rw e (sets-append (set l i n) (suc i) a b)
 
 pub put-none : (before : List ℕ) (at : ℕ) → Put before at [] before at
 put-none before at = record { cells = refl; ends = omega arith; room = refl }
