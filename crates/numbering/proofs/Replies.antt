@@ -1,22 +1,19 @@
 -- The answers of `renumber`, and what they leave in the lent table. Assumes nothing.
 use mathlib.Core.Path.{_≡_, sym, _∙_}
-use mathlib.Core.Bool.{Bool, true, false, _||_}
+use mathlib.Core.Bool.{true, false}
 use mathlib.Core.List.{List}
-use Prim.Native.Nat.{ℕ, suc, _+_, _*_, _≤_, _<_}
+use Prim.Native.Nat.{ℕ, _+_, _*_, _≤_, _<_}
 use native.Mathlib.Omega.{arith}
-use lib.Dec.{ltb}
 use lib.ListN.{length}
 use lib.Seq.{sets}
 use borrow.Author.Tests.{lt-ltb, le-ltb}
-use Rattle.laws.specs.Choice.{pick}
-use Rattle.laws.specs.Lists.{over}
 use Rattle.laws.proofs.Choice.{pick-true, pick-false, or-here, or-next}
 use Rattle.tree.specs.Trees.{Tree, levels}
 use Rattle.numbering.specs.declared.Renumbered.{Renumbered}
 use Rattle.numbering.specs.declared.Renumbered.the-variants.{TooLarge, TooShort, Nodes}
 use Rattle.numbering.specs.Numbered.{size, cellsFrom, numbered, tooLarge, tooShort, renumbered, renumberedAfter}
 use Rattle.numbering.proofs.Holds.{length-numbered}
-use Rattle.numbering.proofs.Stores.{sets-over}
+use Rattle.laws.proofs.Lists.{sets-over}
 
 module _ (t : Tree) (out : List ℕ) where
   -- what the two clauses of the contract say of an answer and of the lent table afterwards

@@ -39,9 +39,10 @@ grown-more {before} {after} {last} {end} {mid} {r} {first} {second} a b = go (de
     all h =
         let e : mid ≡ end + length first = omega (arith, a .ends) in
         record {
-          cells = b .cells ∙ rw (a .cells, e) (sym (sets-append before end first second));
+          cells = b .cells ∙ rw (a .cells) (sym (sets-append first second before end mid e));
           ends = omega (arith, a .room, b .ends, joined);
-          room = b .room ∙ a .room }
+          room = b .room ∙ a .room;
+        }
 
     -- or there is no room for more
     full : max end (length before) < end + length first → Grown before end (first ++ second) last r
@@ -50,9 +51,10 @@ grown-more {before} {after} {last} {end} {mid} {r} {first} {second} a b = go (de
         record {
           cells =
               b .cells ∙ sets-out after mid second (omega (arith, a .room)) ∙ a .cells
-              ∙ sym (sets-append before end first second ∙ sets-out (sets before end first) (end + length first) second (rw length-sets (omega arith)));
+              ∙ sym (sets-append first second before end (end + length first) refl ∙ sets-out (sets before end first) (end + length first) second (rw length-sets (omega arith)));
           ends = omega (arith, a .room, b .ends, joined);
-          room = b .room ∙ a .room }
+          room = b .room ∙ a .room;
+        }
 
     go : Dec (end + length first ≤ max end (length before)) → Grown before end (first ++ second) last r
     go (yes h) = all h
@@ -67,7 +69,8 @@ fits {before} {after} {more} {end} {r} h g =
     record {
       text = ap (take r) (g .cells ∙ sets-eq more before end h) ∙ take-at (take end before ++ more) (drop (end + length more) before) r l;
       ends = e;
-      room = g .room }
+      room = g .room;
+    }
 
 -- by nothing
 pub added-none : (before : List ℕ) (end : ℕ) → Added before end [] before end

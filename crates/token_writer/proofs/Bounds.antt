@@ -71,7 +71,7 @@ module _ (cells : List ℕ) (count : ℕ) (pair : ℕ → Bool) where
 
 -- ---- an accepted table
 
-accepted-first : (context count : ℕ) (cells : List ℕ) (lent : ℕ) → writeRefusal context count cells lent ≡ 0 → Accepted context count cells
+pub accepted-first : (context count : ℕ) (cells : List ℕ) (lent : ℕ) → writeRefusal context count cells lent ≡ 0 → Accepted context count cells
 unfolding writeRefusal pick
 accepted-first context count cells lent e = go (eqb (refusal context count cells) 0) refl _ e
   where

@@ -4,9 +4,8 @@ use mathlib.Core.List.{List, [], _∷_, _++_}
 use Prim.Native.Nat.{ℕ, _+_, _≤_}
 use native.Mathlib.Omega.{arith}
 use lib.ListN.{length, set, length-append, length-set}
-use lib.Seq.{sets-eq}
 use Rattle.laws.specs.Lists.{over}
-use Rattle.laws.proofs.Lists.{sets-append}
+use Rattle.laws.proofs.Lists.{sets-append, sets-over}
 use Rattle.token_writer.specs.Puts.{Put}
 
 pub put-none : (before : List ℕ) (at : ℕ) → Put before at [] before at
@@ -19,15 +18,14 @@ put-one before at a = record { cells = refl; ends = refl; room = length-set befo
 pub put-more : {before after last : List ℕ} {at mid next : ℕ} {first second : List ℕ} → Put before at first after mid → Put after mid second last next → Put before at (first ++ second) last next
 put-more {before} {after} {last} {at} {mid} {next} {first} {second} p q =
     record {
-      cells = q .cells ∙ rw (p .cells, p .ends) (sym (sets-append before at first second));
+      cells = q .cells ∙ rw (p .cells) (sym (sets-append first second before at mid (p .ends)));
       ends = rw length-append (omega (arith, p .ends, q .ends));
       room = q .room ∙ p .room;
     }
 
 -- from the first cell on
 pub put-over : (before codes after : List ℕ) (next : ℕ) → length codes ≤ length before → Put before 0 codes after next → after ≡ over codes before
-unfolding over
-put-over before codes after next h p = let e : 0 + length codes ≡ length codes = omega arith in p .cells ∙ rw e at (sets-eq codes before 0 (omega arith))
+put-over before codes after next h p = p .cells ∙ sets-over codes before h
 
 pub put-two : (before : List ℕ) (at a b : ℕ) → Put before at (a ∷ b ∷ []) (set (set before at a) (at + 1) b) (at + 2)
 put-two before at a b =

@@ -1,5 +1,6 @@
 -- The row of the node at a path is a function of the tree and the path, however the nodes are numbered. Assumes nothing.
-use mathlib.Core.Path.{_≡_, refl, sym, ap, _∙_}
+use mathlib.Core.Path.{_≡_, refl, sym, subst, ap, _∙_}
+use mathlib.Core.Bool.{true, false}
 use mathlib.Core.List.{List, [], _∷_, _++_}
 use mathlib.Core.Logic.{_⊎_, inl, inr}
 use Prim.Native.Nat.{ℕ, zero, suc, _+_, _*_, _-_, _≤_, _<_}
@@ -7,8 +8,10 @@ use native.Mathlib.Omega.{arith}
 use native.Mathlib.Decide.{decLe}
 use lib.ListN.{length, getD, set, length-set}
 use lib.Seq.{getD-set-same, getD-set-other}
+use Rattle.laws.proofs.Choice.{true-not-false}
 use Rattle.tree.specs.Table.{cellAt}
 use Rattle.tree.specs.Trees.{Label, Tree, none, node, labelAt, operandAt, treeAt}
+use Rattle.tree.specs.Walks.{isThere}
 use Rattle.tree.specs.Refusals.{Accepted}
 use Rattle.tree.proofs.Unfold.{tree-zero, tree-past, unfolds}
 use Rattle.tree.proofs.Accepted.{count-bounds, first-operand, second-operand, one-owner, owner-smaller}
@@ -126,6 +129,39 @@ module _ (cells : List ℕ) (count : ℕ) where
       let w = owns cells count i 4 p low high (inr refl) h in
       tree-at (operandAt cells count i 4) p (w .there) (operand-most cells count w .1) h ∙ rw (unfolds cells count i low high)
 
+  -- a path to a tree that stands leads to a node
+  nowhere : {A : Type 0} (i : ℕ) (p : List Step) → ((1 ≤ i) × (i ≤ count) → ⊥) → isThere (treeBy (treeAt cells count i) p) ≡ true → A
+  nowhere i p out e = true-not-false (sym e ∙ ap (λ t. isThere (treeBy t p)) (outside (decLe 1 i)) ∙ empty p)
+    where
+      outside : Dec (1 ≤ i) → treeAt cells count i ≡ none
+      outside (yes low) = tree-past cells count i (past (decLe i count))
+        where
+          past : Dec (i ≤ count) → count < i
+          past (yes high) = absurd (out (low, high))
+          past (no k) = omega arith
+      outside (no k) = let z : i ≡ 0 = omega arith in rw z (tree-zero cells count)
+
+      empty : (p : List Step) → isThere (treeBy none p) ≡ false
+      empty [] = refl
+      empty (s ∷ p) = refl
+
+  in-range : (i : ℕ) (p : List Step) → isThere (treeBy (treeAt cells count i) p) ≡ true → (1 ≤ i) × (i ≤ count)
+  in-range i p e = go (decLe 1 i) (decLe i count)
+    where
+      go : Dec (1 ≤ i) → Dec (i ≤ count) → (1 ≤ i) × (i ≤ count)
+      go (yes low) (yes high) = (low, high)
+      go (yes low) (no k) = nowhere i p (λ w. k (w .1)) e
+      go (no k) d = nowhere i p (λ w. k (w .0)) e
+
+  pub there-at : (i : ℕ) (p : List Step) → isThere (treeBy (treeAt cells count i) p) ≡ true → 1 ≤ numberAt cells count i p
+  there-at i [] e = in-range i [] e .0
+  there-at i (first ∷ p) e =
+      let r = in-range i (first ∷ p) e in
+      there-at (operandAt cells count i 3) p (rw (unfolds cells count i (r .0) (r .1)) at e)
+  there-at i (second ∷ p) e =
+      let r = in-range i (second ∷ p) e in
+      there-at (operandAt cells count i 4) p (rw (unfolds cells count i (r .0) (r .1)) at e)
+
   -- ---- cells of nodes that are not below a node are not written from it
 
   -- no path leads from node i to node j
@@ -199,7 +235,35 @@ module _ (cells : List ℕ) (count : ℕ) where
         ∙ row-at (operandAt cells count i 4) p _ _ (w .there) (s .1) (rw (length-placed cells count (operandAt cells count i 3) (rowsOf (handsFirst (ownContext h (treeAt cells count i)) (treeAt cells count i)) (treeAt cells count (operandAt cells count i 3))) (stored i (rowOf h (treeAt cells count i)) into), length-stored i (rowOf h (treeAt cells count i)) into) room) there
         ∙ rw (unfolds cells count i low high)
 
-    -- ---- each node is at a path
+    -- ---- each node is at one path
+
+    -- from an operand to the owner, and from both operands to one node, no paths lead
+    not-back : {A : Type 0} (i k : ℕ) (p : List Step) → 1 ≤ i → i ≤ count → (k ≡ 3) ⊎ (k ≡ 4) → numberAt cells count (operandAt cells count i k) p ≡ i → A
+    not-back i k p low high place e = absurd (not-own i k low high place p e)
+
+    not-both : {A : Type 0} (i : ℕ) (p q : List Step) → 1 ≤ i → i ≤ count → 1 ≤ numberAt cells count (operandAt cells count i 3) p
+        → numberAt cells count (operandAt cells count i 3) p ≡ numberAt cells count (operandAt cells count i 4) q → A
+    not-both i p q low high there e =
+        let w = owns cells count i 3 p low high (inl refl) there in
+        let v = owns cells count i 4 q low high (inr refl) (rw e at there) in
+        absurd (apart cells count context ok w v
+        (path-below cells count (operandAt cells count i 3) p (w .there) (operand-most cells count w .1) there)
+        (subst (Below cells count (operandAt cells count i 4)) (sym e) (path-below cells count (operandAt cells count i 4) q (v .there) (operand-most cells count v .1) (rw e at there))))
+
+    pub one-path : (i : ℕ) (p q : List Step) → 1 ≤ i → i ≤ count → 1 ≤ numberAt cells count i p → numberAt cells count i p ≡ numberAt cells count i q → p ≡ q
+    one-path i [] [] low high there e = refl
+    one-path i [] (first ∷ q) low high there e = not-back i 3 q low high (inl refl) (sym e)
+    one-path i [] (second ∷ q) low high there e = not-back i 4 q low high (inr refl) (sym e)
+    one-path i (first ∷ p) [] low high there e = not-back i 3 p low high (inl refl) e
+    one-path i (second ∷ p) [] low high there e = not-back i 4 p low high (inr refl) e
+    one-path i (first ∷ p) (first ∷ q) low high there e =
+        let w = owns cells count i 3 p low high (inl refl) there in
+        ap (λ r. first ∷ r) (one-path (operandAt cells count i 3) p q (w .there) (operand-most cells count w .1) there e)
+    one-path i (second ∷ p) (second ∷ q) low high there e =
+        let w = owns cells count i 4 p low high (inr refl) there in
+        ap (λ r. second ∷ r) (one-path (operandAt cells count i 4) p q (w .there) (operand-most cells count w .1) there e)
+    one-path i (first ∷ p) (second ∷ q) low high there e = not-both i p q low high there e
+    one-path i (second ∷ p) (first ∷ q) low high there e = not-both i q p low high (rw e at there) (sym e)
 
     pub record Reached (j : ℕ) : Type 0 where
       pub path : List Step

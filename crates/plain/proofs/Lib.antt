@@ -1,0 +1,3 @@
+pub mod Parens
+pub mod FromTable
+pub mod Injective
