@@ -11,6 +11,7 @@ use borrow.Author.Tests.{eq-eqb, eqb-true}
 use Rattle.laws.specs.Choice.{pick}
 use Rattle.laws.specs.Lists.{over}
 use Rattle.laws.proofs.Choice.{pick-true}
+use Rattle.laws.proofs.Lists.{length-over}
 use Rattle.tree_file.specs.declared.Loaded.the-variants as loader
 use Rattle.tree_file.specs.Files.{loaded, stored}
 use Rattle.tree_file.proofs.Loading.{stored-cells}
@@ -46,6 +47,14 @@ module _ (context count : ℕ) (cells tokens : List ℕ) (room : length tokens �
     codes-taken =
         rw (pick-true (over (codesOf (written count cells)) tokens) tokens (eq-eqb _ 0 (parts .0)))
         (take-at (codesOf (written count cells)) _ n (length-codes (written count cells) ∙ sym (parts .1)))
+
+    -- and so lie within it
+    pub tokens-within : n ≤ length (tokensAfter context count cells tokens)
+    unfolding tokensAfter
+    tokens-within =
+        let most = tokens-most in
+        let codes = length-codes (written count cells) ∙ sym (parts .1) in
+        rw (pick-true (over (codesOf (written count cells)) tokens) tokens (eq-eqb _ 0 (parts .0)), length-over (codesOf (written count cells)) tokens (omega arith)) (omega arith)
 
     pub tokens-table : listed (take n (tokensAfter context count cells tokens)) ≡ tableText context count cells
     unfolding tableText answerText

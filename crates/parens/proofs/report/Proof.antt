@@ -62,7 +62,7 @@ put-rows-requires c κs =
 returns : tie.Need-returns
 returns c =
     let e = sym (c .before .before .before .why .given .1) ∙ c .before .before .before .before .before .before .load .ensures .0 in
-    let head = headed-most 110 111 (c .before .before .before .why .given .0) (omega arith) in
+    let head = headed-most 110 111 (c .before .before .before .why .given .0 .0) (omega arith) in
     let a = fits (omega arith) (c .put-head .ensures) in
     let within : c .put-head .result ≤ length (c .put-head .last .0) = omega (arith, a .ends, a .room) in
     ((within, sym (length-take-le _ _ within)), a .text ∙ printed-refusal _ zeros room _ e)
