@@ -1,7 +1,7 @@
 -- What holds of a parser's answer, if it gives one. Assumes nothing.
 use mathlib.Core.List.{List}
 use Rattle.grammar.specs.Tokens.{Token}
-use Rattle.grammar.proofs.Parser.{Out, fail, ok, then}
+use Rattle.grammar.specs.Parser.{Out, fail, ok, then}
 
 abbrev pub Good : {A : Type 0} → (A → List Token → Type 0) → Out A → Type 0
 Good P fail = Unit {0}

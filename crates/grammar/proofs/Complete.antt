@@ -11,7 +11,7 @@ use Rattle.grammar.specs.Levels.{prefixes, kind, level, after}
 use Rattle.grammar.specs.Types.{Sort, one, list, items, Ty, writeType}
 use Rattle.grammar.specs.Expressions.{Atom, path, literal, Prefix, neg, deref, invert, ref, refMut, Member, byName, byNumber, awaited, Expr, atom, paren, prefix, binary, cast, member, try, index, call, method, noArguments, arguments, lastArgument, moreArguments, atomToken, prefixToken, memberToken, write, kindOf}
 use Rattle.grammar.specs.Grammar.{Context, NONE, opensArguments, fits}
-use Rattle.grammar.proofs.Parser.{Out, fail, ok, then, tail, isFirst, startOf, anAtom, aPrefix, AfterDot, noMember, aMember, afterDotOf, afterDot, isByName, Next, stops, operates, castsTo, dots, calls, indexes, tries, next, levelAt, goesOn, typeBy, exprBy, onBy, argumentsBy, someArgumentsBy}
+use Rattle.grammar.specs.Parser.{Out, fail, ok, then, tail, isFirst, startOf, anAtom, aPrefix, AfterDot, noMember, aMember, afterDotOf, afterDot, isByName, Next, stops, operates, castsTo, dots, calls, indexes, tries, next, levelAt, goesOn, typeBy, exprBy, onBy, argumentsBy, someArgumentsBy}
 use Rattle.grammar.proofs.FirstTokens.{first-is}
 use Rattle.grammar.proofs.Levels.{level-before, operator-low, operator-high, after-low}
 use Rattle.grammar.proofs.Types.{typeSize, reads-type, slack, type-bound, TypeMayEnd}
@@ -139,7 +139,7 @@ by-prefix : (f : ℕ) (c : Context) (n : ℕ) (p : Prefix) (ts : List Token) →
 unfolding exprBy
 by-prefix f c n p ts = rw (start-prefix p, exprBy)
 
-on-stop : (f : ℕ) (c : Context) (n : ℕ) (e : Expr one) (ts : List Token) → goesOn n e (next ts) ≡ false → onBy (suc f) c n e ts ≡ ok e ts
+pub on-stop : (f : ℕ) (c : Context) (n : ℕ) (e : Expr one) (ts : List Token) → goesOn n e (next ts) ≡ false → onBy (suc f) c n e ts ≡ ok e ts
 unfolding onBy
 on-stop f c n e ts h = rw (h, onBy)
 
@@ -166,7 +166,7 @@ onStep f c n e ts x =
       | tries ↦ onBy f c n (try e) (tail ts)
     ]
 
-on-step : (f : ℕ) (c : Context) (n : ℕ) (e : Expr one) (ts : List Token) → goesOn n e (next ts) ≡ true → onBy (suc f) c n e ts ≡ onStep f c n e ts (next ts)
+pub on-step : (f : ℕ) (c : Context) (n : ℕ) (e : Expr one) (ts : List Token) → goesOn n e (next ts) ≡ true → onBy (suc f) c n e ts ≡ onStep f c n e ts (next ts)
 unfolding onBy
 on-step f c n e ts h = rw (h, onBy)
 

@@ -1,4 +1,3 @@
-pub mod Parser
 pub mod Theorems
 pub mod Readings
 pub mod Complete

@@ -8,7 +8,7 @@ use Rattle.grammar.specs.Tokens.{Token}
 use Rattle.grammar.specs.Types.{one}
 use Rattle.grammar.specs.Expressions.{Expr, write}
 use Rattle.grammar.specs.Grammar.{Context, fits}
-use Rattle.grammar.proofs.Parser.{ok, parse}
+use Rattle.grammar.specs.Parser.{ok, parse}
 use Rattle.grammar.proofs.Answers.{Good}
 use Rattle.grammar.proofs.Complete.{low, bound, reads-whole, reads}
 use Rattle.grammar.proofs.Sound.{Sound, sound}

@@ -7,7 +7,7 @@ use Rattle.grammar.specs.Types.{one}
 use Rattle.grammar.specs.Expressions.{Expr, write}
 use Rattle.grammar.specs.Grammar.{Context, fits, bare, Reading}
 use Rattle.grammar.specs.Pairs.{addPairs, Pair, dropPair, Removed}
-use Rattle.grammar.proofs.Parser.{ok, parse}
+use Rattle.grammar.specs.Parser.{ok, parse}
 use Rattle.grammar.proofs.Readings.{complete, correct, one-parse}
 use Rattle.grammar.proofs.Pairs.{bare-pairs, fits-pairs}
 use Rattle.grammar.proofs.Needed.{bare-drop, drop-unfit}

@@ -8,7 +8,7 @@ use lib.ListN.{length}
 use Rattle.laws.specs.Choice.{pick, lookup}
 use Rattle.grammar.specs.Tokens.{Lt, Gt, Token, operator, Comma, Name}
 use Rattle.grammar.specs.Types.{Sort, one, list, items, TypePrefix, constPtr, mutPtr, sharedRef, mutRef, TypeSign, infer, never, Ty, named, applied, pointing, sign, noTypes, types, lastType, moreTypes, typePrefixToken, typeSignToken, writeType, typeEndsInName}
-use Rattle.grammar.proofs.Parser.{Out, fail, ok, then, tail, isFirst, TypeStart, noType, aName, aTypePrefix, aSign, typeStartOf, typeStart, typeBy, typesBy, someTypesBy}
+use Rattle.grammar.specs.Parser.{Out, fail, ok, then, tail, isFirst, TypeStart, noType, aName, aTypePrefix, aSign, typeStartOf, typeStart, typeBy, typesBy, someTypesBy}
 use Rattle.grammar.proofs.FirstTokens.{first-is, type-start-is}
 use Rattle.grammar.proofs.Answers.{Good, good-then}
 

@@ -5,3 +5,4 @@ pub mod Types
 pub mod Expressions
 pub mod Grammar
 pub mod Pairs
+pub mod Parser

@@ -1,7 +1,7 @@
 -- The cells of a tree, a node at a time. Assumes nothing.
-use mathlib.Core.Path.{_≡_, refl, sym, ap, _∙_}
+use mathlib.Core.Path.{_≡_, refl, _∙_}
 use mathlib.Core.List.{List, [], _∷_, _++_}
-use Prim.Native.Nat.{ℕ, zero, suc, _+_, _*_, _≤_, _<_}
+use Prim.Native.Nat.{ℕ, suc, _+_, _*_, _≤_}
 use native.Mathlib.Omega.{arith}
 use lib.Dec.{eqb}
 use lib.Seq.{sets}
@@ -11,7 +11,7 @@ use Rattle.tree.specs.Table.{cellAt, formAt, attributesAt, detailAt}
 use Rattle.tree.specs.Trees.{none, labelAt, operandOf, operandAt, treeAt}
 use Rattle.tree.proofs.Unfold.{Standing, absent, present, standing, tree-zero, unfolds}
 use Rattle.numbering.specs.Numbered.{size, numberOf, cellsFrom}
-use Rattle.numbering.proofs.Sizes.{size-none, size-node}
+use Rattle.numbering.proofs.Sizes.{size-node}
 use Rattle.numbering.proofs.Holds.{length-cells}
 use Rattle.numbering.proofs.Stores.{three-runs}
 

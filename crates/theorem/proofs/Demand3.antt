@@ -47,8 +47,8 @@ use Rattle.token_writer.specs.Writes.{rowsFor, written, refusal13, writeRefusal
 use Rattle.token_writer.specs.Writes as writes
 use Rattle.token_writer.proofs.Bounds.{accepted-first, tokens-bound}
 use Rattle.token_writer.proofs.Tokens.{length-codes}
-use Rattle.token_reader.specs.declared.Read.{Read}
-use Rattle.token_reader.specs.declared.Read.the-variants.{Nodes}
+use Rattle.token_reader.specs.declared.Reply.{Reply}
+use Rattle.token_reader.specs.declared.Reply.the-variants.{Nodes}
 use Rattle.token_reader.specs.Reading.{anyAbove, refusal14, countOrLarge, stored, Answers}
 use Rattle.token_reader.specs.Reading as reading
 use Rattle.theorem.specs.Statement.{meant, Added, writtenBut, Demand3}
@@ -154,7 +154,7 @@ module _ (count : ℕ) (cells : List ℕ) (lent : ℕ) (taken : writeRefusal 0 c
       let b = tokens-bound 0 count cells lent taken in
       rw (le-ltb 24576 (length (codesOf (written count cells))) (rw (length-codes (written count cells)) (b .1))) (none-above (written count cells))
 
-  returned : (table after : List ℕ) (reply : Read) → 20480 ≤ length table → Answers (codesOf (written count cells)) table reply after
+  returned : (table after : List ℕ) (reply : Reply) → 20480 ≤ length table → Answers (codesOf (written count cells)) table reply after
       → (reply ≡ Nodes (size (meant count cells))) × (treeAt after (size (meant count cells)) 1 ≡ meant count cells)
   unfolding countOrLarge stored reading.refusal12
   returned table after reply long a =

@@ -13,8 +13,8 @@ use Rattle.plain.specs.Written.{tokensAt, hasPair, butAt}
 use Rattle.plain.specs.Reads.{Reads}
 use Rattle.numbering.specs.Numbered.{size}
 use Rattle.token_writer.specs.Writes.{rowsFor, written}
-use Rattle.token_reader.specs.declared.Read.{Read}
-use Rattle.token_reader.specs.declared.Read.the-variants.{Nodes}
+use Rattle.token_reader.specs.declared.Reply.{Reply}
+use Rattle.token_reader.specs.declared.Reply.the-variants.{Nodes}
 use Rattle.token_reader.specs.Reading.{Answers}
 
 -- T without its own parentheses, where T is the tree of the table
@@ -35,7 +35,7 @@ pub record Demand3 (count : ℕ) (cells : List ℕ) : Type 0 where
   -- and no other.
   pub only : (t : Tree) → Reads (codesOf (written count cells)) t → t ≡ meant count cells
   -- The reader returns it: into any table of 4,096 nodes, from the codes written, it stores the nodes of that tree, and says how many.
-  pub returned : (table after : List ℕ) (reply : Read) → 20480 ≤ length table → Answers (codesOf (written count cells)) table reply after
+  pub returned : (table after : List ℕ) (reply : Reply) → 20480 ≤ length table → Answers (codesOf (written count cells)) table reply after
       → (reply ≡ Nodes (size (meant count cells))) × (treeAt after (size (meant count cells)) 1 ≡ meant count cells)
   -- Leaving out a pair that we added removes its two tokens and no other,
   pub left-out : (j : ℕ) → Added count cells j → Removed (written count cells) (writtenBut j count cells)

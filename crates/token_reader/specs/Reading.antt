@@ -10,8 +10,8 @@ use Rattle.laws.specs.Lists.{over}
 use Rattle.tree.specs.Trees.{Tree}
 use Rattle.numbering.specs.Numbered.{size, numbered, tooLarge}
 use Rattle.plain.specs.Reads.{Reads}
-use Rattle.token_reader.specs.declared.Read.{Read}
-use Rattle.token_reader.specs.declared.Read.the-variants.{Refused, Nodes}
+use Rattle.token_reader.specs.declared.Reply.{Reply}
+use Rattle.token_reader.specs.declared.Reply.the-variants.{Refused, Nodes}
 
 -- 12. "A lent buffer is too short: .. a table of 4,096 nodes for the token reader." `lent` is the table's length
 unfoldable pub refusal12 : ℕ → Bool
@@ -26,7 +26,7 @@ unfoldable pub refusal14 : List ℕ → Bool
 refusal14 codes = ltb 24576 (length codes) || anyAbove 45 codes
 
 -- 16, or the count of the reading's nodes
-unfoldable pub countOrLarge : Tree → Read
+unfoldable pub countOrLarge : Tree → Reply
 countOrLarge t = pick (tooLarge t) (Refused 16) (Nodes (size t))
 
 -- "On 0 the reader's table holds the reading of its token list", and cells past it are as they were
@@ -34,7 +34,7 @@ unfoldable pub stored : Tree → List ℕ → List ℕ
 stored t table = pick (tooLarge t) table (over (numbered t) table)
 
 -- The reply and the table afterwards. Each token list has a reading or has none, and at most one: so both are fixed in every case.
-pub record Answers (codes table : List ℕ) (reply : Read) (after : List ℕ) : Type 0 where
+pub record Answers (codes table : List ℕ) (reply : Reply) (after : List ℕ) : Type 0 where
   pub short : refusal12 (length table) ≡ true → (reply ≡ Refused 12) × (after ≡ table)
   pub unknown : refusal12 (length table) ≡ false → refusal14 codes ≡ true → (reply ≡ Refused 14) × (after ≡ table)
   -- 15. "The grammar below gives the token list no reading."

@@ -1,9 +1,68 @@
 // The reading of a token list, as a node table.
+mod expressions; // expressions.rt: expressions and their lists
+mod node; // node.rt: the reader's own table
+mod piece; // piece.rt: what is handed on
+mod token; // token.rt: what a token says
+mod types; // types.rt: types and their lists
+
+use expressions::expr;
+use numbering::Renumbered;
+use numbering::renumber;
+ghost use mathlib.Core.Path.{_≡_};
+ghost use Rattle.token_reader.specs.Reading.{anyAbove, Answers};
+ghost use Rattle.token_reader.specs.Pieces.{replyOf};
 
 // What reading answers.
-pub enum Read {
+pub enum Reply {
     // The number of the first refusal that applies.
     Refused(u16),
     // How many nodes the lent table now holds.
     Nodes(u16),
+}
+
+// Whether a code is above `most`.
+fn any_above(codes: &[u16], most: u16) -> bool
+    ensures { λ r. ⌜ r ≡ anyAbove most (now (codes .entry)) ⌝ }
+{
+    let mut at = 0;
+    while at < codes.len() {
+        if codes[at] > most {
+            return true;
+        }
+        at += 1;
+    }
+    false
+}
+
+// The reply to what numbering answers.
+fn reply_of(renumbered: Renumbered) -> Reply
+    ensures { λ r. ⌜ r ≡ replyOf renumbered ⌝ }
+{
+    match renumbered {
+        Renumbered::TooLarge => Reply::Refused(16),
+        Renumbered::TooShort => Reply::Refused(12),
+        Renumbered::Nodes(count) => Reply::Nodes(count),
+    }
+}
+
+// The reading of a token list into a lent table: how many nodes it has, or the first refusal that applies.
+pub fn read(tokens: &[u16], table: &mut [u16]) -> Reply
+    ensures { λ r. ⌜ Answers (now (tokens .entry)) (now (table .entry)) r (now (table .exit)) ⌝ }
+{
+    if table.len() < 20_480 {
+        return Reply::Refused(12);
+    }
+    if tokens.len() > 24_576 {
+        return Reply::Refused(14);
+    }
+    if any_above(tokens, 45) {
+        return Reply::Refused(14);
+    }
+    // A node has a token of its own, so that these are enough.
+    let mut own = [0u16; 122_880];
+    let whole = expr(tokens, &mut own, 0, 24_576, 1);
+    if whole.at != tokens.len() {
+        return Reply::Refused(15);
+    }
+    reply_of(renumber(&own, 24_576, whole.free + 1, table))
 }

@@ -1,5 +1,5 @@
 -- `numbering::levels_at` meets its contract: with each call there are fewer numbers above the node, and none are counted where an operand is absent. Assumes nothing.
-use mathlib.Core.Path.{_≡_, sym, ap, _∙_}
+use mathlib.Core.Path.{_≡_, sym}
 use native.Mathlib.Omega.{arith}
 use borrow.Author.Needs.{needs}
 use Rattle.tree.proofs.Unfold.{left, left-falls, tree-zero, tree-past, levels-most}

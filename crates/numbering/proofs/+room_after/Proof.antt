@@ -1,5 +1,4 @@
 -- `numbering::room_after` meets its contract: with each call there are fewer numbers above the node, and none are counted where an operand is absent. Assumes nothing.
-use mathlib.Core.Path.{sym, ap, _∙_}
 use native.Mathlib.Omega.{arith}
 use borrow.Author.Needs.{needs}
 use Rattle.tree.proofs.Unfold.{left, left-falls, tree-zero, tree-past}

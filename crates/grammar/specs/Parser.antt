@@ -1,10 +1,10 @@
--- A parser of the plain grammar as a function: precedence climbing, with fuel. Readings says what it gives. Assumes nothing.
+-- A parser of the plain grammar as a function: precedence climbing, with fuel. Nothing here is to be believed: proofs/Readings says what it gives.
 use mathlib.Core.Bool.{Bool, true, false, not, _&&_}
 use mathlib.Core.List.{List, [], _∷_}
 use Prim.Native.Nat.{ℕ, zero, suc, _*_}
 use lib.Dec.{leb, eqb}
 use lib.ListN.{length}
-use Rattle.laws.specs.Choice.{row, lookup}
+use Rattle.laws.specs.Choice.{Row, row, lookup}
 use Rattle.grammar.specs.Tokens.{Operator, Lt, Gt, Token, operator, code, Bang, AndMut, As, Name, Literal, Dot, LeftParen, RightParen, LeftBracket, RightBracket, Comma, Question, StarConst, StarMut, Underscore, NumberedMember, Await}
 use Rattle.grammar.specs.Levels.{casts, prefixes, postfixes, kind, level, before, after}
 use Rattle.grammar.specs.Types.{one, list, items, TypePrefix, constPtr, mutPtr, sharedRef, mutRef, TypeSign, infer, never, Ty, named, applied, pointing, sign, noTypes, types, lastType, moreTypes}
@@ -41,10 +41,9 @@ pub data Start : Type 0 where
   aPrefix : Prefix → Start
   aGroup : Start
 
-unfoldable pub startOf : Token → Start
-startOf t =
-    lookup
-    (row (1 ∷ []) (aPrefix neg) ∷
+abbrev pub startRows : List (Row Start)
+startRows =
+    row (1 ∷ []) (aPrefix neg) ∷
     row (2 ∷ []) (aPrefix deref) ∷
     row (8 ∷ []) (aPrefix ref) ∷
     row (29 ∷ []) (aPrefix invert) ∷
@@ -52,9 +51,13 @@ startOf t =
     row (32 ∷ []) (anAtom path) ∷
     row (33 ∷ []) (anAtom literal) ∷
     row (35 ∷ []) aGroup ∷
-    [])
-    noStart
-    (code t)
+    []
+
+abbrev pub startBy : ℕ → Start
+startBy n = lookup startRows noStart n
+
+unfoldable pub startOf : Token → Start
+startOf t = startBy (code t)
 
 abbrev pub start : List Token → Start
 start ts = firstBy noStart startOf ts
@@ -66,19 +69,22 @@ pub data TypeStart : Type 0 where
   aTypePrefix : TypePrefix → TypeStart
   aSign : TypeSign → TypeStart
 
-unfoldable pub typeStartOf : Token → TypeStart
-typeStartOf t =
-    lookup
-    (row (8 ∷ []) (aTypePrefix sharedRef) ∷
+abbrev pub typeStartRows : List (Row TypeStart)
+typeStartRows =
+    row (8 ∷ []) (aTypePrefix sharedRef) ∷
     row (29 ∷ []) (aSign never) ∷
     row (30 ∷ []) (aTypePrefix mutRef) ∷
     row (32 ∷ []) aName ∷
     row (41 ∷ []) (aTypePrefix constPtr) ∷
     row (42 ∷ []) (aTypePrefix mutPtr) ∷
     row (43 ∷ []) (aSign infer) ∷
-    [])
-    noType
-    (code t)
+    []
+
+abbrev pub typeStartBy : ℕ → TypeStart
+typeStartBy n = lookup typeStartRows noType n
+
+unfoldable pub typeStartOf : Token → TypeStart
+typeStartOf t = typeStartBy (code t)
 
 abbrev pub typeStart : List Token → TypeStart
 typeStart ts = firstBy noType typeStartOf ts
@@ -88,15 +94,18 @@ pub data AfterDot : Type 0 where
   noMember : AfterDot
   aMember : Member → AfterDot
 
-unfoldable pub afterDotOf : Token → AfterDot
-afterDotOf t =
-    lookup
-    (row (32 ∷ []) (aMember byName) ∷
+abbrev pub afterDotRows : List (Row AfterDot)
+afterDotRows =
+    row (32 ∷ []) (aMember byName) ∷
     row (44 ∷ []) (aMember byNumber) ∷
     row (45 ∷ []) (aMember awaited) ∷
-    [])
-    noMember
-    (code t)
+    []
+
+abbrev pub afterDotBy : ℕ → AfterDot
+afterDotBy n = lookup afterDotRows noMember n
+
+unfoldable pub afterDotOf : Token → AfterDot
+afterDotOf t = afterDotBy (code t)
 
 abbrev pub afterDot : List Token → AfterDot
 afterDot ts = firstBy noMember afterDotOf ts

@@ -1,0 +1,165 @@
+-- The reader's tables give what the parser asks of the token that a code stands for. Assumes nothing.
+use mathlib.Core.Path.{_≡_, refl, sym, ap, ap₂, _∙_}
+use mathlib.Core.Bool.{Bool, true, false, not, _&&_, _||_}
+use mathlib.Core.List.{List, [], _∷_}
+use Prim.Native.Nat.{ℕ, _+_, _≤_, _<_}
+use native.Mathlib.Omega.{arith}
+use lib.Dec.{T, eqb, leb, ltb, eqb→eq, leb→le}
+use lib.ListN.{length, getD}
+use borrow.Author.Tests.{le-leb, ne-eqb, lt-ltb, le-ltb}
+use Rattle.laws.specs.Choice.{pick, lookup, isOneOf}
+use Rattle.laws.specs.Each.{all}
+use Rattle.laws.proofs.Each.{all-at}
+use Rattle.tree.specs.Trees.{Label}
+use Rattle.tree.specs.Forms.{ExprAssign, ExprBinary}
+use Rattle.grammar.specs.Tokens.{Operator, number, Token, operator, code}
+use Rattle.grammar.specs.Codes.{operatorOf, tokenOf}
+use Rattle.grammar.specs.Levels.{casts, postfixes, kind, level, before, after}
+use Rattle.grammar.specs.Types.{one}
+use Rattle.grammar.specs.Expressions.{Expr, kindOf, endsInTypeName, endsInDotName}
+use Rattle.grammar.specs.Grammar.{opensArguments}
+use Rattle.grammar.specs.Parser.{Next, stops, operates, castsTo, dots, calls, indexes, tries, nextOf, levelAt, follows, goesOn}
+use Rattle.grammar.proofs.Tokens.{code-same, code-token}
+use Rattle.plain.specs.Trees.{label, operatorLabel}
+use Rattle.token_reader.specs.Tables.{levelRows, pastRows, levelPast, levelOf, beforeOf, afterOf, barred, goesOnBy, operatorForm, operatorDetail}
+
+-- ---- operators
+
+number-operator : (n : ℕ) → n < 29 → number (operatorOf n) ≡ n
+unfolding operatorOf
+number-operator n h = eqb→eq (number (operatorOf n)) n (all-at (λ m. eqb (number (operatorOf m)) m) 29 tt n h)
+
+pub operator-token : (n : ℕ) → n < 29 → tokenOf n ≡ operator (operatorOf n)
+operator-token n h = code-same (tokenOf n) (operator (operatorOf n)) (code-token n (omega arith) ∙ sym (number-operator n h))
+
+pub operator-level : (n : ℕ) → n < 29 → levelOf n ≡ level (kind (operatorOf n))
+unfolding operatorOf levelOf levelPast levelRows pastRows lookup pick
+operator-level n h = eqb→eq (levelOf n) (level (kind (operatorOf n))) (all-at (λ m. eqb (levelOf m) (level (kind (operatorOf m)))) 29 tt n h)
+
+pub operator-after : (n : ℕ) → n < 29 → afterOf (levelOf n) ≡ after (kind (operatorOf n))
+unfolding operatorOf afterOf levelOf levelPast levelRows pastRows lookup pick
+operator-after n h = eqb→eq (afterOf (levelOf n)) (after (kind (operatorOf n))) (all-at (λ m. eqb (afterOf (levelOf m)) (after (kind (operatorOf m)))) 29 tt n h)
+
+pub level-most : (n : ℕ) → n < 29 → levelOf n ≤ 15
+unfolding levelOf levelPast levelRows pastRows lookup pick
+level-most n h = leb→le (levelOf n) 15 (all-at (λ m. leb (levelOf m) 15) 29 tt n h)
+
+pub after-least : (n : ℕ) → n < 29 → 1 ≤ afterOf (levelOf n)
+unfolding afterOf levelOf levelPast levelRows pastRows lookup pick
+after-least n h = leb→le 1 (afterOf (levelOf n)) (all-at (λ m. leb 1 (afterOf (levelOf m))) 29 tt n h)
+
+pub operator-labelled : (n : ℕ) → n < 29 → label (operatorForm n) (operatorDetail n) ≡ operatorLabel (operatorOf n)
+unfolding operatorForm operatorDetail operatorLabel pick
+operator-labelled n h = go (number (operatorOf n)) (number-operator n h)
+  where
+    by : (b : Bool) → label (pick b ExprAssign ExprBinary) (pick b 0 n) ≡ pick b (label ExprAssign 0) (label ExprBinary n)
+    by true = refl
+    by false = refl
+
+    go : (m : ℕ) → m ≡ n → label (pick (eqb n 28) ExprAssign ExprBinary) (pick (eqb n 28) 0 n) ≡ pick (eqb m 28) (label ExprAssign 0) (label ExprBinary m)
+    go m e = by (eqb n 28) ∙ ap (λ k. pick (eqb k 28) (label ExprAssign 0) (label ExprBinary k)) (sym e)
+
+-- ---- what may follow
+
+abbrev alike : Bool → Bool → Bool
+alike true b = b
+alike false b = not b
+
+alike-same : (a b : Bool) → T (alike a b) → a ≡ b
+alike-same true true t = refl
+alike-same true false t = absurd t
+alike-same false true t = absurd t
+alike-same false false t = refl
+
+-- the level that must stand before, and whether a special rule forbids it
+abbrev beforeAt : Next → ℕ
+beforeAt stops = 0
+beforeAt (operates o) = before (kind o)
+beforeAt castsTo = before casts
+beforeAt dots = before postfixes
+beforeAt calls = before postfixes
+beforeAt indexes = before postfixes
+beforeAt tries = before postfixes
+
+abbrev barredAt : Bool → Bool → Next → Bool
+barredAt t d stops = false
+barredAt t d (operates o) = opensArguments o && t
+barredAt t d castsTo = false
+barredAt t d dots = false
+barredAt t d calls = d
+barredAt t d indexes = false
+barredAt t d tries = false
+
+level-at : (n : ℕ) → n < 47 → levelOf n ≡ levelAt (nextOf (tokenOf n))
+unfolding tokenOf levelOf levelPast levelRows pastRows lookup pick
+level-at n h = eqb→eq (levelOf n) (levelAt (nextOf (tokenOf n))) (all-at (λ m. eqb (levelOf m) (levelAt (nextOf (tokenOf m)))) 47 tt n h)
+
+before-at : (n : ℕ) → n < 47 → beforeOf (levelOf n) ≡ beforeAt (nextOf (tokenOf n))
+unfolding tokenOf beforeOf levelOf levelPast levelRows pastRows lookup pick
+before-at n h = eqb→eq (beforeOf (levelOf n)) (beforeAt (nextOf (tokenOf n))) (all-at (λ m. eqb (beforeOf (levelOf m)) (beforeAt (nextOf (tokenOf m)))) 47 tt n h)
+
+barred-at : (t d : Bool) (n : ℕ) → n < 47 → barred t d n ≡ barredAt t d (nextOf (tokenOf n))
+unfolding tokenOf barred opensArguments lookup pick
+barred-at true true n h = alike-same (barred true true n) (barredAt true true (nextOf (tokenOf n))) (all-at (λ m. alike (barred true true m) (barredAt true true (nextOf (tokenOf m)))) 47 tt n h)
+barred-at true false n h = alike-same (barred true false n) (barredAt true false (nextOf (tokenOf n))) (all-at (λ m. alike (barred true false m) (barredAt true false (nextOf (tokenOf m)))) 47 tt n h)
+barred-at false true n h = alike-same (barred false true n) (barredAt false true (nextOf (tokenOf n))) (all-at (λ m. alike (barred false true m) (barredAt false true (nextOf (tokenOf m)))) 47 tt n h)
+barred-at false false n h = alike-same (barred false false n) (barredAt false false (nextOf (tokenOf n))) (all-at (λ m. alike (barred false false m) (barredAt false false (nextOf (tokenOf m)))) 47 tt n h)
+
+and-yes : (b : Bool) → b && true ≡ b
+and-yes true = refl
+and-yes false = refl
+
+follows-by : (e : Expr one) (x : Next) → (leb (beforeAt x) (level (kindOf e)) && not (barredAt (endsInTypeName e) (endsInDotName e) x)) ≡ follows e x
+follows-by e stops = rw (le-leb 0 (level (kindOf e)) (omega arith))
+follows-by e (operates o) = refl
+follows-by e castsTo = and-yes _
+follows-by e dots = and-yes _
+follows-by e calls = refl
+follows-by e indexes = and-yes _
+follows-by e tries = and-yes _
+
+pub goes-on-at : (n : ℕ) → n < 47 → (least : ℕ) (e : Expr one) → goesOnBy least (level (kindOf e)) (endsInTypeName e) (endsInDotName e) n ≡ goesOn least e (nextOf (tokenOf n))
+unfolding goesOnBy goesOn
+goes-on-at n h least e =
+    let x = nextOf (tokenOf n) in
+    ap₂ (λ l b. leb least l && b) (level-at n h)
+    (ap₂ (λ m b. leb m (level (kindOf e)) && not b) (before-at n h) (barred-at (endsInTypeName e) (endsInDotName e) n h) ∙ follows-by e x)
+
+-- nothing goes on with a token that makes nothing
+pub stops-not : (least : ℕ) (e : Expr one) → 1 ≤ least → goesOn least e stops ≡ true → ⊥
+unfolding goesOn
+stops-not least e h q = go (leb least 0) refl q
+  where
+    go : (b : Bool) → leb least 0 ≡ b → (b && true) ≡ true → ⊥
+    go true k r = absurd (omega (arith, leb→le least 0 (rw k tt)))
+    go false k r = let z : _≡_ {A = ℕ} 0 1 = cc in omega arith
+
+-- a token that is no operator and makes no other form
+abbrev isStop : Next → Bool
+isStop stops = true
+isStop (operates o) = false
+isStop castsTo = false
+isStop dots = false
+isStop calls = false
+isStop indexes = false
+isStop tries = false
+
+stop-is : (x : Next) → T (isStop x) → x ≡ stops
+stop-is stops t = refl
+stop-is (operates o) t = absurd t
+stop-is castsTo t = absurd t
+stop-is dots t = absurd t
+stop-is calls t = absurd t
+stop-is indexes t = absurd t
+stop-is tries t = absurd t
+
+pub others-stop : (n : ℕ) → n < 47 → 29 ≤ n → isOneOf (31 ∷ 34 ∷ 35 ∷ 37 ∷ 40 ∷ []) n ≡ false → nextOf (tokenOf n) ≡ stops
+unfolding tokenOf
+others-stop n h k e =
+    stop-is (nextOf (tokenOf n))
+    (rw (le-ltb n 29 k, e) at (all-at (λ m. ltb m 29 || (isOneOf (31 ∷ 34 ∷ 35 ∷ 37 ∷ 40 ∷ []) m || isStop (nextOf (tokenOf m)))) 47 tt n h))
+
+-- what the reader's last arm knows of a code
+pub no-form : (n : ℕ) → (n ≡ 31 → ⊥) → (n ≡ 34 → ⊥) → (n ≡ 35 → ⊥) → (n ≡ 37 → ⊥) → (n ≡ 40 → ⊥) → isOneOf (31 ∷ 34 ∷ 35 ∷ 37 ∷ 40 ∷ []) n ≡ false
+no-form n a b c d e =
+    rw (ne-eqb 31 n (λ q. a (sym q)), ne-eqb 34 n (λ q. b (sym q)), ne-eqb 35 n (λ q. c (sym q)), ne-eqb 37 n (λ q. d (sym q)), ne-eqb 40 n (λ q. e (sym q)))

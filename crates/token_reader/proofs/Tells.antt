@@ -1,0 +1,49 @@
+-- What the parser gives in steps, and what the reader knows of each. Assumes nothing.
+use mathlib.Core.Path.{_≡_, refl, sym, subst, ap, _∙_}
+use mathlib.Core.Bool.{false}
+use mathlib.Core.List.{List}
+use Prim.Native.Nat.{ℕ, _+_, _*_, _≤_, _<_}
+use native.Mathlib.Omega.{arith}
+use lib.ListN.{length}
+use Rattle.grammar.specs.Tokens.{Token}
+use Rattle.grammar.specs.Parser.{Out, fail, ok, then}
+use Rattle.token_reader.specs.Reading.{anyAbove}
+use Rattle.token_reader.specs.Pieces.{Ready, Grew, Tells, from}
+
+-- where nothing is found, nothing comes of it
+pub tells-none : {A B : Type 0} (Is : A → Type 0) (Be : B → Type 0) (codes : List ℕ) (to to₂ : ℕ) (o : Out A) (k : A → List Token → Out B) →
+    length codes < to → length codes < to₂ → Tells Is codes to o → Tells Be codes to₂ (then o k)
+tells-none Is Be codes to to₂ fail k h g t = g
+tells-none Is Be codes to to₂ (ok a rest) k h g t = absurd (omega (arith, t .0))
+
+-- what is found is gone on from where it ends
+pub tells-some : {A B : Type 0} (Is : A → Type 0) (Be : B → Type 0) (codes : List ℕ) (to to₂ : ℕ) (o : Out A) (k : A → List Token → Out B) →
+    to ≤ length codes → Tells Is codes to o → ((a : A) → Is a → Tells Be codes to₂ (k a (from codes to))) → Tells Be codes to₂ (then o k)
+tells-some Is Be codes to to₂ fail k h t f = absurd (omega arith)
+tells-some Is Be codes to to₂ (ok a rest) k h t f = subst (λ q. Tells Be codes to₂ (k a q)) (sym (t .1)) (f a (t .2))
+
+-- found or not
+pub tells-then : {A B : Type 0} (Is : A → Type 0) (Be : B → Type 0) (codes : List ℕ) (to to₂ : ℕ) (o : Out A) (k : A → List Token → Out B) →
+    Tells Is codes to o → (length codes < to → length codes < to₂) → ((a : A) → to ≤ length codes → Is a → Tells Be codes to₂ (k a (from codes to))) → Tells Be codes to₂ (then o k)
+tells-then Is Be codes to to₂ fail k t g f = g t
+tells-then Is Be codes to to₂ (ok a rest) k t g f = subst (λ q. Tells Be codes to₂ (k a q)) (sym (t .1)) (f a (t .0) (t .2))
+
+-- ---- where reading can go on
+
+pub ready-start : (codes own : List ℕ) → length codes ≤ 24576 → anyAbove 45 codes ≡ false → length own ≡ 122880 → Ready codes own 0 24576
+ready-start codes own h k e = record { short = h; known = k; cells = e; room = omega arith; most = omega arith; within = omega arith }
+
+pub ready-on : {codes own : List ℕ} {at free : ℕ} (to : ℕ) → at ≤ to → to ≤ length codes → Ready codes own at free → Ready codes own to free
+ready-on to h k r =
+    record { short = r .short; known = r .known; cells = r .cells; room = omega (arith, r .room); most = r .most; within = k }
+
+pub ready-grew : {codes own now : List ℕ} {at free to left : ℕ} (to₂ : ℕ) → to ≤ to₂ → to₂ ≤ length codes → Ready codes own at free → Grew own now at free to left → Ready codes now to₂ left
+ready-grew to₂ h k r g =
+    record {
+      short = r .short;
+      known = r .known;
+      cells = g .same ∙ r .cells;
+      room = omega (arith, r .room, g .room);
+      most = omega (arith, r .most, g .less);
+      within = k;
+    }

@@ -1,0 +1,264 @@
+-- What the reader of types answers at each of its ends is what the parser gives. Assumes nothing.
+use mathlib.Core.Path.{_≡_, refl, sym, subst, ap, _∙_}
+use mathlib.Core.Bool.{Bool, true, false}
+use mathlib.Core.List.{List}
+use Prim.Native.Nat.{ℕ, zero, suc, _+_, _*_, _≤_, _<_}
+use native.Mathlib.Omega.{arith}
+use lib.ListN.{length, getD}
+use Rattle.laws.specs.Choice.{pick, lookup}
+use Rattle.tree.specs.Forms.{TypePath, Link}
+use Rattle.tree.specs.Trees.{Tree, none}
+use Rattle.grammar.specs.Tokens.{Token, operator, code, Lt, Gt, Comma}
+use Rattle.grammar.specs.Types.{one, list, items, TypePrefix, TypeSign, Ty, named, applied, pointing, sign, noTypes, types, lastType, moreTypes}
+use Rattle.grammar.specs.Parser.{Out, fail, ok, then, tail, isFirst, TypeStart, noType, aName, aTypePrefix, aSign, typeStart, typeStartBy, typeBy, typesBy, someTypesBy}
+use Rattle.plain.specs.Trees.{label, treeOfType, typePrefixLabel, typeSignLabel}
+use Rattle.token_reader.specs.declared.piece.Piece.{Piece}
+use Rattle.token_reader.specs.Reading.{anyAbove}
+use Rattle.token_reader.specs.Pieces.{Placed, Stored, Ready, Grew, Tells, from, Enough, IsType, IsTypes, TypeAt, TypesAt, SignAt, PointingAt, pathBy, PathAt}
+use Rattle.token_reader.proofs.First.{there, tail-from, tail-from-next, first-there, first-other, type-start-at}
+use Rattle.token_reader.proofs.Nodes.{carried, lower, placed, grew-none, grew-on, grew-node}
+use Rattle.token_reader.proofs.Tells.{tells-none, tells-some, tells-then}
+
+-- ---- one step of the parser
+
+abbrev typeStep : ℕ → List Token → TypeStart → Out (Ty one)
+typeStep g ts x =
+    elim x [
+      | noType ↦ fail
+      | aName ↦ pathBy g (tail ts)
+      | aTypePrefix p ↦ then (typeBy g (tail ts)) (λ t r. ok (pointing p t) r)
+      | aSign y ↦ ok (sign y) (tail ts)
+    ]
+
+type-step : (g : ℕ) (ts : List Token) (x : TypeStart) → typeStart ts ≡ x → typeBy (suc g) ts ≡ typeStep g ts x
+unfolding typeBy
+type-step g ts x e = rw (e, typeBy)
+
+-- a type that starts with a token there
+begins : (Is : Ty one → Type 0) (codes : List ℕ) (at to : ℕ) (x : TypeStart) → at < length codes → typeStart (from codes at) ≡ x →
+    ((g : ℕ) → Enough codes at 0 (suc g) → Tells Is codes to (typeStep g (from codes at) x)) → (f : ℕ) → Enough codes at 0 f → Tells Is codes to (typeBy f (from codes at))
+begins Is codes at to x h e k zero q = absurd (omega arith)
+begins Is codes at to x h e k (suc g) q = rw (type-step g (from codes at) x e) (k g q)
+
+-- and one that starts with none
+begins-not : (Is : Ty one → Type 0) (codes : List ℕ) (at to : ℕ) → typeStart (from codes at) ≡ noType → length codes < to → (f : ℕ) → Tells Is codes to (typeBy f (from codes at))
+unfolding typeBy
+begins-not Is codes at to e h zero = h
+begins-not Is codes at to e h (suc g) = rw (type-step g (from codes at) noType e) h
+
+module _ {codes own now : List ℕ} {at free : ℕ} (ready : Ready codes own at free) where
+  -- ---- Infer and Never
+
+  pub sign-stored : {form left : ℕ} → at < length codes → Stored own now free left form 0 0 0 →
+      SignAt codes own now at free form (record { at = at + 1; free = left; named = false })
+  sign-stored h s =
+      record {
+        grew = grew-node at (at + 1) (omega arith) (omega arith) (grew-none own at free at (omega arith)) s;
+        tells = λ x e. (omega arith, refl, record { ends = refl; placed = placed none none (typeSignLabel x) s e (ready .most) refl refl });
+      }
+
+  pub type-sign : {form : ℕ} {r : Piece} (x : TypeSign) → at < length codes → typeStartBy (getD codes at 46) ≡ aSign x → label form 0 ≡ typeSignLabel x →
+      SignAt codes own now at free form r → TypeAt codes own now at free r
+  type-sign {form} {r} x h e l s =
+      record {
+        grew = λ q. s .grew;
+        tells = begins (IsType now r) codes at (r .at) (aSign x) h (type-start-at codes at (ready .known) ∙ e) (λ g q. rw (tail-from codes at) (s .tells x l));
+      }
+
+  pub type-pointing : {form detail : ℕ} {r : Piece} (p : TypePrefix) → at < length codes → typeStartBy (getD codes at 46) ≡ aTypePrefix p → label form detail ≡ typePrefixLabel p →
+      PointingAt codes own now at free form detail r → TypeAt codes own now at free r
+  type-pointing {form} {detail} {r} p h e l s =
+      record {
+        grew = s .grew;
+        tells = begins (IsType now r) codes at (r .at) (aTypePrefix p) h (type-start-at codes at (ready .known) ∙ e) (λ g q. rw (tail-from codes at) (s .tells p l g (omega arith)));
+      }
+
+  pub type-path : {r : Piece} → at < length codes → typeStartBy (getD codes at 46) ≡ aName → PathAt codes own now at free r → TypeAt codes own now at free r
+  type-path {r} h e s =
+      record {
+        grew = s .grew;
+        tells = begins (IsType now r) codes at (r .at) aName h (type-start-at codes at (ready .known) ∙ e) (λ g q. rw (tail-from codes at) (s .tells g (omega arith)));
+      }
+
+  pub type-none : {r : Piece} → typeStartBy (getD codes at 46) ≡ noType → r .at ≡ length codes + 1 → TypeAt codes own now at free r
+  type-none {r} e z =
+      record {
+        grew = λ q. absurd (omega arith);
+        tells = λ f q. begins-not (IsType now r) codes at (r .at) (type-start-at codes at (ready .known) ∙ e) (omega arith) f;
+      }
+
+  -- ---- Ptr and Reference
+
+  pub pointing-none : {form detail : ℕ} {r : Piece} → length codes < r .at → TypeAt codes own now (at + 1) free r → PointingAt codes own now at free form detail r
+  pointing-none {form} {detail} {r} h i =
+      record {
+        grew = λ q. absurd (omega arith);
+        tells = λ p e g q. tells-none (IsType now r) (IsType now r) codes (r .at) (r .at) (typeBy g (from codes (at + 1))) (λ t rest. ok (pointing p t) rest) h h (i .tells g q);
+      }
+
+module _ {codes own mid now : List ℕ} {at free : ℕ} (ready : Ready codes own at free) where
+  pub pointing-stored : {form detail left : ℕ} (r : Piece) → r .at ≤ length codes → TypeAt codes own mid (at + 1) free r → Stored mid now (r .free) left form detail (r .free + 1) 0 →
+      PointingAt codes own now at free form detail (record { at = r .at; free = left; named = r .named })
+  pointing-stored {form} {detail} {left} r h i s =
+      let w = i .grew h in
+      record {
+        grew = λ q. grew-node at (r .at) (omega (arith, w .upto)) (omega arith) w s;
+        tells = λ p e g q.
+            tells-some (IsType mid r) (IsType now (record { at = r .at; free = left; named = r .named })) codes (r .at) (r .at) (typeBy g (from codes (at + 1))) (λ t rest. ok (pointing p t) rest) h (i .tells g q)
+            (λ t y. (h, refl, record { ends = y .ends; placed = placed (treeOfType t) none (typePrefixLabel p) s e (omega (arith, ready .most, w .less)) (y .placed) refl }));
+      }
+
+-- ---- paths
+
+path-opens : (g : ℕ) (ts us : List Token) → isFirst (operator Lt) ts ≡ true → tail ts ≡ us → pathBy g ts ≡ then (typesBy g us) (λ l r. ok (applied l) r)
+path-opens g ts us e q = rw (e, pathBy) (ap (λ x. then (typesBy g x) (λ l r. ok (applied l) r)) q)
+
+path-ends : (g : ℕ) (ts : List Token) → isFirst (operator Lt) ts ≡ false → pathBy g ts ≡ ok named ts
+path-ends g ts e = rw (e, pathBy)
+
+-- an empty list of arguments, and one that is not
+types-empty : (codes : List ℕ) (at f : ℕ) → at < length codes → Enough codes at 2 f → isFirst (operator Gt) (from codes at) ≡ true → typesBy f (from codes at) ≡ ok noTypes (from codes (at + 1))
+unfolding typesBy
+types-empty codes at zero h q e = absurd (omega arith)
+types-empty codes at (suc g) h q e = rw (e, typesBy) (ap (ok noTypes) (tail-from codes at))
+
+types-items : (Is : Ty items → Type 0) (Be : Ty list → Type 0) (codes : List ℕ) (at to f : ℕ) → at ≤ length codes → Enough codes at 2 f → isFirst (operator Gt) (from codes at) ≡ false →
+    ((g : ℕ) → Enough codes at 1 g → Tells Is codes to (someTypesBy g (from codes at))) → ((l : Ty items) → Is l → Be (types l)) → Tells Be codes to (typesBy f (from codes at))
+unfolding typesBy
+types-items Is Be codes at to zero h q e t k = absurd (omega arith)
+types-items Is Be codes at to (suc g) h q e t k =
+    rw (e, typesBy)
+    (tells-then Is Be codes to to (someTypesBy g (from codes at)) (λ l r. ok (types l) r) (t g (omega arith)) (λ z. z) (λ l z y. (z, refl, k l y)))
+
+module _ {codes own now : List ℕ} {at free : ℕ} (ready : Ready codes own at free) (here : at < length codes) where
+  pub path-named : {left : ℕ} → (getD codes (at + 1) 46 ≡ 13 → ⊥) → Stored own now free left TypePath 1 0 0 → PathAt codes own now at free (record { at = at + 1; free = left; named = true })
+  path-named n s =
+      record {
+        grew = λ q. grew-node at (at + 1) (omega arith) (omega arith) (grew-none own at free at (omega arith)) s;
+        tells = λ g q.
+            rw (path-ends g (from codes (at + 1)) (first-other (operator Lt) codes (at + 1) (ready .known) n))
+            (omega arith, refl, record { ends = refl; placed = placed none none (label TypePath 1) s refl (ready .most) refl refl });
+      }
+
+  pub path-empty : {left : ℕ} → getD codes (at + 1) 46 ≡ 13 → getD codes (at + 2) 46 ≡ 17 → Stored own now free left TypePath 2 0 0 →
+      PathAt codes own now at free (record { at = at + 3; free = left; named = false })
+  path-empty {left} e z s =
+      let b = there codes (at + 2) 17 z (omega arith) in
+      record {
+        grew = λ q. grew-node at (at + 3) (omega arith) (omega arith) (grew-none own at free at (omega arith)) s;
+        tells = λ g q.
+            rw (
+              path-opens g (from codes (at + 1)) (from codes (at + 2)) (first-there (operator Lt) codes (at + 1) (ready .known) e) (tail-from-next codes at),
+              types-empty codes (at + 2) g b q (first-there (operator Gt) codes (at + 2) (ready .known) z),
+            )
+            (omega arith, ap (from codes) (let p : at + 2 + 1 ≡ at + 3 = omega arith in p), record { ends = refl; placed = placed none none (label TypePath 2) s refl (ready .most) refl refl });
+      }
+
+  pub path-none : {r : Piece} → getD codes (at + 1) 46 ≡ 13 → (getD codes (at + 2) 46 ≡ 17 → ⊥) → length codes < r .at → TypesAt codes own now (at + 2) free r → PathAt codes own now at free r
+  path-none {r} e n h i =
+      let b = there codes (at + 1) 13 e (omega arith) in
+      record {
+        grew = λ q. absurd (omega arith);
+        tells = λ g q.
+            rw (path-opens g (from codes (at + 1)) (from codes (at + 2)) (first-there (operator Lt) codes (at + 1) (ready .known) e) (tail-from-next codes at))
+            (tells-none (λ l. Unit {0}) (IsType now r) codes (r .at) (r .at) (typesBy g (from codes (at + 2))) (λ l w. ok (applied l) w) h h
+            (types-items (IsTypes now r) (λ l. Unit {0}) codes (at + 2) (r .at) g (omega arith) q (first-other (operator Gt) codes (at + 2) (ready .known) n) (i .tells) (λ l y. tt)));
+      }
+
+-- the arguments of a path, placed
+pub record Listed (mid : List ℕ) (r : Piece) (l : Ty list) : Type 0 where
+  pub placed : Placed mid (r .free) (r .free + 1) (treeOfType l)
+
+module _ {codes own mid now : List ℕ} {at free : ℕ} (ready : Ready codes own at free) where
+  pub path-stored : {left : ℕ} (r : Piece) → getD codes (at + 1) 46 ≡ 13 → (getD codes (at + 2) 46 ≡ 17 → ⊥) → r .at ≤ length codes → TypesAt codes own mid (at + 2) free r →
+      Stored mid now (r .free) left TypePath 2 0 (r .free + 1) → PathAt codes own now at free (record { at = r .at; free = left; named = false })
+  path-stored {left} r e n h i s =
+      let b = there codes (at + 1) 13 e (omega arith) in
+      let w = i .grew h in
+      record {
+        grew = λ q. grew-node at (r .at) (omega (arith, w .upto)) (omega arith) w s;
+        tells = λ g q.
+            rw (path-opens g (from codes (at + 1)) (from codes (at + 2)) (first-there (operator Lt) codes (at + 1) (ready .known) e) (tail-from-next codes at))
+            (tells-some (Listed mid r) (IsType now (record { at = r .at; free = left; named = false })) codes (r .at) (r .at) (typesBy g (from codes (at + 2))) (λ l z. ok (applied l) z) h
+            (types-items (IsTypes mid r) (Listed mid r) codes (at + 2) (r .at) g (omega arith) q (first-other (operator Gt) codes (at + 2) (ready .known) n) (i .tells) (λ l y. record { placed = y .placed }))
+            (λ l y. (h, refl, record { ends = refl; placed = placed none (treeOfType l) (label TypePath 2) s refl (omega (arith, ready .most, w .less)) refl (y .placed) })));
+      }
+
+-- ---- lists of types
+
+abbrev typesStep : ℕ → Ty one → List Token → Bool → Bool → Out (Ty items)
+typesStep g t r last more =
+    elim last [
+      | true ↦ ok (lastType t) (tail r)
+      | false ↦ elim more [ true ↦ then (someTypesBy g (tail r)) (λ l q. ok (moreTypes t l) q) | false ↦ fail ]
+    ]
+
+module _ {codes own mid : List ℕ} {at free : ℕ} (ready : Ready codes own at free) (first : Piece) (i : TypeAt codes own mid at free first) where
+  after-first : (Be : Ty items → Type 0) (to : ℕ) (last more : Bool) → isFirst (operator Gt) (from codes (first .at)) ≡ last → isFirst Comma (from codes (first .at)) ≡ more →
+      (length codes < first .at → length codes < to) →
+      ((g : ℕ) → Enough codes at 0 g → (t : Ty one) → first .at ≤ length codes → IsType mid first t → Tells Be codes to (typesStep g t (from codes (first .at)) last more)) →
+      (f : ℕ) → Enough codes at 1 f → Tells Be codes to (someTypesBy f (from codes at))
+  unfolding someTypesBy
+  after-first Be to last more p q b k zero h = absurd (omega (arith, ready .within))
+  after-first Be to last more p q b k (suc g) h =
+      tells-then (IsType mid first) Be codes (first .at) to (typeBy g (from codes at)) _ (i .tells g (omega arith)) b
+      (λ t z y.
+      subst (λ x. Tells Be codes to (typesStep g t (from codes (first .at)) x (isFirst Comma (from codes (first .at))))) (sym p)
+      (subst (λ x. Tells Be codes to (typesStep g t (from codes (first .at)) last x)) (sym q) (k g (omega arith) t z y)))
+
+  pub types-last : {now : List ℕ} {left : ℕ} → getD codes (first .at) 46 ≡ 17 → Stored mid now (first .free) left Link 0 (first .free + 1) 0 →
+      TypesAt codes own now at free (record { at = first .at + 1; free = left; named = false })
+  types-last {now} {left} e s =
+      let b = there codes (first .at) 17 e (omega arith) in
+      let w = i .grew (omega arith) in
+      record {
+        grew = λ q. grew-node at (first .at + 1) (omega (arith, w .upto)) (omega arith) w s;
+        tells = after-first (IsTypes now (record { at = first .at + 1; free = left; named = false })) (first .at + 1) true _ (first-there (operator Gt) codes (first .at) (ready .known) e) refl (λ z. omega arith)
+            (λ g q t z y. (omega arith, tail-from codes (first .at), record { placed = placed (treeOfType t) none (label Link 0) s refl (omega (arith, ready .most, w .less)) (y .placed) refl }));
+      }
+
+  pub types-none : {now : List ℕ} {r : Piece} → (getD codes (first .at) 46 ≡ 17 → ⊥) → (getD codes (first .at) 46 ≡ 39 → ⊥) → r .at ≡ length codes + 1 → TypesAt codes own now at free r
+  types-none {now} {r} n m z =
+      record {
+        grew = λ q. absurd (omega arith);
+        tells = after-first (IsTypes now r) (r .at) false false (first-other (operator Gt) codes (first .at) (ready .known) n) (first-other Comma codes (first .at) (ready .known) m) (λ q. omega arith)
+            (λ g q t x y. omega arith);
+      }
+
+  pub types-more-none : {now : List ℕ} {r : Piece} → (getD codes (first .at) 46 ≡ 17 → ⊥) → getD codes (first .at) 46 ≡ 39 → length codes < r .at →
+      TypesAt codes mid now (first .at + 1) (first .free) r → TypesAt codes own now at free r
+  types-more-none {now} {r} n m h j =
+      let b = there codes (first .at) 39 m (omega arith) in
+      let w = i .grew (omega arith) in
+      record {
+        grew = λ q. absurd (omega arith);
+        tells = after-first (IsTypes now r) (r .at) false true (first-other (operator Gt) codes (first .at) (ready .known) n) (first-there Comma codes (first .at) (ready .known) m) (λ q. h)
+            (λ g q t x y.
+            rw (tail-from codes (first .at))
+            (tells-none (IsTypes now r) (IsTypes now r) codes (r .at) (r .at) (someTypesBy g (from codes (first .at + 1))) (λ l z. ok (moreTypes t l) z) h h (j .tells g (omega (arith, w .upto)))));
+      }
+
+  pub types-more : {mid₂ now : List ℕ} {left : ℕ} (r : Piece) → (getD codes (first .at) 46 ≡ 17 → ⊥) → getD codes (first .at) 46 ≡ 39 → r .at ≤ length codes →
+      TypesAt codes mid mid₂ (first .at + 1) (first .free) r → Stored mid₂ now (r .free) left Link 0 (first .free + 1) (r .free + 1) →
+      TypesAt codes own now at free (record { at = r .at; free = left; named = false })
+  types-more {mid₂} {now} {left} r n m h j s =
+      let b = there codes (first .at) 39 m (omega arith) in
+      let w = i .grew (omega arith) in
+      let v = j .grew h in
+      record {
+        grew = λ q. grew-node at (r .at) (omega (arith, w .upto, v .upto)) (omega arith) (grew-on (at + 1) (omega arith) w v) s;
+        tells = after-first (IsTypes now (record { at = r .at; free = left; named = false })) (r .at) false true (first-other (operator Gt) codes (first .at) (ready .known) n) (first-there Comma codes (first .at) (ready .known) m) (λ q. absurd (omega arith))
+            (λ g q t x y.
+            rw (tail-from codes (first .at))
+            (tells-some (IsTypes mid₂ r) (IsTypes now (record { at = r .at; free = left; named = false })) codes (r .at) (r .at) (someTypesBy g (from codes (first .at + 1))) (λ l z. ok (moreTypes t l) z) h (j .tells g (omega (arith, w .upto)))
+            (λ l u. (
+              h,
+              refl,
+              record {
+                placed =
+                    placed (treeOfType t) (treeOfType l) (label Link 0) s refl (omega (arith, ready .most, w .less, v .less))
+                    (lower mid₂ (first .free) (r .free) _ (treeOfType t) (v .less) (carried mid mid₂ (first .free) (first .free) _ (treeOfType t) (v .kept) (omega arith) (y .placed)))
+                    (u .placed);
+              },
+            ))));
+      }

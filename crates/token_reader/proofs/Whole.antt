@@ -1,0 +1,154 @@
+-- What is read of the whole list is its reading, and a list of which something else is read has none. Assumes nothing.
+use mathlib.Core.Path.{_≡_, refl, sym, subst, ap, _∙_}
+use mathlib.Core.Bool.{Bool, true, false, _||_}
+use mathlib.Core.List.{List, [], _∷_}
+use Prim.Native.Nat.{ℕ, zero, suc, _+_, _*_, _≤_, _<_}
+use native.Mathlib.Omega.{arith}
+use lib.Dec.{ltb}
+use lib.ListN.{length, drop, length-drop}
+use borrow.Author.Tests.{ltb-false, lt-ltb, le-ltb}
+use Rattle.laws.specs.Choice.{pick}
+use Rattle.laws.specs.Lists.{over}
+use Rattle.laws.proofs.Choice.{true-not-false, or-false, or-here, or-next}
+use Rattle.tree.specs.Trees.{Tree, treeAt}
+use Rattle.grammar.specs.Tokens.{Token}
+use Rattle.grammar.specs.Codes.{tokensOf, codesOf}
+use Rattle.grammar.specs.Types.{one}
+use Rattle.grammar.specs.Expressions.{Expr}
+use Rattle.grammar.specs.Grammar.{NONE, bare, Reading}
+use Rattle.grammar.specs.Parser.{Out, fail, ok, exprBy, parse}
+use Rattle.grammar.proofs.Tokens.{tokens-codes, codes-tokens}
+use Rattle.grammar.proofs.Theorems.{one-reading, found, finds}
+use Rattle.plain.specs.Trees.{treeOf}
+use Rattle.plain.specs.Reads.{Reads}
+use Rattle.numbering.specs.Numbered.{size, numbered, tooLarge, tooShort, renumbered, renumberedAfter}
+use Rattle.token_reader.specs.declared.Reply.{Reply}
+use Rattle.token_reader.specs.declared.Reply.the-variants.{Refused, Nodes}
+use Rattle.token_reader.specs.declared.piece.Parsed.{Parsed}
+use Rattle.token_reader.specs.Reading.{refusal12, anyAbove, refusal14, countOrLarge, stored, Answers}
+use Rattle.token_reader.specs.Pieces.{Tells, IsExpr, ExprAt, replyOf}
+use Rattle.token_reader.proofs.Codes.{all-below}
+use Rattle.token_reader.proofs.Nodes.{placed-tree}
+
+length-tokens : (codes : List ℕ) → length (tokensOf codes) ≡ length codes
+length-tokens [] = refl
+length-tokens (n ∷ ns) = ap suc (length-tokens ns)
+
+-- nothing is left exactly at the end
+left-none : (ts : List Token) (n : ℕ) → n ≤ length ts → drop n ts ≡ [] → n ≡ length ts
+left-none ts n h e = let z : length (drop n ts) ≡ 0 = ap length e in omega (arith, length-drop n ts)
+
+none-left : (ts : List Token) → drop (length ts) ts ≡ []
+none-left [] = refl
+none-left (t ∷ ts) = none-left ts
+
+module _ {codes own now : List ℕ} {free : ℕ} (r : Parsed) (i : ExprAt codes own now 0 free 1 r) where
+  tells : Tells (IsExpr now r) codes (r .at) (parse NONE (tokensOf codes))
+  unfolding parse
+  tells = subst (λ n. Tells (IsExpr now r) codes (r .at) (exprBy (2 * n) NONE 1 (tokensOf codes))) (sym (length-tokens codes)) (i .tells (2 * length codes) (omega arith))
+
+  pub unread : (r .at ≡ length codes → ⊥) → (t : Tree) → Reads codes t → ⊥
+  unread n t x =
+      let same : x .tokens ≡ tokensOf codes = sym (tokens-codes (x .tokens)) ∙ ap tokensOf (x .spelled) in
+      let f = finds NONE (x .tokens) (x .expression) (x .reading) in
+      let g = subst (Tells (IsExpr now r) codes (r .at)) (ap (parse NONE) (sym same) ∙ f .1) tells in
+      n (left-none (tokensOf codes) (r .at) (omega (arith, length-tokens codes, g .0)) (sym (g .1)) ∙ length-tokens codes)
+
+  -- the tree at the node after the free ones
+  pub whole : anyAbove 45 codes ≡ false → r .at ≡ length codes → (t : Tree) × Reads codes t × (treeAt now 24576 (r .free + 1) ≡ t) × ((u : Tree) → Reads codes u → u ≡ t)
+  whole known e = go (parse NONE (tokensOf codes)) refl tells
+    where
+      go : (o : Out (Expr one)) → parse NONE (tokensOf codes) ≡ o → Tells (IsExpr now r) codes (r .at) o →
+          (t : Tree) × Reads codes t × (treeAt now 24576 (r .free + 1) ≡ t) × ((u : Tree) → Reads codes u → u ≡ t)
+      go fail q k = absurd (omega arith)
+      go (ok x rest) q k =
+          let z : rest ≡ [] = k .1 ∙ ap (λ n. drop n (tokensOf codes)) (e ∙ sym (length-tokens codes)) ∙ none-left (tokensOf codes) in
+          let reading = found NONE (tokensOf codes) x (q ∙ ap (ok x) z) in (
+            treeOf (bare x),
+            record { tokens = tokensOf codes; spelled = codes-tokens codes (all-below codes known); expression = bare x; reading = reading; same = refl },
+            placed-tree now (r .free) (r .free + 1) (treeOf (bare x)) (omega arith) (k .2 .placed),
+            λ u y.
+                let same : y .tokens ≡ tokensOf codes = sym (tokens-codes (y .tokens)) ∙ ap tokensOf (y .spelled) in
+                sym (y .same) ∙ ap treeOf (one-reading NONE (tokensOf codes) (y .expression) (bare x) (subst (λ ts. Reading NONE ts (y .expression)) same (y .reading)) reading),
+          )
+
+-- ---- replies
+
+-- a table for 4,096 nodes is never too short
+long-enough : (t : Tree) (cells : ℕ) → 20480 ≤ cells → tooLarge t ≡ false → tooShort t cells ≡ false
+unfolding tooLarge tooShort
+long-enough t cells h e = le-ltb cells (5 * size t) (omega (arith, ltb-false 4096 (size t) (or-false _ _ e .0)))
+
+reply : (t : Tree) (cells : ℕ) → 20480 ≤ cells → replyOf (renumbered t cells) ≡ countOrLarge t
+unfolding replyOf renumbered countOrLarge pick
+reply t cells h = go (tooLarge t) refl
+  where
+    go : (b : Bool) → tooLarge t ≡ b → replyOf (renumbered t cells) ≡ countOrLarge t
+    go true e = rw e
+    go false e = rw (e, long-enough t cells h e)
+
+after : (t : Tree) (table : List ℕ) → 20480 ≤ length table → renumberedAfter t table ≡ stored t table
+unfolding renumberedAfter stored pick
+after t table h = go (tooLarge t) refl
+  where
+    go : (b : Bool) → tooLarge t ≡ b → renumberedAfter t table ≡ stored t table
+    go true e = rw e
+    go false e = rw (e, long-enough t (length table) h e)
+
+module _ (codes table : List ℕ) where
+  pub answers-short : length table < 20480 → Answers codes table (Refused 12) table
+  unfolding refusal12
+  answers-short h =
+      let e = lt-ltb (length table) 20480 h in
+      record {
+        short = λ p. (refl, refl);
+        unknown = λ p q. true-not-false (sym e ∙ p);
+        unread = λ p q n. true-not-false (sym e ∙ p);
+        read = λ p q t x. true-not-false (sym e ∙ p);
+      }
+
+  answers-unknown : 20480 ≤ length table → refusal14 codes ≡ true → Answers codes table (Refused 14) table
+  unfolding refusal12
+  answers-unknown h e =
+      record {
+        short = λ p. true-not-false (sym p ∙ le-ltb (length table) 20480 h);
+        unknown = λ p q. (refl, refl);
+        unread = λ p q n. true-not-false (sym e ∙ q);
+        read = λ p q t x. true-not-false (sym e ∙ q);
+      }
+
+  pub answers-long : 20480 ≤ length table → 24576 < length codes → Answers codes table (Refused 14) table
+  unfolding refusal14
+  answers-long h k = answers-unknown h (or-here _ (lt-ltb 24576 (length codes) k))
+
+  pub answers-above : 20480 ≤ length table → length codes ≤ 24576 → anyAbove 45 codes ≡ true → Answers codes table (Refused 14) table
+  unfolding refusal14
+  answers-above h k e = answers-unknown h (or-next _ (le-ltb 24576 (length codes) k) ∙ e)
+
+  known-fits : length codes ≤ 24576 → anyAbove 45 codes ≡ false → refusal14 codes ≡ false
+  unfolding refusal14
+  known-fits k e = or-next _ (le-ltb 24576 (length codes) k) ∙ e
+
+  pub answers-unread : 20480 ≤ length table → length codes ≤ 24576 → anyAbove 45 codes ≡ false → ((t : Tree) → Reads codes t → ⊥) → Answers codes table (Refused 15) table
+  unfolding refusal12
+  answers-unread h k e n =
+      record {
+        short = λ p. true-not-false (sym p ∙ le-ltb (length table) 20480 h);
+        unknown = λ p q. true-not-false (sym q ∙ known-fits k e);
+        unread = λ p q m. (refl, refl);
+        read = λ p q t x. absurd (n t x);
+      }
+
+  pub answers-read : {own now out : List ℕ} {free : ℕ} {r : Reply} (x : Parsed) → 20480 ≤ length table → length codes ≤ 24576 → anyAbove 45 codes ≡ false → ExprAt codes own now 0 free 1 x → x .at ≡ length codes →
+      r ≡ replyOf (renumbered (treeAt now 24576 (x .free + 1)) (length table)) → out ≡ renumberedAfter (treeAt now 24576 (x .free + 1)) table → Answers codes table r out
+  unfolding refusal12
+  answers-read {own} {now} {out} {free} {r} x h k e i z p q =
+      let w = whole x i e z in
+      record {
+        short = λ a. true-not-false (sym a ∙ le-ltb (length table) 20480 h);
+        unknown = λ a b. true-not-false (sym b ∙ known-fits k e);
+        unread = λ a b n. absurd (n (w .0) (w .1));
+        read = λ a b t y.
+            let s : treeAt now 24576 (x .free + 1) ≡ t = w .2 ∙ sym (w .3 t y) in
+            (p ∙ ap (λ u. replyOf (renumbered u (length table))) s ∙ reply t (length table) h, q ∙ ap (λ u. renumberedAfter u table) s ∙ after t table h);
+      }

@@ -1,0 +1,22 @@
+-- `token_reader::token::is_barred` meets its contract: its arms are the rows of the table. Assumes nothing.
+use mathlib.Core.Path.{sym}
+use mathlib.Core.Bool.{false}
+use Rattle.laws.proofs.Keys.{arm, rest}
+use Rattle.token_reader.specs.Tables.{barredRows, barred}
+use Rattle.token_reader.proofs.token.is_barred.Statement.{statement}
+use Rattle.token_reader.proofs.token.is_barred.Tie as tie
+
+returns : tie.Need-returns
+unfolding barred
+returns c = sym (arm (barredRows _ _) false _ 0 tt (c .match .keys1))
+
+returns-2 : tie.Need-returns-2
+unfolding barred
+returns-2 c = sym (arm (barredRows _ _) false _ 1 tt (c .match .keys2))
+
+returns-3 : tie.Need-returns-3
+unfolding barred
+returns-3 c = sym (rest (barredRows _ _) false _ (c .match .rest))
+
+pub is-barred-spec : {M : Type 1} → statement M
+is-barred-spec = tie.close (tie.spec returns returns-2 returns-3)

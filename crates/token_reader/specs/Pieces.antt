@@ -1,0 +1,278 @@
+-- What the reader's private functions answer, by the parser. Nothing here is to be believed: proofs/Whole says what it comes to.
+use mathlib.Core.Path.{_≡_}
+use mathlib.Core.Bool.{Bool, true, false, _&&_}
+use mathlib.Core.List.{List, [], _∷_}
+use Prim.Native.Nat.{ℕ, suc, _+_, _*_, _≤_, _<_}
+use lib.ListN.{length, drop, getD}
+use Rattle.tree.specs.Forms.{Link}
+use Rattle.tree.specs.Table.{firstAt, secondAt}
+use Rattle.tree.specs.Trees.{Label, Tree, none, node, labelAt}
+use Rattle.grammar.specs.Tokens.{Token, Operator, operator, Lt, LeftParen, RightBracket, RightParen}
+use Rattle.grammar.specs.Codes.{operatorOf, tokensOf}
+use Rattle.grammar.specs.Levels.{kind, level, prefixes, after}
+use Rattle.grammar.specs.Types.{Sort, one, list, items, TypePrefix, TypeSign, Ty, named, applied, pointing, sign, typeEndsInName}
+use Rattle.grammar.specs.Expressions.{Atom, Prefix, Member, byName, Expr, atom, paren, prefix, binary, cast, member, try, index, call, method, kindOf, endsInTypeName, endsInDotName}
+use Rattle.grammar.specs.Grammar.{NONE, bare}
+use Rattle.grammar.specs.Parser.{Out, fail, ok, then, tail, isFirst, Start, noStart, anAtom, aPrefix, aGroup, start, AfterDot, noMember, aMember, afterDot, isByName, Next, stops, operates, castsTo, dots, calls, indexes, tries, next, typeBy, typesBy, someTypesBy, exprBy, onBy, argumentsBy, someArgumentsBy}
+use Rattle.plain.specs.Trees.{label, treeOf, treeOfType, atomLabel, prefixLabel, memberLabel, typePrefixLabel, typeSignLabel}
+use Rattle.token_reader.specs.Reading.{anyAbove}
+use Rattle.numbering.specs.declared.Renumbered.{Renumbered}
+use Rattle.numbering.specs.declared.Renumbered.the-variants as renumbered
+use Rattle.token_reader.specs.declared.Reply.{Reply}
+use Rattle.token_reader.specs.declared.Reply.the-variants.{Refused, Nodes}
+use Rattle.token_reader.specs.declared.piece.Piece.{Piece}
+use Rattle.token_reader.specs.declared.piece.Parsed.{Parsed}
+
+-- ---- the reader's own table: 24,576 nodes, the first `free` of which are not yet taken
+
+-- the nodes that are taken are as they were
+abbrev pub Kept : List ℕ → List ℕ → ℕ → Type 0
+Kept own now free = (j : ℕ) → 5 * free ≤ j → getD now j 0 ≡ getD own j 0
+
+-- number i stands for a tree whose nodes are all above `low`; 0 stands for none
+abbrev pub Placed : List ℕ → ℕ → ℕ → Tree → Type 0
+Placed own low i none = i ≡ 0
+Placed own low i (node l a b) = (low < i) × (i ≤ 24576) × (labelAt own i ≡ l) × Placed own i (firstAt own i) a × Placed own i (secondAt own i) b
+
+-- the last free node is taken
+pub record Stored (own now : List ℕ) (free left form detail first second : ℕ) : Type 0 where
+  pub fewer : left + 1 ≡ free
+  pub kept : Kept own now free
+  pub same : length now ≡ length own
+  pub labelled : labelAt now free ≡ label form detail
+  pub to-first : firstAt now free ≡ first
+  pub to-second : secondAt now free ≡ second
+
+-- where reading goes on: there are no fewer free nodes than unread tokens
+pub record Ready (codes own : List ℕ) (at free : ℕ) : Type 0 where
+  pub short : length codes ≤ 24576
+  pub known : anyAbove 45 codes ≡ false
+  pub cells : length own ≡ 122880
+  pub room : 24576 ≤ at + free
+  pub most : free ≤ 24576
+  pub within : at ≤ length codes
+
+-- tokens were read, and no more nodes taken
+pub record Grew (own now : List ℕ) (at free to left : ℕ) : Type 0 where
+  pub upto : at ≤ to
+  pub room : at + free ≤ to + left
+  pub less : left ≤ free
+  pub kept : Kept own now free
+  pub same : length now ≡ length own
+
+-- ---- what the parser gives: nothing, and `to` is past the end; or something that `Is` says is there, and the tokens from `to` on
+abbrev pub Tells : {A : Type 0} → (A → Type 0) → List ℕ → ℕ → Out A → Type 0
+Tells Is codes to fail = length codes < to
+Tells Is codes to (ok a rest) = (to ≤ length codes) × (rest ≡ drop to (tokensOf codes)) × Is a
+
+abbrev pub from : List ℕ → ℕ → List Token
+from codes at = drop at (tokensOf codes)
+
+-- the parser's fuel suffices, and k more is left
+abbrev pub Enough : List ℕ → ℕ → ℕ → ℕ → Type 0
+Enough codes at k fuel = k + 2 * length codes ≤ fuel + 2 * at
+
+-- ---- types
+
+pub record IsType (now : List ℕ) (r : Piece) (t : Ty one) : Type 0 where
+  pub ends : r .named ≡ typeEndsInName t
+  pub placed : Placed now (r .free) (r .free + 1) (treeOfType t)
+
+pub record IsTypes (now : List ℕ) (r : Piece) (l : Ty items) : Type 0 where
+  pub placed : Placed now (r .free) (r .free + 1) (treeOfType l)
+
+pub record TypeAt (codes own now : List ℕ) (at free : ℕ) (r : Piece) : Type 0 where
+  pub grew : r .at ≤ length codes → Grew own now at free (r .at) (r .free)
+  pub tells : (f : ℕ) → Enough codes at 0 f → Tells (IsType now r) codes (r .at) (typeBy f (from codes at))
+
+pub record TypesAt (codes own now : List ℕ) (at free : ℕ) (r : Piece) : Type 0 where
+  pub grew : r .at ≤ length codes → Grew own now at free (r .at) (r .free)
+  pub tells : (f : ℕ) → Enough codes at 1 f → Tells (IsTypes now r) codes (r .at) (someTypesBy f (from codes at))
+
+-- a type of one token
+pub record SignAt (codes own now : List ℕ) (at free form : ℕ) (r : Piece) : Type 0 where
+  pub grew : Grew own now at free (r .at) (r .free)
+  pub tells : (x : TypeSign) → label form 0 ≡ typeSignLabel x → Tells (IsType now r) codes (r .at) (ok (sign x) (from codes (at + 1)))
+
+-- a type behind a token
+pub record PointingAt (codes own now : List ℕ) (at free form detail : ℕ) (r : Piece) : Type 0 where
+  pub grew : r .at ≤ length codes → Grew own now at free (r .at) (r .free)
+  pub tells : (p : TypePrefix) → label form detail ≡ typePrefixLabel p → (g : ℕ) → Enough codes (at + 1) 0 g →
+      Tells (IsType now r) codes (r .at) (then (typeBy g (from codes (at + 1))) (λ t q. ok (pointing p t) q))
+
+-- what a type is whose name was read
+abbrev pub pathBy : ℕ → List Token → Out (Ty one)
+pathBy g ts = elim (isFirst (operator Lt) ts) [ true ↦ then (typesBy g (tail ts)) (λ l r. ok (applied l) r) | false ↦ ok named ts ]
+
+pub record PathAt (codes own now : List ℕ) (at free : ℕ) (r : Piece) : Type 0 where
+  pub grew : r .at ≤ length codes → Grew own now at free (r .at) (r .free)
+  pub tells : (g : ℕ) → Enough codes (at + 2) 2 g → Tells (IsType now r) codes (r .at) (pathBy g (from codes (at + 1)))
+
+-- ---- expressions
+
+pub record IsExpr (now : List ℕ) (r : Parsed) (e : Expr one) : Type 0 where
+  pub strong : r .level ≡ level (kindOf e)
+  pub type-last : r .named ≡ endsInTypeName e
+  pub name-last : r .dotted ≡ endsInDotName e
+  pub placed : Placed now (r .free) (r .free + 1) (treeOf (bare e))
+
+pub record IsArguments (now : List ℕ) (r : Piece) (l : Expr items) : Type 0 where
+  pub placed : Placed now (r .free) (r .free + 1) (treeOf (bare l))
+
+-- what binds most strongly and ends in no name that matters
+pub record Postfix (at free : ℕ) (r : Parsed) : Type 0 where
+  pub to : r .at ≡ at
+  pub left : r .free ≡ free
+  pub strong : r .level ≡ 15
+  pub type-last : r .named ≡ false
+  pub name-last : r .dotted ≡ false
+
+pub record ExprAt (codes own now : List ℕ) (at free least : ℕ) (r : Parsed) : Type 0 where
+  pub grew : r .at ≤ length codes → Grew own now at free (r .at) (r .free)
+  pub tells : (f : ℕ) → Enough codes at 0 f → Tells (IsExpr now r) codes (r .at) (exprBy f NONE least (from codes at))
+
+pub record ArgumentsAt (codes own now : List ℕ) (at free : ℕ) (r : Piece) : Type 0 where
+  pub grew : r .at ≤ length codes → Grew own now at free (r .at) (r .free)
+  pub tells : (f : ℕ) → Enough codes at 1 f → Tells (IsArguments now r) codes (r .at) (someArgumentsBy f (from codes at))
+
+-- ---- what an expression begins with
+
+pub record AtomAt (codes own now : List ℕ) (at free form : ℕ) (r : Parsed) : Type 0 where
+  pub past : at < r .at
+  pub grew : Grew own now at free (r .at) (r .free)
+  pub tells : (x : Atom) → label form 0 ≡ atomLabel x → Tells (IsExpr now r) codes (r .at) (ok (atom x) (from codes (at + 1)))
+
+abbrev pub prefixBy : ℕ → Prefix → List Token → Out (Expr one)
+prefixBy g p ts = then (exprBy g NONE (after prefixes) ts) (λ a r. ok (prefix p a) r)
+
+pub record PrefixedAt (codes own now : List ℕ) (at free form detail : ℕ) (r : Parsed) : Type 0 where
+  pub past : r .at ≤ length codes → at < r .at
+  pub grew : r .at ≤ length codes → Grew own now at free (r .at) (r .free)
+  pub tells : (p : Prefix) → label form detail ≡ prefixLabel p → (g : ℕ) → Enough codes (at + 1) 0 g → Tells (IsExpr now r) codes (r .at) (prefixBy g p (from codes (at + 1)))
+
+-- the sign that closes, after what stands in a pair
+abbrev pub closeBy : Token → (Expr one → Expr one) → Expr one → List Token → Out (Expr one)
+closeBy close whole a r = elim (isFirst close r) [ true ↦ ok (whole a) (tail r) | false ↦ fail ]
+
+abbrev pub groupBy : ℕ → List Token → Out (Expr one)
+groupBy g ts = then (exprBy g NONE 1 ts) (closeBy RightParen paren)
+
+pub record GroupAt (codes own now : List ℕ) (at free : ℕ) (r : Parsed) : Type 0 where
+  pub past : r .at ≤ length codes → at < r .at
+  pub grew : r .at ≤ length codes → Grew own now at free (r .at) (r .free)
+  pub tells : (g : ℕ) → Enough codes (at + 1) 0 g → Tells (IsExpr now r) codes (r .at) (groupBy g (from codes (at + 1)))
+
+abbrev pub operandBy : ℕ → List Token → Start → Out (Expr one)
+operandBy g ts x =
+    elim x [
+      | noStart ↦ fail
+      | anAtom y ↦ ok (atom y) ts
+      | aPrefix p ↦ prefixBy g p ts
+      | aGroup ↦ groupBy g ts
+    ]
+
+pub record OperandAt (codes own now : List ℕ) (at free : ℕ) (r : Parsed) : Type 0 where
+  pub past : r .at ≤ length codes → at < r .at
+  pub grew : r .at ≤ length codes → Grew own now at free (r .at) (r .free)
+  pub tells : (g : ℕ) → Enough codes (at + 1) 0 g → Tells (IsExpr now r) codes (r .at) (operandBy g (tail (from codes at)) (start (from codes at)))
+
+-- ---- what an expression goes on with; `left` is what was read of it
+
+pub record OnAt (codes own now : List ℕ) (left : Parsed) (least : ℕ) (r : Parsed) : Type 0 where
+  pub grew : r .at ≤ length codes → Grew own now (left .at) (left .free) (r .at) (r .free)
+  pub tells : (e : Expr one) → IsExpr own left e → (f : ℕ) → Enough codes (left .at) 1 f → Tells (IsExpr now r) codes (r .at) (onBy f NONE least e (from codes (left .at)))
+
+abbrev pub binaryBy : ℕ → Operator → Expr one → List Token → Out (Expr one)
+binaryBy g o e ts = then (exprBy g NONE (after (kind o)) ts) (λ b r. ok (binary o e b) r)
+
+abbrev pub castBy : ℕ → Expr one → List Token → Out (Expr one)
+castBy g e ts = then (typeBy g ts) (λ t r. ok (cast e t) r)
+
+abbrev pub callBy : ℕ → (Expr list → Expr one) → List Token → Out (Expr one)
+callBy g whole ts = then (argumentsBy g ts) (λ l r. ok (whole l) r)
+
+abbrev pub indexBy : ℕ → Expr one → List Token → Out (Expr one)
+indexBy g e ts = then (exprBy g NONE 1 ts) (closeBy RightBracket (index e))
+
+-- behind a member's name
+abbrev pub memberBy : ℕ → Expr one → Member → List Token → Bool → Out (Expr one)
+memberBy g e m ts called = elim called [ true ↦ callBy g (method e) (tail ts) | false ↦ ok (member m e) ts ]
+
+abbrev pub dotBy : ℕ → Expr one → List Token → AfterDot → Out (Expr one)
+dotBy g e ts x = elim x [ noMember ↦ fail | aMember m ↦ memberBy g e m (tail ts) (isByName m && isFirst LeftParen (tail ts)) ]
+
+abbrev pub stepBy : ℕ → Expr one → List Token → Next → Out (Expr one)
+stepBy g e ts x =
+    elim x [
+      | stops ↦ fail
+      | operates o ↦ binaryBy g o e ts
+      | castsTo ↦ castBy g e ts
+      | dots ↦ dotBy g e ts (afterDot ts)
+      | calls ↦ callBy g (call e) ts
+      | indexes ↦ indexBy g e ts
+      | tries ↦ ok (try e) ts
+    ]
+
+pub record StepAt (codes own now : List ℕ) (left r : Parsed) : Type 0 where
+  pub past : r .at ≤ length codes → left .at < r .at
+  pub grew : r .at ≤ length codes → Grew own now (left .at) (left .free) (r .at) (r .free)
+  pub tells : (e : Expr one) → IsExpr own left e → (g : ℕ) → Enough codes (left .at) 0 g →
+      Tells (IsExpr now r) codes (r .at) (stepBy g e (tail (from codes (left .at))) (next (from codes (left .at))))
+
+pub record BinaryAt (codes own now : List ℕ) (left : Parsed) (code : ℕ) (r : Parsed) : Type 0 where
+  pub past : r .at ≤ length codes → left .at < r .at
+  pub grew : r .at ≤ length codes → Grew own now (left .at) (left .free) (r .at) (r .free)
+  pub tells : (e : Expr one) → IsExpr own left e → (g : ℕ) → Enough codes (left .at) 0 g → Tells (IsExpr now r) codes (r .at) (binaryBy g (operatorOf code) e (from codes (left .at + 1)))
+
+pub record CastAt (codes own now : List ℕ) (left r : Parsed) : Type 0 where
+  pub past : r .at ≤ length codes → left .at < r .at
+  pub grew : r .at ≤ length codes → Grew own now (left .at) (left .free) (r .at) (r .free)
+  pub tells : (e : Expr one) → IsExpr own left e → (g : ℕ) → Enough codes (left .at) 0 g → Tells (IsExpr now r) codes (r .at) (castBy g e (from codes (left .at + 1)))
+
+pub record IndexAt (codes own now : List ℕ) (left r : Parsed) : Type 0 where
+  pub past : r .at ≤ length codes → left .at < r .at
+  pub grew : r .at ≤ length codes → Grew own now (left .at) (left .free) (r .at) (r .free)
+  pub tells : (e : Expr one) → IsExpr own left e → (g : ℕ) → Enough codes (left .at) 0 g → Tells (IsExpr now r) codes (r .at) (indexBy g e (from codes (left .at + 1)))
+
+pub record TryAt (codes own now : List ℕ) (left r : Parsed) : Type 0 where
+  pub past : left .at < r .at
+  pub grew : Grew own now (left .at) (left .free) (r .at) (r .free)
+  pub tells : (e : Expr one) → IsExpr own left e → Tells (IsExpr now r) codes (r .at) (ok (try e) (from codes (left .at + 1)))
+
+pub record MemberAt (codes own now : List ℕ) (left : Parsed) (form detail : ℕ) (dotted : Bool) (r : Parsed) : Type 0 where
+  pub past : left .at < r .at
+  pub grew : Grew own now (left .at) (left .free) (r .at) (r .free)
+  pub tells : (e : Expr one) → IsExpr own left e → (m : Member) → label form detail ≡ memberLabel m → dotted ≡ isByName m →
+      Tells (IsExpr now r) codes (r .at) (ok (member m e) (from codes (left .at + 2)))
+
+pub record DotAt (codes own now : List ℕ) (left r : Parsed) : Type 0 where
+  pub past : r .at ≤ length codes → left .at < r .at
+  pub grew : r .at ≤ length codes → Grew own now (left .at) (left .free) (r .at) (r .free)
+  pub tells : (e : Expr one) → IsExpr own left e → (g : ℕ) → Enough codes (left .at) 0 g →
+      Tells (IsExpr now r) codes (r .at) (dotBy g e (from codes (left .at + 1)) (afterDot (from codes (left .at + 1))))
+
+pub record NamedAt (codes own now : List ℕ) (left r : Parsed) : Type 0 where
+  pub past : r .at ≤ length codes → left .at < r .at
+  pub grew : r .at ≤ length codes → Grew own now (left .at) (left .free) (r .at) (r .free)
+  pub tells : (e : Expr one) → IsExpr own left e → (g : ℕ) → Enough codes (left .at) 0 g →
+      Tells (IsExpr now r) codes (r .at) (memberBy g e byName (from codes (left .at + 2)) (isFirst LeftParen (from codes (left .at + 2))))
+
+-- a call of what stands for the tree `a`, with the arguments l
+pub record Called (form : ℕ) (a : Tree) (l : Expr list) (e : Expr one) : Type 0 where
+  pub strong : level (kindOf e) ≡ 15
+  pub type-last : endsInTypeName e ≡ false
+  pub name-last : endsInDotName e ≡ false
+  pub tree : treeOf (bare e) ≡ node (label form 0) a (treeOf (bare l))
+
+pub record CallAt (codes own now : List ℕ) (at free form : ℕ) (r : Parsed) : Type 0 where
+  pub past : r .at ≤ length codes → at < r .at
+  pub grew : r .at ≤ length codes → Grew own now at free (r .at) (r .free)
+  pub tells : (a : Tree) → Placed own free (free + 1) a → (whole : Expr list → Expr one) → ((l : Expr list) → Called form a l (whole l)) → (g : ℕ) → Enough codes at 0 g →
+      Tells (IsExpr now r) codes (r .at) (callBy g whole (from codes (at + 1)))
+
+-- ---- the reply
+
+unfoldable pub replyOf : Renumbered → Reply
+replyOf renumbered.TooLarge = Refused 16
+replyOf renumbered.TooShort = Refused 12
+replyOf (renumbered.Nodes n) = Nodes n

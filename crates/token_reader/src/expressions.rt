@@ -1,0 +1,315 @@
+// Expressions and their lists.
+use crate::node::store;
+use crate::piece::Parsed;
+use crate::piece::Piece;
+use crate::piece::no_expr;
+use crate::piece::no_piece;
+use crate::token::code_at;
+use crate::token::goes_on;
+use crate::token::level_of;
+use crate::token::lowest_after;
+use crate::token::operator_detail;
+use crate::token::operator_form;
+use crate::types::ty;
+use tree::forms;
+ghost use mathlib.Core.Path.{_≡_};
+ghost use mathlib.Core.Bool.{false};
+ghost use Prim.Native.Nat.{_+_, _≤_, _<_};
+ghost use lib.ListN.{length};
+ghost use Rattle.token_reader.specs.Pieces.{Ready, Postfix, AtomAt, ExprAt, OperandAt, PrefixedAt, GroupAt, OnAt, StepAt, BinaryAt, CastAt, DotAt, NamedAt, MemberAt, TryAt, IndexAt, CallAt, ArgumentsAt};
+
+// What binds as strongly as the postfix forms, and ends in no name that matters.
+fn strongest(at: usize, free: u16) -> Parsed
+    ensures { λ r. ⌜ Postfix at free r ⌝ }
+{
+    Parsed {
+        at: at,
+        free: free,
+        level: 15,
+        named: false,
+        dotted: false,
+    }
+}
+
+// A Path or a Lit.
+fn atom(tokens: &[u16], own: &mut [u16], at: usize, free: u16, form: u16) -> Parsed
+    requires { ⌜ Ready (now tokens) (now own) at free × (at < length (now tokens)) ⌝ }
+    ensures { λ r. ⌜ AtomAt (now (tokens .entry)) (now (own .entry)) (now (own .exit)) at free form r ⌝ }
+{
+    strongest(at + 1, store(own, free, form, 0, 0, 0))
+}
+
+// A Cast.
+fn cast(tokens: &[u16], own: &mut [u16], left: Parsed) -> Parsed
+    requires { ⌜ Ready (now tokens) (now own) (left .at) (left .free) × (left .at < length (now tokens)) ⌝ }
+    ensures { λ r. ⌜ CastAt (now (tokens .entry)) (now (own .entry)) (now (own .exit)) left r ⌝ }
+{
+    let target = ty(tokens, own, left.at + 1, left.free);
+    if target.at > tokens.len() {
+        return no_expr(tokens);
+    }
+    Parsed {
+        at: target.at,
+        free: store(
+            own,
+            target.free,
+            forms::EXPR_CAST,
+            0,
+            left.free + 1,
+            target.free + 1,
+        ),
+        level: 13,
+        named: target.named,
+        dotted: false,
+    }
+}
+
+// A Field or an Await.
+fn member(
+    tokens: &[u16],
+    own: &mut [u16],
+    left: Parsed,
+    form: u16,
+    detail: u16,
+    dotted: bool,
+) -> Parsed
+    requires { ⌜ Ready (now tokens) (now own) (left .at) (left .free) × (left .at + 1 < length (now tokens)) ⌝ }
+    ensures { λ r. ⌜ MemberAt (now (tokens .entry)) (now (own .entry)) (now (own .exit)) left form detail dotted r ⌝ }
+{
+    Parsed {
+        at: left.at + 2,
+        free: store(own, left.free, form, detail, left.free + 1, 0),
+        level: 15,
+        named: false,
+        dotted: dotted,
+    }
+}
+
+// A Try.
+fn attempt(tokens: &[u16], own: &mut [u16], left: Parsed) -> Parsed
+    requires { ⌜ Ready (now tokens) (now own) (left .at) (left .free) × (left .at < length (now tokens)) ⌝ }
+    ensures { λ r. ⌜ TryAt (now (tokens .entry)) (now (own .entry)) (now (own .exit)) left r ⌝ }
+{
+    strongest(
+        left.at + 1,
+        store(own, left.free, forms::EXPR_TRY, 0, left.free + 1, 0),
+    )
+}
+
+// An expression of level `min` or more that starts at `at`.
+pub fn expr(tokens: &[u16], own: &mut [u16], at: usize, free: u16, min: u16) -> Parsed
+    requires { ⌜ Ready (now tokens) (now own) at free × (1 ≤ min) ⌝ }
+    ensures { λ r. ⌜ ExprAt (now (tokens .entry)) (now (own .entry)) (now (own .exit)) at free min r ⌝ }
+{
+    let left = operand(tokens, own, at, free);
+    if left.at > tokens.len() {
+        return left;
+    }
+    on(tokens, own, left, min)
+}
+
+// What an expression begins with.
+fn operand(tokens: &[u16], own: &mut [u16], at: usize, free: u16) -> Parsed
+    requires { ⌜ Ready (now tokens) (now own) at free ⌝ }
+    ensures { λ r. ⌜ OperandAt (now (tokens .entry)) (now (own .entry)) (now (own .exit)) at free r ⌝ }
+{
+    match code_at(tokens, at) {
+        1 => prefixed(tokens, own, at, free, forms::EXPR_UNARY, 2),
+        2 => prefixed(tokens, own, at, free, forms::EXPR_UNARY, 0),
+        8 => prefixed(tokens, own, at, free, forms::EXPR_REFERENCE, 0),
+        29 => prefixed(tokens, own, at, free, forms::EXPR_UNARY, 1),
+        30 => prefixed(tokens, own, at, free, forms::EXPR_REFERENCE, 1),
+        32 => atom(tokens, own, at, free, forms::EXPR_PATH),
+        33 => atom(tokens, own, at, free, forms::EXPR_LIT),
+        35 => group(tokens, own, at, free),
+        _ => no_expr(tokens),
+    }
+}
+
+// An expression behind a token: Unary or Reference.
+fn prefixed(tokens: &[u16], own: &mut [u16], at: usize, free: u16, form: u16, detail: u16) -> Parsed
+    requires { ⌜ Ready (now tokens) (now own) at free × (at < length (now tokens)) ⌝ }
+    ensures { λ r. ⌜ PrefixedAt (now (tokens .entry)) (now (own .entry)) (now (own .exit)) at free form detail r ⌝ }
+{
+    let inner = expr(tokens, own, at + 1, free, 14);
+    if inner.at > tokens.len() {
+        return inner;
+    }
+    Parsed {
+        at: inner.at,
+        free: store(own, inner.free, form, detail, inner.free + 1, 0),
+        level: 14,
+        named: inner.named,
+        dotted: inner.dotted,
+    }
+}
+
+// An expression in parentheses, which leave no node.
+fn group(tokens: &[u16], own: &mut [u16], at: usize, free: u16) -> Parsed
+    requires { ⌜ Ready (now tokens) (now own) at free × (at < length (now tokens)) ⌝ }
+    ensures { λ r. ⌜ GroupAt (now (tokens .entry)) (now (own .entry)) (now (own .exit)) at free r ⌝ }
+{
+    let inner = expr(tokens, own, at + 1, free, 1);
+    // An expression that isn't there ends past the end, where no sign stands.
+    if code_at(tokens, inner.at) != 36 {
+        return no_expr(tokens);
+    }
+    strongest(inner.at + 1, inner.free)
+}
+
+// An expression of level `min` or more that begins with `left`, which was read.
+fn on(tokens: &[u16], own: &mut [u16], left: Parsed, min: u16) -> Parsed
+    requires { ⌜ Ready (now tokens) (now own) (left .at) (left .free) × (1 ≤ min) ⌝ }
+    ensures { λ r. ⌜ OnAt (now (tokens .entry)) (now (own .entry)) (now (own .exit)) left min r ⌝ }
+{
+    if !goes_on(min, left, code_at(tokens, left.at)) {
+        return left;
+    }
+    let more = step(tokens, own, left);
+    if more.at > tokens.len() {
+        return more;
+    }
+    on(tokens, own, more, min)
+}
+
+// `left` with the one form that follows it.
+fn step(tokens: &[u16], own: &mut [u16], left: Parsed) -> Parsed
+    requires { ⌜ Ready (now tokens) (now own) (left .at) (left .free) ⌝ }
+    ensures { λ r. ⌜ StepAt (now (tokens .entry)) (now (own .entry)) (now (own .exit)) left r ⌝ }
+{
+    let code = code_at(tokens, left.at);
+    match code {
+        0..=28 => binary(tokens, own, left, code),
+        31 => cast(tokens, own, left),
+        34 => dot(tokens, own, left),
+        35 => call(tokens, own, left.at, left.free, forms::EXPR_CALL),
+        37 => index(tokens, own, left),
+        40 => attempt(tokens, own, left),
+        _ => no_expr(tokens),
+    }
+}
+
+// A Binary or an Assign.
+fn binary(tokens: &[u16], own: &mut [u16], left: Parsed, code: u16) -> Parsed
+    requires { ⌜ Ready (now tokens) (now own) (left .at) (left .free) × (left .at < length (now tokens)) × (code < 29) ⌝ }
+    ensures { λ r. ⌜ BinaryAt (now (tokens .entry)) (now (own .entry)) (now (own .exit)) left code r ⌝ }
+{
+    let level = level_of(code);
+    let right = expr(tokens, own, left.at + 1, left.free, lowest_after(level));
+    if right.at > tokens.len() {
+        return right;
+    }
+    Parsed {
+        at: right.at,
+        free: store(
+            own,
+            right.free,
+            operator_form(code),
+            operator_detail(code),
+            left.free + 1,
+            right.free + 1,
+        ),
+        level: level,
+        named: right.named,
+        dotted: right.dotted,
+    }
+}
+
+// What stands behind a dot: a MethodCall, a Field or an Await.
+fn dot(tokens: &[u16], own: &mut [u16], left: Parsed) -> Parsed
+    requires { ⌜ Ready (now tokens) (now own) (left .at) (left .free) × (left .at < length (now tokens)) ⌝ }
+    ensures { λ r. ⌜ DotAt (now (tokens .entry)) (now (own .entry)) (now (own .exit)) left r ⌝ }
+{
+    match code_at(tokens, left.at + 1) {
+        32 => named(tokens, own, left),
+        44 => member(tokens, own, left, forms::EXPR_FIELD, 1, false),
+        45 => member(tokens, own, left, forms::EXPR_AWAIT, 0, false),
+        _ => no_expr(tokens),
+    }
+}
+
+// Behind a dot and a name: "Dot, name, `(` is always a method call."
+fn named(tokens: &[u16], own: &mut [u16], left: Parsed) -> Parsed
+    requires { ⌜ Ready (now tokens) (now own) (left .at) (left .free) × (left .at + 1 < length (now tokens)) ⌝ }
+    ensures { λ r. ⌜ NamedAt (now (tokens .entry)) (now (own .entry)) (now (own .exit)) left r ⌝ }
+{
+    if code_at(tokens, left.at + 2) != 35 {
+        return member(tokens, own, left, forms::EXPR_FIELD, 0, true);
+    }
+    call(tokens, own, left.at + 2, left.free, forms::EXPR_METHOD_CALL)
+}
+
+// An Index.
+fn index(tokens: &[u16], own: &mut [u16], left: Parsed) -> Parsed
+    requires { ⌜ Ready (now tokens) (now own) (left .at) (left .free) × (left .at < length (now tokens)) ⌝ }
+    ensures { λ r. ⌜ IndexAt (now (tokens .entry)) (now (own .entry)) (now (own .exit)) left r ⌝ }
+{
+    let inner = expr(tokens, own, left.at + 1, left.free, 1);
+    if code_at(tokens, inner.at) != 38 {
+        return no_expr(tokens);
+    }
+    strongest(
+        inner.at + 1,
+        store(
+            own,
+            inner.free,
+            forms::EXPR_INDEX,
+            0,
+            left.free + 1,
+            inner.free + 1,
+        ),
+    )
+}
+
+// A Call or a MethodCall of the node after the free ones; `(` stands at `at`.
+fn call(tokens: &[u16], own: &mut [u16], at: usize, free: u16, form: u16) -> Parsed
+    requires { ⌜ Ready (now tokens) (now own) at free × (at < length (now tokens)) ⌝ }
+    ensures { λ r. ⌜ CallAt (now (tokens .entry)) (now (own .entry)) (now (own .exit)) at free form r ⌝ }
+{
+    if code_at(tokens, at + 1) == 36 {
+        return strongest(at + 2, store(own, free, form, 0, free + 1, 0));
+    }
+    let list = arguments(tokens, own, at + 1, free);
+    if list.at > tokens.len() {
+        return no_expr(tokens);
+    }
+    strongest(
+        list.at,
+        store(own, list.free, form, 0, free + 1, list.free + 1),
+    )
+}
+
+// A list of expressions that is not empty, with the sign that closes it.
+fn arguments(tokens: &[u16], own: &mut [u16], at: usize, free: u16) -> Piece
+    requires { ⌜ Ready (now tokens) (now own) at free ⌝ }
+    ensures { λ r. ⌜ ArgumentsAt (now (tokens .entry)) (now (own .entry)) (now (own .exit)) at free r ⌝ }
+{
+    let first = expr(tokens, own, at, free, 1);
+    let sign = code_at(tokens, first.at);
+    if sign == 36 {
+        return Piece {
+            at: first.at + 1,
+            free: store(own, first.free, forms::LINK, 0, first.free + 1, 0),
+            named: false,
+        };
+    }
+    if sign != 39 {
+        return no_piece(tokens);
+    }
+    let more = arguments(tokens, own, first.at + 1, first.free);
+    if more.at > tokens.len() {
+        return more;
+    }
+    Piece {
+        at: more.at,
+        free: store(
+            own,
+            more.free,
+            forms::LINK,
+            0,
+            first.free + 1,
+            more.free + 1,
+        ),
+        named: false,
+    }
+}

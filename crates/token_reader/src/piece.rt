@@ -1,0 +1,49 @@
+// What the reader of tokens hands on: where it stands, and how many nodes of its own table are free.
+ghost use mathlib.Core.Path.{_≡_};
+ghost use Prim.Native.Nat.{_+_};
+ghost use lib.ListN.{length};
+
+// A type, or a list with the sign that closes it. It is the node after the free ones.
+pub struct Piece {
+    // The place of the first token behind it, or one past the end where there is none.
+    pub at: usize,
+    pub free: u16,
+    // Whether its last token is a type name.
+    pub named: bool,
+}
+
+// An expression, likewise.
+pub struct Parsed {
+    pub at: usize,
+    pub free: u16,
+    // The level of its kind.
+    pub level: u16,
+    // Whether its last token is a type name.
+    pub named: bool,
+    // Whether its last two tokens are a dot and a name.
+    pub dotted: bool,
+}
+
+// No type or list stands there.
+pub fn no_piece(tokens: &[u16]) -> Piece
+    ensures { λ r. ⌜ r .at ≡ length (now (tokens .entry)) + 1 ⌝ }
+{
+    Piece {
+        at: tokens.len() + 1,
+        free: 0,
+        named: false,
+    }
+}
+
+// No expression stands there.
+pub fn no_expr(tokens: &[u16]) -> Parsed
+    ensures { λ r. ⌜ r .at ≡ length (now (tokens .entry)) + 1 ⌝ }
+{
+    Parsed {
+        at: tokens.len() + 1,
+        free: 0,
+        level: 0,
+        named: false,
+        dotted: false,
+    }
+}

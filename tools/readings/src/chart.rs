@@ -1,0 +1,542 @@
+//! Every reading of a token list, by every way to cut it.
+//!
+//! For each span of the list the chart holds all expressions, types and lists
+//! that the grammar of document 01 gives for just these tokens, each with what
+//! the rules for its neighbours ask: how tightly it holds together, and whether
+//! it ends in a type name or in the name behind a dot. An expression of a span is
+//! a shorter one at its start, what may follow that, and whatever the rest can be.
+//! Nothing is decided by looking ahead, and no cut is preferred to another: all
+//! that fit are kept, and those that give equal trees are one.
+
+use crate::codes::*;
+use crate::rules::*;
+use oracle::forms::{self, LINK};
+
+/// A node of a tree; operands are positions in the chart's nodes.
+#[derive(Copy, Clone, PartialEq, Eq, Debug)]
+struct Node {
+    form: u16,
+    detail: u16,
+    operands: [Option<u32>; 2],
+}
+
+/// What stands at the end of a span.
+#[derive(Copy, Clone, PartialEq, Eq, Debug)]
+enum End {
+    /// A name that is a type.
+    TypeName,
+    /// A dot and a name.
+    DotName,
+    Other,
+}
+
+/// Something that the tokens of a span can be. Lists and types have no level.
+#[derive(Copy, Clone, Debug)]
+struct Found {
+    tree: u32,
+    level: Level,
+    end: End,
+}
+
+#[derive(Copy, Clone, PartialEq, Eq)]
+enum Class {
+    Expression,
+    Type,
+    ExpressionList,
+    TypeList,
+}
+
+const CLASSES: usize = 4;
+
+/// Where that which was found for a span stands, by class.
+type Span = [(u32, u32); CLASSES];
+
+/// How much there was of everything before a token came.
+struct Mark {
+    nodes: usize,
+    found: [usize; CLASSES],
+}
+
+/// The spans of a token list that grows and shrinks at its end.
+pub struct Chart {
+    rules: Rules,
+    tokens: Vec<u16>,
+    nodes: Vec<Node>,
+    found: [Vec<Found>; CLASSES],
+    /// The span from `i` to `j` stands at `j (j - 1) / 2 + i`.
+    spans: Vec<Span>,
+    /// The ends of the expressions that begin at a token, and those of the types.
+    ends: Vec<[Vec<usize>; 2]>,
+    marks: Vec<Mark>,
+}
+
+impl Chart {
+    pub fn new(rules: Rules) -> Self {
+        Chart {
+            rules,
+            tokens: Vec::new(),
+            nodes: Vec::new(),
+            found: [(); CLASSES].map(|()| Vec::new()),
+            spans: Vec::new(),
+            ends: Vec::new(),
+            marks: Vec::new(),
+        }
+    }
+
+    pub fn tokens(&self) -> &[u16] {
+        &self.tokens
+    }
+
+    /// Another token at the end.
+    pub fn push(&mut self, code: u16) {
+        let found = [0, 1, 2, 3].map(|class| self.found[class].len());
+        self.marks.push(Mark { nodes: self.nodes.len(), found });
+        let at = self.tokens.len();
+        self.tokens.push(code);
+        self.spans.resize(self.spans.len() + at + 1, [(0, 0); CLASSES]);
+        if self.ends.len() == at {
+            self.ends.push([Vec::new(), Vec::new()]);
+        }
+        for from in (0..=at).rev() {
+            self.fill(from, at + 1);
+        }
+    }
+
+    /// The last token goes.
+    pub fn pop(&mut self) {
+        let mark = self.marks.pop().expect("a token");
+        let to = self.tokens.len();
+        self.tokens.pop();
+        self.nodes.truncate(mark.nodes);
+        for (found, length) in self.found.iter_mut().zip(mark.found) {
+            found.truncate(length);
+        }
+        self.spans.truncate(self.spans.len() - to);
+        for ends in self.ends[..to].iter_mut().flatten() {
+            if ends.last() == Some(&to) {
+                ends.pop();
+            }
+        }
+    }
+
+    /// Another list.
+    pub fn read(&mut self, tokens: &[u16]) {
+        while !self.tokens.is_empty() {
+            self.pop();
+        }
+        for &code in tokens {
+            self.push(code);
+        }
+    }
+
+    /// What was found for a span.
+    fn of(&self, class: Class, from: usize, to: usize) -> std::ops::Range<usize> {
+        if from >= to {
+            return 0..0;
+        }
+        let (start, end) = self.spans[to * (to - 1) / 2 + from][class as usize];
+        start as usize..end as usize
+    }
+
+    fn at(&self, class: Class, index: usize) -> Found {
+        self.found[class as usize][index]
+    }
+
+    /// Adds what a span can be, if it was not found before.
+    fn add(&mut self, class: Class, start: usize, node: Node, level: Level, end: End) {
+        let before = &self.found[class as usize][start..];
+        let same = |found: &Found| {
+            (found.level, found.end) == (level, end)
+                && self.equal_nodes(self.nodes[found.tree as usize], node)
+        };
+        if before.iter().any(same) {
+            return;
+        }
+        let tree = self.nodes.len() as u32;
+        self.nodes.push(node);
+        self.found[class as usize].push(Found { tree, level, end });
+    }
+
+    /// Adds an expression in parentheses, which leave no node.
+    fn add_group(&mut self, start: usize, inner: Found) {
+        if self.rules.has(Change::GroupsLeaveNodes) {
+            let node = Node { form: forms::PAREN, detail: 0, operands: [Some(inner.tree), None] };
+            return self.add(Class::Expression, start, node, TIGHTEST, End::Other);
+        }
+        let same = |found: &Found| {
+            (found.level, found.end) == (TIGHTEST, End::Other) && self.equal(found.tree, inner.tree)
+        };
+        if !self.found[Class::Expression as usize][start..].iter().any(same) {
+            let found = Found { tree: inner.tree, level: TIGHTEST, end: End::Other };
+            self.found[Class::Expression as usize].push(found);
+        }
+    }
+
+    fn equal(&self, one: u32, other: u32) -> bool {
+        one == other || self.equal_nodes(self.nodes[one as usize], self.nodes[other as usize])
+    }
+
+    fn equal_nodes(&self, one: Node, other: Node) -> bool {
+        let same = |operands: (Option<u32>, Option<u32>)| match operands {
+            (None, None) => true,
+            (Some(one), Some(other)) => self.equal(one, other),
+            _ => false,
+        };
+        (one.form, one.detail) == (other.form, other.detail)
+            && one.operands.into_iter().zip(other.operands).all(same)
+    }
+
+    /// Finds all that a span can be, when all shorter spans with its end and all
+    /// spans with an earlier end are done.
+    fn fill(&mut self, from: usize, to: usize) {
+        let starts = [0, 1, 2, 3].map(|class| self.found[class].len());
+        self.expressions(from, to, starts[Class::Expression as usize]);
+        self.types(from, to, starts[Class::Type as usize]);
+        // Lists are asked for behind an opening and behind a comma only.
+        let before = from.checked_sub(1).map(|before| self.tokens[before]);
+        if matches!(before, Some(OPEN | COMMA)) {
+            self.lists(Class::Expression, Class::ExpressionList, from, to, starts);
+        }
+        if matches!(before, Some(LT | COMMA)) {
+            self.lists(Class::Type, Class::TypeList, from, to, starts);
+        }
+        for (class, start) in starts.into_iter().enumerate() {
+            let end = self.found[class].len();
+            self.spans[to * (to - 1) / 2 + from][class] = (start as u32, end as u32);
+            if class < 2 && end > start {
+                self.ends[from][class].push(to);
+            }
+        }
+    }
+
+    /// The expressions of a span.
+    fn expressions(&mut self, from: usize, to: usize, start: usize) {
+        use Class::Expression;
+        let (first, last) = (self.tokens[from], self.tokens[to - 1]);
+        if to - from == 1 {
+            let form = match first {
+                NAME => forms::PATH,
+                LITERAL => forms::LIT,
+                _ => return,
+            };
+            let node = Node { form, detail: 0, operands: [None, None] };
+            return self.add(Expression, start, node, TIGHTEST, End::Other);
+        }
+        let level = self.rules.level(PREFIX);
+        if let Some((form, detail)) = self.rules.prefix(first) {
+            for index in self.of(Expression, from + 1, to) {
+                let operand = self.at(Expression, index);
+                if operand.level >= PREFIX {
+                    let node = Node { form, detail, operands: [Some(operand.tree), None] };
+                    self.add(Expression, start, node, level, operand.end);
+                }
+            }
+        }
+        if first == 5 && self.rules.has(Change::AndIsTwoReferences) {
+            for index in self.of(Expression, from + 1, to) {
+                let operand = self.at(Expression, index);
+                if operand.level >= PREFIX {
+                    let inner = self.nodes.len() as u32;
+                    let reference = |tree| Node {
+                        form: forms::REFERENCE,
+                        detail: 0,
+                        operands: [Some(tree), None],
+                    };
+                    self.nodes.push(reference(operand.tree));
+                    self.add(Expression, start, reference(inner), PREFIX, operand.end);
+                }
+            }
+        }
+        if (first, last) == (OPEN, CLOSE) {
+            for index in self.of(Expression, from + 1, to - 1) {
+                let inner = self.at(Expression, index);
+                self.add_group(start, inner);
+            }
+        }
+        for place in 0..self.ends[from][0].len() {
+            let cut = self.ends[from][0][place];
+            for index in self.of(Expression, from, cut) {
+                let left = self.at(Expression, index);
+                self.followed(left, cut, to, start);
+            }
+        }
+    }
+
+    /// The expressions that an expression begins which ends at a cut.
+    fn followed(&mut self, left: Found, cut: usize, to: usize, start: usize) {
+        use Class::{Expression, Type};
+        let code = self.tokens[cut];
+        let closed = |tokens: &[u16], opening: usize, closing: u16| {
+            opening + 1 < to && tokens[to - 1] == closing
+        };
+        if let Some(infix) = self.rules.infix(code) {
+            let barred = left.end == End::TypeName && self.rules.not_after_type_name(code);
+            if left.level < infix.left || barred {
+                return;
+            }
+            for index in self.of(Expression, cut + 1, to) {
+                let right = self.at(Expression, index);
+                if right.level >= infix.right {
+                    let operands = [Some(left.tree), Some(right.tree)];
+                    let node = Node { form: infix.form, detail: infix.detail, operands };
+                    self.add(Expression, start, node, infix.level, right.end);
+                }
+            }
+            return;
+        }
+        if code == AS {
+            let level = self.rules.level(CAST);
+            if left.level >= level {
+                for index in self.of(Type, cut + 1, to) {
+                    let ty = self.at(Type, index);
+                    let operands = [Some(left.tree), Some(ty.tree)];
+                    let node = Node { form: forms::CAST, detail: 0, operands };
+                    self.add(Expression, start, node, level, ty.end);
+                }
+            }
+            return;
+        }
+        if left.level < TIGHTEST {
+            return;
+        }
+        let one = |form, detail| Node { form, detail, operands: [Some(left.tree), None] };
+        match code {
+            QUESTION if cut + 1 == to => {
+                self.add(Expression, start, one(forms::TRY, 0), TIGHTEST, End::Other);
+            }
+            DOT if cut + 2 == to => {
+                let (node, end) = match self.tokens[cut + 1] {
+                    NAME => (one(forms::FIELD, 0), End::DotName),
+                    NUMBERED => (one(forms::FIELD, 1), End::Other),
+                    AWAIT => (one(forms::AWAIT, 0), End::Other),
+                    _ => return,
+                };
+                self.add(Expression, start, node, TIGHTEST, end);
+            }
+            DOT if closed(&self.tokens, cut + 2, CLOSE)
+                && self.tokens[cut + 1..cut + 3] == [NAME, OPEN] =>
+            {
+                self.called(forms::METHOD_CALL, left, cut + 3, to - 1, start);
+            }
+            OPEN if closed(&self.tokens, cut, CLOSE) => {
+                let barred = match left.end {
+                    End::DotName => !self.rules.has(Change::FieldIsCalled),
+                    _ => {
+                        self.tokens[cut - 1] == NUMBERED
+                            && self.rules.has(Change::NumberedIsNotCalled)
+                    }
+                };
+                if !barred {
+                    self.called(forms::CALL, left, cut + 1, to - 1, start);
+                }
+            }
+            OPEN_BRACKET if closed(&self.tokens, cut, CLOSE_BRACKET) => {
+                for index in self.of(Expression, cut + 1, to - 1) {
+                    let inner = self.at(Expression, index);
+                    let operands = [Some(left.tree), Some(inner.tree)];
+                    let node = Node { form: forms::INDEX, detail: 0, operands };
+                    self.add(Expression, start, node, TIGHTEST, End::Other);
+                }
+            }
+            _ => {}
+        }
+    }
+
+    /// The calls of an expression with the arguments of a span, which may be empty.
+    fn called(&mut self, form: u16, callee: Found, from: usize, to: usize, start: usize) {
+        use Class::{Expression, ExpressionList};
+        let add = |chart: &mut Chart, arguments| {
+            let node = Node { form, detail: 0, operands: [Some(callee.tree), arguments] };
+            chart.add(Expression, start, node, TIGHTEST, End::Other);
+        };
+        if from == to && !self.rules.has(Change::NoEmptyArguments) {
+            add(self, None);
+        }
+        for index in self.of(ExpressionList, from, to) {
+            let list = self.at(ExpressionList, index);
+            add(self, Some(list.tree));
+        }
+    }
+
+    /// The types of a span.
+    fn types(&mut self, from: usize, to: usize, start: usize) {
+        use Class::{Type, TypeList};
+        let (first, last) = (self.tokens[from], self.tokens[to - 1]);
+        if to - from == 1 {
+            let (form, detail, end) = match first {
+                NAME => (forms::TYPE_PATH, 1, End::TypeName),
+                UNDERSCORE => (forms::TYPE_INFER, 0, End::Other),
+                NOT => (forms::TYPE_NEVER, 0, End::Other),
+                _ => return,
+            };
+            let node = Node { form, detail, operands: [None, None] };
+            return self.add(Type, start, node, TIGHTEST, end);
+        }
+        if let Some((form, detail)) = self.rules.type_prefix(first) {
+            for index in self.of(Type, from + 1, to) {
+                let operand = self.at(Type, index);
+                let node = Node { form, detail, operands: [Some(operand.tree), None] };
+                self.add(Type, start, node, TIGHTEST, operand.end);
+            }
+        }
+        if to - from >= 3 && (first, self.tokens[from + 1], last) == (NAME, LT, GT) {
+            let end = match self.rules.has(Change::NoLessAfterTypeArguments) {
+                true => End::TypeName,
+                false => End::Other,
+            };
+            let add = |chart: &mut Chart, arguments| {
+                let operands = [None, arguments];
+                let node = Node { form: forms::TYPE_PATH, detail: 2, operands };
+                chart.add(Type, start, node, TIGHTEST, end);
+            };
+            if to - from == 3 && !self.rules.has(Change::NoEmptyTypeArguments) {
+                add(self, None);
+            }
+            for index in self.of(TypeList, from + 2, to - 1) {
+                let list = self.at(TypeList, index);
+                add(self, Some(list.tree));
+            }
+        }
+    }
+
+    /// The lists of a span: an item, or an item, a comma and a list.
+    fn lists(
+        &mut self,
+        class: Class,
+        list: Class,
+        from: usize,
+        to: usize,
+        starts: [usize; CLASSES],
+    ) {
+        let start = starts[list as usize];
+        let link =
+            |item: Found, next| Node { form: LINK, detail: 0, operands: [Some(item.tree), next] };
+        for index in starts[class as usize]..self.found[class as usize].len() {
+            let item = self.at(class, index);
+            self.add(list, start, link(item, None), TIGHTEST, End::Other);
+        }
+        for place in 0..self.ends[from][class as usize].len() {
+            let cut = self.ends[from][class as usize][place];
+            if self.tokens[cut] != COMMA {
+                continue;
+            }
+            for index in self.of(class, from, cut) {
+                let item = self.at(class, index);
+                if cut + 1 == to && self.rules.has(Change::TrailingComma) {
+                    self.add(list, start, link(item, None), TIGHTEST, End::Other);
+                }
+                for index in self.of(list, cut + 1, to) {
+                    let rest = self.at(list, index);
+                    self.add(list, start, link(item, Some(rest.tree)), TIGHTEST, End::Other);
+                }
+            }
+        }
+    }
+
+    /// All readings of the list.
+    fn trees(&self) -> Vec<u32> {
+        let mut trees: Vec<u32> = Vec::new();
+        for index in self.of(Class::Expression, 0, self.tokens.len()) {
+            let tree = self.at(Class::Expression, index).tree;
+            if !trees.iter().any(|&other| self.equal(other, tree)) {
+                trees.push(tree);
+            }
+        }
+        trees
+    }
+
+    /// All readings of the list as node tables, parents before operands and the
+    /// first operand's nodes before the second's.
+    pub fn readings(&self) -> Vec<Vec<u16>> {
+        self.trees().into_iter().map(|tree| self.table(tree)).collect()
+    }
+
+    /// Whether there is no reading.
+    pub fn is_unread(&self) -> bool {
+        self.of(Class::Expression, 0, self.tokens.len()).is_empty()
+    }
+
+    fn table(&self, root: u32) -> Vec<u16> {
+        let mut cells = Vec::new();
+        let mut waiting = vec![(root, None)];
+        while let Some((tree, owner)) = waiting.pop() {
+            let node = self.nodes[tree as usize];
+            let start = cells.len();
+            if let Some(place) = owner {
+                cells[place] = (start / 5 + 1) as u16;
+            }
+            cells.extend([node.form, 0, node.detail, 0, 0]);
+            for place in [1, 0] {
+                if let Some(operand) = node.operands[place] {
+                    waiting.push((operand, Some(start + 3 + place)));
+                }
+            }
+        }
+        cells
+    }
+}
+
+#[cfg(test)]
+mod tests {
+    use super::*;
+    use forms::{ASSIGN, BINARY, CALL, CAST, FIELD, METHOD_CALL, PATH, UNARY};
+
+    /// The forms of the only reading in the order of their numbers, none if there is
+    /// no reading. `a` is a name, and words are parted by spaces.
+    fn forms_of(text: &str) -> Option<Vec<u16>> {
+        let tokens: Vec<u16> = text.split_whitespace().map(code).collect();
+        let mut chart = Chart::new(Rules::new(None));
+        chart.read(&tokens);
+        let readings = chart.readings();
+        assert!(readings.len() < 2, "{text}");
+        readings.first().map(|table| table.chunks(5).map(|node| node[0]).collect())
+    }
+
+    fn code(word: &str) -> u16 {
+        let spelled = if word == "a" { "x" } else { word };
+        (0..CODES).find(|&code| text(&[code]) == spelled).expect("a token")
+    }
+
+    #[test]
+    fn sums_lean_left_and_assignments_right() {
+        assert_eq!(forms_of("a - a - a"), Some(vec![BINARY, BINARY, PATH, PATH, PATH]));
+        assert_eq!(forms_of("a = a = a"), Some(vec![ASSIGN, PATH, ASSIGN, PATH, PATH]));
+        assert_eq!(forms_of("a - ( a - a )"), Some(vec![BINARY, PATH, BINARY, PATH, PATH]));
+    }
+
+    #[test]
+    fn comparisons_do_not_chain() {
+        assert_eq!(forms_of("a < a == a"), None);
+        assert_eq!(forms_of("( a < a ) == a"), Some(vec![BINARY, BINARY, PATH, PATH, PATH]));
+    }
+
+    #[test]
+    fn less_after_a_type_name_opens_arguments() {
+        assert_eq!(forms_of("a as a < a"), None);
+        assert_eq!(forms_of("a as a << a"), None);
+        assert_eq!(forms_of("- a as & a < a"), None);
+        assert_eq!(forms_of("a as a <= a"), forms_of("( a as a ) < a"));
+        assert_eq!(forms_of("a as a < > < a").map(|forms| forms.len()), Some(5));
+    }
+
+    #[test]
+    fn dot_name_parenthesis_calls_a_method() {
+        assert_eq!(forms_of("a . a ( )"), Some(vec![METHOD_CALL, PATH]));
+        assert_eq!(forms_of("( a . a ) ( )"), Some(vec![CALL, FIELD, PATH]));
+        assert_eq!(forms_of("a . 0 ( )"), Some(vec![CALL, FIELD, PATH]));
+    }
+
+    #[test]
+    fn prefixes_hold_less_than_dots_and_more_than_casts() {
+        assert_eq!(forms_of("- a . a"), Some(vec![UNARY, FIELD, PATH]));
+        assert_eq!(forms_of("- a as a"), Some(vec![CAST, UNARY, PATH, forms::TYPE_PATH]));
+    }
+
+    #[test]
+    fn lists_have_commas_between_items_only() {
+        assert_eq!(forms_of("a ( a , )"), None);
+        assert_eq!(forms_of("a ( , )"), None);
+        assert_eq!(forms_of(""), None);
+        assert_eq!(forms_of("a ( a , a )").map(|forms| forms.len()), Some(6));
+    }
+}

@@ -1,0 +1,224 @@
+//! Token lists: the verdict on each, and our reader's beside it.
+
+use crate::chart::Chart;
+use crate::codes::{text, CODES};
+use crate::makers;
+use crate::ours::{numbers, Ours};
+use crate::rules::Rules;
+use crate::verdict::{self, Verdict, MOST_NODES};
+use oracle::generate::Dice;
+use std::time::Instant;
+
+/// One code for each kind of behaviour: `-`, `*`, `&&`, `&`, `<<`, `==`, `<`, `>`,
+/// `+=`, `=`, `!`, `as`, name, dot, parentheses, brackets, comma, `?`, `_`, numbered
+/// member.
+const KINDS: [u16; 22] =
+    [1, 2, 5, 8, 10, 12, 13, 17, 18, 28, 29, 31, 32, 34, 35, 36, 37, 38, 39, 40, 43, 44];
+
+/// `-`, `<`, `>`, `=`, `as`, name, dot, parentheses, brackets, comma.
+const NARROW: [u16; 12] = [1, 13, 17, 28, 31, 32, 34, 35, 36, 37, 38, 39];
+
+/// What types end in and what follows them: `&`, `<<`, `<`, `>`, `as`, name, comma,
+/// parentheses.
+const TYPES: [u16; 9] = [8, 10, 13, 17, 31, 32, 35, 36, 39];
+
+/// What came of a set of lists.
+#[derive(Default)]
+pub struct Tally {
+    pub lists: u64,
+    /// By reply, 0 and 14 to 16.
+    pub replies: [u64; 17],
+    pub different: u64,
+    pub longest: usize,
+    /// Of all lists and verdicts in their order.
+    pub digest: u64,
+    shown: Vec<(usize, String)>,
+}
+
+impl Tally {
+    /// Holds our reader to a verdict; several readings are a difference of their own.
+    pub fn list(
+        &mut self,
+        ours: &mut Ours,
+        tokens: &[u16],
+        verdict: Result<Verdict, Vec<Vec<u16>>>,
+    ) {
+        self.lists += 1;
+        self.longest = self.longest.max(tokens.len());
+        let verdict = match verdict {
+            Ok(verdict) => verdict,
+            Err(readings) => {
+                return self.differs(&format!("{} readings", readings.len()), tokens);
+            }
+        };
+        self.replies[usize::from(*verdict.as_ref().err().unwrap_or(&0))] += 1;
+        self.digested(tokens.len() as u16);
+        tokens.iter().for_each(|&code| self.digested(code));
+        match &verdict {
+            Ok(table) => table.iter().for_each(|&cell| self.digested(cell)),
+            Err(refusal) => self.digested(1_000 + refusal),
+        }
+        let lent = 5 * MOST_NODES + self.lists as usize % 7;
+        if let Some(ours) = ours.read(tokens, lent) {
+            if ours != verdict {
+                let reply = |verdict: &Verdict| verdict.as_ref().err().copied().unwrap_or(0);
+                let what = format!("we reply {}, not {}", reply(&ours), reply(&verdict));
+                self.differs(&what, tokens);
+            }
+        }
+    }
+
+    fn digested(&mut self, number: u16) {
+        self.digest = (self.digest ^ u64::from(number)).wrapping_mul(0x0000_0100_0000_01B3);
+        self.digest ^= self.digest >> 29;
+    }
+
+    fn differs(&mut self, what: &str, tokens: &[u16]) {
+        self.different += 1;
+        let mut spelled = text(tokens);
+        spelled.truncate(200);
+        self.shown.push((tokens.len(), format!("{what}: {spelled}")));
+        self.shown.sort_by_key(|shown| shown.0);
+        self.shown.truncate(3);
+    }
+
+    fn print(&self, name: &str, start: Instant) {
+        println!(
+            "{name}: lists {}, longest {}, read {}, by 14, 15, 16: {}, {}, {}; different {}, digest \
+             {:016x}, {} s",
+            self.lists,
+            self.longest,
+            self.replies[0],
+            self.replies[14],
+            self.replies[15],
+            self.replies[16],
+            self.different,
+            self.digest,
+            start.elapsed().as_secs(),
+        );
+        for (_, shown) in &self.shown {
+            println!("  {shown}");
+        }
+    }
+}
+
+/// All lists of up to so many tokens over some codes, in the order of their codes.
+pub fn each_list(chart: &mut Chart, codes: &[u16], length: usize, visit: &mut impl FnMut(&Chart)) {
+    visit(chart);
+    if length > 0 {
+        for &code in codes {
+            chart.push(code);
+            each_list(chart, codes, length - 1, visit);
+            chart.pop();
+        }
+    }
+}
+
+/// The sets that are gone through whole.
+pub fn sets(smaller: usize) -> Vec<(String, Vec<u16>, usize)> {
+    let every: Vec<u16> = (0..CODES).collect();
+    let set = |name: &str, codes: &[u16], most: usize| {
+        let most = most - smaller;
+        (format!("{} {name}, up to {most} tokens", codes.len()), codes.to_vec(), most)
+    };
+    vec![
+        set("codes", &every, 5),
+        set("kinds", &KINDS, 6),
+        set("narrow", &NARROW, 7),
+        set("of types", &TYPES, 8),
+    ]
+}
+
+/// All lists of few tokens, random ones, and constructed ones. Gives how many
+/// differ.
+pub fn compare(ours: &mut Ours, smaller: usize, lists: u64, seed: u64) -> u64 {
+    let mut chart = Chart::new(Rules::new(None));
+    let mut different = 0;
+    for (name, codes, most) in sets(smaller) {
+        let (mut tally, start) = (Tally::default(), Instant::now());
+        each_list(&mut chart, &codes, most, &mut |chart| {
+            tally.list(ours, chart.tokens(), verdict::verdict(chart));
+        });
+        tally.print(&name, start);
+        different += tally.different;
+    }
+    for (most_tokens, lists) in [(40, lists), (200, lists / 40)] {
+        let (mut tally, start) = (Tally::default(), Instant::now());
+        for index in 0..lists {
+            let tokens = makers::random(&mut Dice::new(seed, index), seed, most_tokens);
+            tally.list(ours, &tokens, verdict::of(&mut chart, &tokens));
+        }
+        tally.print(&format!("random, about {most_tokens} tokens"), start);
+        different += tally.different;
+    }
+    let (mut tally, start) = (Tally::default(), Instant::now());
+    for (tokens, known) in makers::constructed(seed) {
+        // The chart grows with the square of the length.
+        if tokens.len() <= 1_000 {
+            let found = verdict::of(&mut chart, &tokens);
+            assert!(found.as_ref() == Ok(&known), "{}: {found:?}, not {known:?}", text(&tokens));
+        }
+        tally.list(ours, &tokens, Ok(known));
+    }
+    tally.print("constructed", start);
+    different + tally.different + short_tables(ours) + damaged_numbers(ours, seed)
+}
+
+/// Bytes on the standard input of the program `reading`, some with a malformed
+/// number, which is met by 14.
+fn damaged_numbers(ours: &mut Ours, seed: u64) -> u64 {
+    if ours.is_lent() || !ours.is_slow() {
+        return 0;
+    }
+    let mut chart = Chart::new(Rules::new(None));
+    let (mut malformed, mut different) = (0, 0);
+    for index in 0..1_000 {
+        let dice = &mut Dice::new(seed + 3, index);
+        let mut bytes = numbers(&makers::random(dice, seed, 40));
+        let at = dice.below(bytes.len() + 1);
+        let behind: &[u8] =
+            dice.pick(&[&[0x80], &[0x80, 0], &[0xFF, 0xFF, 4], &[0xA0, 0], &[0x20]]);
+        bytes.splice(at..at, behind.iter().copied());
+        let verdict = match codes_of(&bytes) {
+            Some(tokens) => verdict::of(&mut chart, &tokens).expect("at most one reading"),
+            None => Err(14),
+        };
+        malformed += u64::from(codes_of(&bytes).is_none());
+        if ours.read_file(&bytes) != Some(verdict) {
+            different += 1;
+            println!("  we read otherwise: {bytes:?}");
+        }
+    }
+    println!("bytes: lists 1000, malformed {malformed}, different {different}");
+    different
+}
+
+/// The numbers that bytes hold, none if one is malformed: a number is a run that
+/// its first byte without the high bit ends.
+fn codes_of(bytes: &[u8]) -> Option<Vec<u16>> {
+    let number = |run: &[u8]| {
+        let (&last, others) = run.split_last()?;
+        if last & 0x80 != 0 || last == 0 && !others.is_empty() {
+            return None;
+        }
+        let add =
+            |value: u32, group: &u8| value.checked_mul(128)?.checked_add(u32::from(group & 0x7F));
+        run.iter().rev().try_fold(0, add).and_then(|value| u16::try_from(value).ok())
+    };
+    bytes.split_inclusive(|byte| byte & 0x80 == 0).map(number).collect()
+}
+
+/// A table of less than 4,096 nodes meets 12 before anything else.
+fn short_tables(ours: &mut Ours) -> u64 {
+    if !ours.is_lent() {
+        return 0;
+    }
+    let mut different = 0;
+    for lent in [0, 5, 5 * MOST_NODES - 1] {
+        for list in [&[][..], &[32], &[32, 0, 32], &[0], &[46], &[36; 24_577]] {
+            different += u64::from(ours.read(list, lent) != Some(Err(12)));
+        }
+    }
+    println!("short tables: lists 18, different {different}");
+    different
+}

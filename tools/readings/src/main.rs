@@ -1,0 +1,72 @@
+//! Every reading of a token list, and what is held against them.
+
+mod ast;
+mod changes;
+mod chart;
+mod codes;
+mod lists;
+mod makers;
+mod ours;
+mod plain;
+mod record;
+mod rules;
+mod rustc;
+mod trees;
+mod verdict;
+mod written;
+
+use ours::Ours;
+use std::process::ExitCode;
+
+const USAGE: &str = "usage:
+  readings trees [OURS [SEED]]   what is written for plain trees, beside its readings
+  readings lists [OURS [SEED]]   token lists and their verdicts
+  readings rustc TREES PAIRS [SEED]   rustc beside the readings, so many random trees and pairs
+  readings changes               each rule changed: how many trees and lists tell
+  readings record                writes crates/recorded/data/readings and tokens
+OURS: absent, programs (target/bin/tokens and target/bin/reading), or with the feature library
+      library (the static library of answers)";
+
+fn main() -> ExitCode {
+    let arguments: Vec<String> = std::env::args().skip(1).collect();
+    let arguments: Vec<&str> = arguments.iter().map(String::as_str).collect();
+    match run(&arguments) {
+        None => {
+            eprintln!("{USAGE}");
+            ExitCode::FAILURE
+        }
+        Some(different) => {
+            println!("different {different}");
+            ExitCode::from(u8::from(different > 0))
+        }
+    }
+}
+
+/// How many differences a command finds; none if there is no such command.
+fn run(arguments: &[&str]) -> Option<u64> {
+    let number = |text: &&str| text.parse::<u64>().ok();
+    match arguments {
+        ["changes"] => Some(changes::try_all()),
+        ["record"] => {
+            record::record();
+            Some(0)
+        }
+        ["rustc", trees, pairs, rest @ ..] => {
+            let seed = rest.first().map_or(Some(1), number)?;
+            Some(rustc::compare(number(trees)?, number(pairs)?, seed))
+        }
+        [what, rest @ ..] => {
+            let mut ours = Ours::named(rest.first().unwrap_or(&"absent"))?;
+            let seed = rest.get(1).map_or(Some(1), number)?;
+            // A program takes a thousand times as long as a function.
+            match (*what, ours.is_slow()) {
+                ("trees", false) => Some(trees::compare(&mut ours, 0, 100_000, seed)),
+                ("trees", true) => Some(trees::compare(&mut ours, 2, 2_000, seed)),
+                ("lists", false) => Some(lists::compare(&mut ours, 0, 1_000_000, seed)),
+                ("lists", true) => Some(lists::compare(&mut ours, 3, 20_000, seed)),
+                _ => None,
+            }
+        }
+        [] => None,
+    }
+}

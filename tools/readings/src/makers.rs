@@ -1,0 +1,474 @@
+//! Makers of token lists: random ones, and ones whose verdict is known from how
+//! they are put together.
+
+use crate::codes::*;
+use crate::plain;
+use crate::verdict::{within_bounds, Verdict, LONGEST_PATH, MOST_NODES};
+use crate::written::{without_parens, written};
+use oracle::forms;
+use oracle::generate::{Dice, Family};
+use oracle::table::NodeTable;
+
+/// A list with up to about so many tokens.
+pub fn random(dice: &mut Dice, seed: u64, most_tokens: usize) -> Vec<u16> {
+    match dice.below(5) {
+        0..=2 => edited(dice, seed, most_tokens),
+        3 => walked(dice, most_tokens),
+        _ => (0..dice.between(1, 12)).map(|_| dice.below(CODES.into()) as u16).collect(),
+    }
+}
+
+/// What is written for a plain tree, with up to three edits.
+fn edited(dice: &mut Dice, seed: u64, most_tokens: usize) -> Vec<u16> {
+    let tree = drawn(dice, seed, most_tokens);
+    let mut tokens = written(&tree).tokens;
+    for _ in 0..dice.below(4) {
+        edit(dice, &mut tokens);
+    }
+    tokens
+}
+
+/// A random plain tree with up to so many tokens.
+pub fn drawn(dice: &mut Dice, seed: u64, most_tokens: usize) -> NodeTable {
+    loop {
+        let at = dice.below(1 << 40) as u64;
+        let tree = plain::random(seed.wrapping_add(at), most_tokens as u16).next();
+        let tree = tree.expect("there are always more");
+        if written(&tree).tokens.len() <= most_tokens {
+            return tree;
+        }
+    }
+}
+
+fn edit(dice: &mut Dice, tokens: &mut Vec<u16>) {
+    let length = tokens.len();
+    if length == 0 {
+        tokens.push(NAME);
+        return;
+    }
+    let at = dice.below(length);
+    let code = match dice.below(3) {
+        0 => dice.pick(&[LT, SHL, GT, OPEN, CLOSE, COMMA, NAME, DOT, AS, SUB, EQUALS]),
+        _ => dice.below(CODES.into()) as u16,
+    };
+    match dice.below(8) {
+        0 => {
+            tokens.remove(at);
+        }
+        1 => tokens.insert(at, code),
+        2 => tokens[at] = code,
+        3 => tokens.swap(at, (at + 1) % length),
+        4 => {
+            // A pair round some tokens.
+            let to = dice.between(at, length);
+            tokens.insert(to, CLOSE);
+            tokens.insert(at, OPEN);
+        }
+        5 => {
+            // One pair of parentheses goes, matched or not.
+            let opening = tokens.iter().position(|&code| code == OPEN);
+            let closing = tokens.iter().rposition(|&code| code == CLOSE);
+            if let (Some(opening), Some(closing)) = (opening, closing) {
+                tokens.remove(opening.max(closing));
+                tokens.remove(opening.min(closing));
+            }
+        }
+        6 => {
+            // Another operator.
+            let operators: Vec<usize> = (0..length).filter(|&at| tokens[at] <= EQUALS).collect();
+            if !operators.is_empty() {
+                let at = dice.pick(&operators);
+                tokens[at] = dice.below(usize::from(EQUALS) + 1) as u16;
+            }
+        }
+        _ => {
+            let to = dice.between(at, length.min(at + 6));
+            let again = tokens[at..to].to_vec();
+            tokens.splice(at..at, again);
+        }
+    }
+}
+
+/// Tokens that mostly may follow each other.
+fn walked(dice: &mut Dice, most_tokens: usize) -> Vec<u16> {
+    let length = dice.between(1, most_tokens);
+    let mut tokens = Vec::new();
+    let mut open = Vec::new();
+    let mut operand = true;
+    while tokens.len() < length {
+        if dice.percent(2) {
+            tokens.push(dice.below(CODES.into()) as u16);
+        }
+        if operand {
+            match dice.below(10) {
+                0 => tokens.push(dice.pick(&[SUB, MUL, NOT, BIT_AND, AND_MUT])),
+                1 => {
+                    tokens.push(OPEN);
+                    open.push(CLOSE);
+                }
+                2 => {
+                    tokens.push(LITERAL);
+                    operand = false;
+                }
+                _ => {
+                    tokens.push(NAME);
+                    operand = false;
+                }
+            }
+            continue;
+        }
+        match dice.below(12) {
+            0..=2 => {
+                tokens.push(dice.below(usize::from(EQUALS) + 1) as u16);
+                operand = true;
+            }
+            3 | 4 => {
+                tokens.push(AS);
+                some_type(dice, &mut tokens, 3);
+            }
+            5 => tokens.extend([DOT, dice.pick(&[NAME, NAME, NUMBERED, crate::codes::AWAIT])]),
+            6 => tokens.push(QUESTION),
+            7 => {
+                tokens.extend([OPEN, CLOSE]);
+            }
+            8 => {
+                let (opening, closing) = dice.pick(&[(OPEN, CLOSE), (OPEN_BRACKET, CLOSE_BRACKET)]);
+                tokens.push(opening);
+                open.push(closing);
+                operand = true;
+            }
+            9 if !open.is_empty() => {
+                tokens.push(COMMA);
+                operand = true;
+            }
+            _ => tokens.extend(open.pop()),
+        }
+    }
+    if operand {
+        tokens.push(NAME);
+    }
+    tokens.extend(open.into_iter().rev());
+    tokens
+}
+
+fn some_type(dice: &mut Dice, tokens: &mut Vec<u16>, depth: usize) {
+    match dice.below(8) {
+        0 if depth > 0 => {
+            tokens.push(dice.pick(&[BIT_AND, AND_MUT, POINTER_CONST, POINTER_MUT]));
+            some_type(dice, tokens, depth - 1);
+        }
+        1 | 2 if depth > 0 => {
+            tokens.extend([NAME, LT]);
+            for item in 0..dice.below(3) {
+                if item > 0 {
+                    tokens.push(COMMA);
+                }
+                some_type(dice, tokens, depth - 1);
+            }
+            tokens.push(GT);
+        }
+        3 => tokens.push(dice.pick(&[UNDERSCORE, NOT])),
+        _ => tokens.push(NAME),
+    }
+}
+
+/// A node table that is plain, or nearly so, or any tree in any context.
+pub fn table(dice: &mut Dice, seed: u64) -> NodeTable {
+    if dice.percent(10) {
+        return Family::Mixed.tree(seed, dice.below(1 << 40) as u64);
+    }
+    let mut tree = drawn(dice, seed, 60);
+    for _ in 0..dice.below(3) {
+        let node = 5 * dice.below(tree.count.into());
+        match dice.below(12) {
+            0 => tree.context = dice.below(5) as u16,
+            1 => tree.count = dice.pick(&[0, tree.count - 1, tree.count + 1, 4_097]),
+            2 => tree.cells[node] = dice.below(58) as u16,
+            3 => tree.cells[node + 1] = dice.below(4) as u16,
+            4..=7 => tree.cells[node + 2] = dice.below(30) as u16,
+            8 => tree.cells[node + 3] = dice.below(usize::from(tree.count) + 2) as u16,
+            9 => tree.cells[node + 4] = dice.below(usize::from(tree.count) + 2) as u16,
+            // A leaf or an operand's owner becomes another of its kind.
+            _ => {
+                let leaf = tree.cells[node + 3..node + 5] == [0, 0];
+                let others: &[u16] = if leaf {
+                    &[forms::PATH, forms::LIT, forms::BLOCK, forms::TYPE_TUPLE, forms::TYPE_INFER]
+                } else {
+                    &[forms::GROUP, forms::RANGE, forms::LET, forms::RETURN, forms::PAREN]
+                };
+                tree.cells[node] = dice.pick(others);
+                tree.cells[node + 2] = 0;
+            }
+        }
+        if tree.cells.len() < 5 * usize::from(tree.count) || tree.count == 0 {
+            break;
+        }
+    }
+    tree
+}
+
+/// A list with its verdict.
+pub type Constructed = (Vec<u16>, Verdict);
+
+/// A chain of so many nodes: each step puts tokens before and behind the operand.
+struct Nest {
+    before: &'static [u16],
+    behind: &'static [u16],
+    /// Form, detail, and the leaves in its places; the one left free is the operand's.
+    node: (u16, u16),
+    other: Option<(usize, &'static [u16])>,
+}
+
+const PATH_CELLS: [u16; 5] = [forms::PATH, 0, 0, 0, 0];
+const TYPE_CELLS: [u16; 5] = [forms::TYPE_PATH, 0, 1, 0, 0];
+const LINK_TO_PATH: [u16; 10] = [forms::LINK, 0, 0, 2, 0, forms::PATH, 0, 0, 0, 0];
+
+/// Nests of expressions, all written without parentheses.
+const NESTS: [Nest; 14] = [
+    Nest { before: &[SUB], behind: &[], node: (forms::UNARY, 2), other: None },
+    Nest { before: &[AND_MUT], behind: &[], node: (forms::REFERENCE, 1), other: None },
+    Nest { before: &[], behind: &[QUESTION], node: (forms::TRY, 0), other: None },
+    Nest { before: &[], behind: &[DOT, NAME], node: (forms::FIELD, 0), other: None },
+    Nest { before: &[], behind: &[DOT, crate::codes::AWAIT], node: (forms::AWAIT, 0), other: None },
+    Nest { before: &[], behind: &[OPEN, CLOSE], node: (forms::CALL, 0), other: None },
+    Nest {
+        before: &[],
+        behind: &[DOT, NAME, OPEN, NAME, CLOSE],
+        node: (forms::METHOD_CALL, 0),
+        other: Some((1, &LINK_TO_PATH)),
+    },
+    Nest {
+        before: &[],
+        behind: &[OPEN_BRACKET, NAME, CLOSE_BRACKET],
+        node: (forms::INDEX, 0),
+        other: Some((1, &PATH_CELLS)),
+    },
+    Nest {
+        before: &[NAME, OPEN_BRACKET],
+        behind: &[CLOSE_BRACKET],
+        node: (forms::INDEX, 0),
+        other: Some((0, &PATH_CELLS)),
+    },
+    Nest {
+        before: &[],
+        behind: &[SUB, NAME],
+        node: (forms::BINARY, SUB),
+        other: Some((1, &PATH_CELLS)),
+    },
+    Nest {
+        before: &[NAME, EQUALS],
+        behind: &[],
+        node: (forms::ASSIGN, 0),
+        other: Some((0, &PATH_CELLS)),
+    },
+    Nest {
+        before: &[NAME, 26],
+        behind: &[],
+        node: (forms::BINARY, 26),
+        other: Some((0, &PATH_CELLS)),
+    },
+    Nest {
+        before: &[],
+        behind: &[AS, NAME],
+        node: (forms::CAST, 0),
+        other: Some((1, &TYPE_CELLS)),
+    },
+    Nest {
+        before: &[NAME, SUB, OPEN],
+        behind: &[CLOSE],
+        node: (forms::BINARY, SUB),
+        other: Some((0, &PATH_CELLS)),
+    },
+];
+
+/// Cells with all operands further on by so many nodes.
+fn shifted(cells: &[u16], by: usize) -> impl Iterator<Item = u16> + '_ {
+    let operand = move |cell: u16| if cell == 0 { 0 } else { cell + by as u16 };
+    cells
+        .iter()
+        .zip((0..5).cycle())
+        .map(move |(&cell, at)| if at < 3 { cell } else { operand(cell) })
+}
+
+/// A node above the tree of a table, which stands in one of its places beside
+/// another tree.
+fn above(cells: &[u16], (form, detail): (u16, u16), other: Option<(usize, &[u16])>) -> Vec<u16> {
+    let mut table = vec![form, 0, detail, 2, 0];
+    match other {
+        None => table.extend(shifted(cells, 1)),
+        Some((1, other)) => {
+            let nodes = 1 + cells.len() / 5;
+            table[4] = nodes as u16 + 1;
+            table.extend(shifted(cells, 1));
+            table.extend(shifted(other, nodes));
+        }
+        Some((_, other)) => {
+            let nodes = 1 + other.len() / 5;
+            table[4] = nodes as u16 + 1;
+            table.extend(shifted(other, 1));
+            table.extend(shifted(cells, nodes));
+        }
+    }
+    table
+}
+
+impl Nest {
+    /// The nest with so many nodes on its longest path.
+    fn of(&self, path: usize) -> Constructed {
+        let (mut tokens, mut table) = (vec![NAME], PATH_CELLS.to_vec());
+        for _ in 1..path {
+            tokens.splice(0..0, self.before.iter().copied());
+            tokens.extend(self.behind);
+            table = above(&table, self.node, self.other);
+        }
+        (tokens, within_bounds(table))
+    }
+}
+
+/// The same for types, below a Cast.
+fn type_nest(path: usize, arguments: bool) -> Constructed {
+    let mut tokens = vec![NAME];
+    let mut table = TYPE_CELLS.to_vec();
+    for _ in 2..path {
+        if arguments {
+            tokens.splice(0..0, [NAME, LT]);
+            tokens.push(GT);
+            let link = above(&table, (forms::LINK, 0), None);
+            let mut node = above(&link, (forms::TYPE_PATH, 2), None);
+            node[3..5].copy_from_slice(&[0, 2]);
+            table = node;
+        } else {
+            tokens.insert(0, POINTER_MUT);
+            table = above(&table, (forms::TYPE_PTR, 1), None);
+        }
+    }
+    tokens.splice(0..0, [NAME, AS]);
+    (tokens, within_bounds(above(&table, (forms::CAST, 0), Some((0, &PATH_CELLS)))))
+}
+
+/// The links of so many items.
+fn links(items: usize, item: &[u16]) -> Vec<u16> {
+    let mut table = Vec::new();
+    let nodes = 1 + item.len() / 5;
+    for at in 0..items {
+        let by = nodes * at;
+        let next = if at + 1 < items { by + nodes + 1 } else { 0 };
+        table.extend([forms::LINK, 0, 0, by as u16 + 2, next as u16]);
+        table.extend(shifted(item, by + 1));
+    }
+    table
+}
+
+/// A tree called with arguments that make it so many nodes. A `?` behind it mends
+/// an odd number.
+pub fn called(tree: &NodeTable, nodes: usize) -> Option<Constructed> {
+    let mut tokens = vec![OPEN];
+    tokens.extend(written(tree).tokens);
+    tokens.push(CLOSE);
+    let mut table = without_parens(tree);
+    let has = |table: &[u16]| table.len() / 5;
+    if (nodes.checked_sub(has(&table) + 1)?) % 2 == 1 {
+        tokens.push(QUESTION);
+        table = above(&table, (forms::TRY, 0), None);
+    }
+    let arguments = (nodes - has(&table) - 1) / 2;
+    tokens.push(OPEN);
+    for argument in 0..arguments {
+        if argument > 0 {
+            tokens.push(COMMA);
+        }
+        tokens.push(LITERAL);
+    }
+    tokens.push(CLOSE);
+    let links = links(arguments, &[forms::LIT, 0, 0, 0, 0]);
+    let other = (arguments > 0).then_some((1, &links[..]));
+    let table = above(&table, (forms::CALL, 0), other);
+    assert_eq!(has(&table), nodes);
+    Some((tokens, within_bounds(table)))
+}
+
+/// A cast to a type with so many arguments.
+pub fn type_arguments(nodes: usize) -> Constructed {
+    let mut tokens = vec![NAME, AS];
+    let mut room = nodes - 3;
+    if room % 2 == 1 {
+        tokens.push(BIT_AND);
+        room -= 1;
+    }
+    tokens.extend([NAME, LT]);
+    for argument in 0..room / 2 {
+        if argument > 0 {
+            tokens.push(COMMA);
+        }
+        tokens.push(UNDERSCORE);
+    }
+    tokens.push(GT);
+    let mut ty =
+        above(&links(room / 2, &[forms::TYPE_INFER, 0, 0, 0, 0]), (forms::TYPE_PATH, 2), None);
+    ty[3..5].copy_from_slice(&[0, 2]);
+    if tokens[2] == BIT_AND {
+        ty = above(&ty, (forms::TYPE_REFERENCE, 0), None);
+    }
+    let table = above(&ty, (forms::CAST, 0), Some((0, &PATH_CELLS)));
+    assert_eq!(table.len() / 5, nodes);
+    (tokens, within_bounds(table))
+}
+
+/// A name, or one with a prefix, in so many parentheses.
+pub fn grouped(pairs: usize, inner: &[u16]) -> Constructed {
+    const NEGATED: [u16; 10] = [forms::UNARY, 0, 2, 2, 0, forms::PATH, 0, 0, 0, 0];
+    let table = match inner {
+        [NAME] => &PATH_CELLS[..],
+        [SUB, NAME] => &NEGATED[..],
+        _ => panic!("neither {inner:?}"),
+    };
+    let mut tokens = vec![OPEN; pairs];
+    tokens.extend(inner);
+    tokens.extend(vec![CLOSE; pairs]);
+    let verdict = if tokens.len() > MOST { Err(14) } else { within_bounds(table.to_vec()) };
+    (tokens, verdict)
+}
+
+/// Lists at the bounds of 14 and 16, and just below and above them.
+pub fn constructed(seed: u64) -> Vec<Constructed> {
+    let mut lists = Vec::new();
+    for path in [2, LONGEST_PATH - 1, LONGEST_PATH, LONGEST_PATH + 1, LONGEST_PATH + 2, 600, 3_000]
+    {
+        lists.extend(NESTS.iter().map(|nest| nest.of(path)));
+        lists.push(type_nest(path, false));
+        lists.push(type_nest(path, true));
+    }
+    for nodes in MOST_NODES - 3..=MOST_NODES + 3 {
+        lists.push(type_arguments(nodes));
+        for index in 0..12 {
+            let dice = &mut Dice::new(seed, index);
+            let tree = drawn(dice, seed, [40, 400, 4_000][index as usize % 3]);
+            lists.extend(called(&tree, nodes));
+        }
+    }
+    lists.push(type_arguments(10_001));
+    for pairs in [1, 127, 128, 129, 4_096, 12_286, 12_287, 12_288] {
+        lists.push(grouped(pairs, &[NAME]));
+        lists.push(grouped(pairs, &[SUB, NAME]));
+    }
+    for pairs in [1, 128, 4_096, 12_287] {
+        let mut short = grouped(pairs, &[NAME]).0;
+        short.pop();
+        lists.push((short, Err(15)));
+    }
+    // What has no reading however long it is.
+    for length in [MOST - 1, MOST, MOST + 1] {
+        let verdict = if length > MOST { Err(14) } else { Err(15) };
+        for code in [NAME, SUB, OPEN, COMMA, GT] {
+            lists.push((vec![code; length], verdict.clone()));
+        }
+    }
+    for code in [CODES, 47, 127, 128, 255, 256, 16_384, 65_535] {
+        lists.push((vec![code], Err(14)));
+        lists.push((vec![NAME, SUB, code], Err(14)));
+        lists.push((vec![code, SUB, NAME], Err(14)));
+        lists.push((vec![CLOSE, code], Err(14)));
+    }
+    lists.push((Vec::new(), Err(15)));
+    lists
+}

@@ -1,0 +1,187 @@
+//! Token lists with their verdicts and plain trees with their tokens, for the
+//! program `recorded`.
+//!
+//! Records stand one behind the other, all numbers with the low byte first, and
+//! their headers are those of `crates/recorded/data/rows`:
+//!
+//! - u16: how many cells are lent, for the table or for the tokens
+//! - u32: the length in bytes of what is read or written
+//! - u16: the reply, 0 or the refusal
+//! - u16: the context, 0 when refused
+//! - u16: the count, 0 when refused
+//!
+//! Then, in `readings`, the tokens, two bytes each, and when not refused the table,
+//! five cells of u16 for each of so many nodes as the count says. In `tokens`, the
+//! bytes of a tree file, and when not refused so many tokens as the count says, each
+//! a cell of u16.
+
+use crate::chart::Chart;
+use crate::codes::{CODES, MOST, NAME, SUB};
+use crate::lists;
+use crate::makers;
+use crate::plain::PlainTrees;
+use crate::rules::Rules;
+use crate::trees;
+use crate::verdict::{self, Verdict, MOST_NODES};
+use crate::written;
+use oracle::generate::{Dice, Family};
+use oracle::table::{self, NodeTable};
+use std::path::PathBuf;
+
+const SEED: u64 = 21;
+
+/// The cells of the buffers of the program `recorded`.
+const LENT: u16 = 65_535;
+
+/// Records, and how many have which reply.
+#[derive(Default)]
+struct Records {
+    bytes: Vec<u8>,
+    replies: [usize; 17],
+}
+
+impl Records {
+    fn add(&mut self, lent: u16, read: &[u8], reply: &Verdict, each: usize) {
+        let (number, cells) = match reply {
+            Ok(cells) => (0, &cells[..]),
+            Err(refusal) => (*refusal, &[][..]),
+        };
+        self.replies[usize::from(number)] += 1;
+        let (length, count) = (read.len(), cells.len() / each);
+        for number in [lent, length as u16, (length >> 16) as u16, number, 0, count as u16] {
+            self.bytes.extend(number.to_le_bytes());
+        }
+        self.bytes.extend(read);
+        self.bytes.extend(cells.iter().flat_map(|cell| cell.to_le_bytes()));
+    }
+
+    /// Writes the file, and prints what `recorded` must print for it.
+    fn write(self, name: &str) {
+        let folder = PathBuf::from(env!("CARGO_MANIFEST_DIR")).join("../../crates/recorded/data");
+        let size = self.bytes.len();
+        std::fs::write(folder.join(name), self.bytes).expect("crates/recorded/data is there");
+        println!("{name}\naccepted {}", self.replies[0]);
+        let refused = self.replies.iter().enumerate().skip(1).filter(|reply| *reply.1 > 0);
+        for (reply, records) in refused {
+            println!("refused {reply}: {records}");
+        }
+        println!("files {}, different 0", self.replies.iter().sum::<usize>());
+        eprintln!("{size} bytes");
+    }
+}
+
+/// Records a list with a table of so many cells lent.
+fn add_list(records: &mut Records, lent: u16, tokens: &[u16], verdict: &Verdict) {
+    let bytes: Vec<u8> = tokens.iter().flat_map(|code| code.to_le_bytes()).collect();
+    let short = usize::from(lent) < 5 * MOST_NODES;
+    records.add(lent, &bytes, if short { &Err(12) } else { verdict }, 5);
+}
+
+/// Records a tree file with so many cells lent for tokens. Left out are tables that
+/// no file holds.
+fn add_tree(records: &mut Records, lent: u16, tree: &NodeTable) {
+    if !written::fits_a_file(tree) {
+        return;
+    }
+    let reply = written::reply(tree, lent.into());
+    records.add(lent, &table::write(tree), &reply, 1);
+}
+
+pub fn record() {
+    readings().write("readings");
+    tokens().write("tokens");
+}
+
+/// All lists of up to 2 tokens; of those of up to 5 some that have a reading, and
+/// some that lack one and begin like one; random lists; and constructed ones.
+fn readings() -> Records {
+    let mut records = Records::default();
+    let mut chart = Chart::new(Rules::new(None));
+    let one = |chart: &Chart| verdict::verdict(chart).expect("at most one reading");
+    let every: Vec<u16> = (0..CODES).collect();
+    lists::each_list(&mut chart, &every, 2, &mut |chart| {
+        add_list(&mut records, LENT, chart.tokens(), &one(chart));
+    });
+    let (_, kinds, _) = lists::sets(0).swap_remove(1);
+    let (mut read, mut unread) = (0, 0);
+    lists::each_list(&mut chart, &kinds, 5, &mut |chart| {
+        let verdict = one(chart);
+        let long = chart.tokens().len() > 2;
+        let counter = if verdict.is_ok() { &mut read } else { &mut unread };
+        *counter += usize::from(long);
+        let step = if verdict.is_ok() { 5 } else { 10_007 };
+        if long && *counter % step == 0 {
+            add_list(&mut records, LENT, chart.tokens(), &verdict);
+        }
+    });
+    for index in 0..2_000 {
+        let tokens = makers::random(&mut Dice::new(SEED, index), SEED, 40);
+        let verdict = verdict::of(&mut chart, &tokens).expect("at most one reading");
+        add_list(&mut records, LENT, &tokens, &verdict);
+    }
+    for (tokens, verdict) in makers::constructed(SEED) {
+        if tokens.len() <= 700 {
+            add_list(&mut records, LENT, &tokens, &verdict);
+        }
+    }
+    for nodes in [MOST_NODES, MOST_NODES + 1] {
+        let tree = makers::drawn(&mut Dice::new(SEED, 0), SEED, 400);
+        let (tokens, verdict) = makers::called(&tree, nodes).expect("a smaller tree");
+        add_list(&mut records, LENT, &tokens, &verdict);
+        let (tokens, verdict) = makers::type_arguments(nodes);
+        add_list(&mut records, LENT, &tokens, &verdict);
+    }
+    // 24,576 tokens and one more.
+    for (pairs, inner) in [(12_287, &[SUB, NAME][..]), (12_288, &[NAME])] {
+        let (tokens, verdict) = makers::grouped(pairs, inner);
+        assert_eq!(tokens.len() > MOST, verdict == Err(14));
+        add_list(&mut records, LENT, &tokens, &verdict);
+    }
+    for lent in [0, 5, 20_479, 20_480] {
+        for list in [&[][..], &[32], &[32, 0, 32], &[0], &[46]] {
+            let verdict = verdict::of(&mut chart, list).expect("at most one reading");
+            add_list(&mut records, lent, list, &verdict);
+        }
+    }
+    records
+}
+
+/// All trees of few nodes; random ones; such as are not plain, or not accepted; and
+/// buffers that are just long enough or one cell too short.
+fn tokens() -> Records {
+    let mut records = Records::default();
+    for (labels, most_nodes) in
+        [(PlainTrees::every(3), 3), (PlainTrees::kinds(4), 4), (PlainTrees::narrow(5), 5)]
+    {
+        for nodes in 1..=most_nodes {
+            for index in 0..labels.with(nodes) {
+                add_tree(&mut records, LENT, &labels.tree(nodes, index));
+            }
+        }
+    }
+    trees::random(SEED, 300, 40, |tree| add_tree(&mut records, LENT, tree));
+    for index in 0..1_000 {
+        let dice = &mut Dice::new(SEED, index);
+        let tree = makers::table(dice, SEED);
+        if tree.count < 300 {
+            add_tree(&mut records, LENT, &tree);
+        }
+    }
+    for index in 0..60 {
+        let tree = makers::drawn(&mut Dice::new(SEED + 1, index), SEED + 1, 60);
+        add_tree(&mut records, 6 * tree.count, &tree);
+        add_tree(&mut records, 6 * tree.count - 1, &tree);
+    }
+    // The shorter buffer is met before the tree that is not plain.
+    for index in 0..20 {
+        let tree = Family::Scans.tree(SEED, index);
+        if tree.count < 100 {
+            add_tree(&mut records, 6 * tree.count - 1, &tree);
+        }
+    }
+    let most = (0..).map(|index| Family::Plain.tree(SEED, index));
+    for tree in most.filter(|tree| tree.count == 4_096).take(2) {
+        add_tree(&mut records, LENT, &tree);
+    }
+    records
+}

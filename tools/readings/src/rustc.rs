@@ -1,0 +1,257 @@
+//! rustc as a judge: what it reads where the grammar gives a reading, and where
+//! an added pair is left out.
+
+use crate::ast;
+use crate::chart::Chart;
+use crate::codes::{self, text, CLOSE, COMMA, DOT, GT, LITERAL, NUMBERED, OPEN};
+use crate::makers;
+use crate::rules::Rules;
+use crate::trees;
+use crate::verdict;
+use crate::written::{without_parens, written};
+use oracle::generate::Dice;
+use oracle::table::NodeTable;
+use std::path::PathBuf;
+use std::process::{Command, Stdio};
+use std::time::Instant;
+
+/// Texts in one file.
+const BATCH: usize = 250;
+
+/// The parser of rustc, with a folder for its files.
+struct Judge {
+    file: PathBuf,
+    runs: u64,
+}
+
+/// What rustc makes of a text: a tree, a tree that is not plain, or an error.
+#[derive(Clone, PartialEq, Eq, Debug)]
+enum Read {
+    Tree(Vec<u16>),
+    Other(String),
+    Error,
+}
+
+impl Judge {
+    fn new() -> Self {
+        let name = format!("readings-{}.rs", std::process::id());
+        Judge { file: std::env::temp_dir().join(name), runs: 0 }
+    }
+
+    /// What rustc reads for each text of one file, if it has no error.
+    fn file(&mut self, texts: &[String]) -> Option<Vec<Read>> {
+        self.runs += 1;
+        let lets: String = texts.iter().map(|text| format!("let _ = {text} ;\n")).collect();
+        std::fs::write(&self.file, format!("fn f() {{\n{lets}}}\n"))
+            .expect("a file can be written");
+        let output = Command::new("rustc")
+            .env("RUSTC_BOOTSTRAP", "1")
+            .args(["--edition", "2021", "-Zunpretty=ast-tree"])
+            .arg(&self.file)
+            .stderr(Stdio::null())
+            .output()
+            .expect("rustc runs");
+        if !output.status.success() {
+            return None;
+        }
+        let printed = String::from_utf8(output.stdout).expect("rustc prints UTF-8");
+        let read: Vec<Read> = ast::tables(&printed)
+            .into_iter()
+            .map(|table| table.map_or_else(Read::Other, Read::Tree))
+            .collect();
+        assert_eq!(read.len(), texts.len(), "a tree for each text");
+        Some(read)
+    }
+
+    /// What rustc reads for each text, those with an error found by halving.
+    fn all(&mut self, texts: &[String]) -> Vec<Read> {
+        if texts.is_empty() {
+            return Vec::new();
+        }
+        match self.file(texts) {
+            Some(read) => read,
+            None if texts.len() == 1 => vec![Read::Error],
+            None => {
+                let (one, other) = texts.split_at(texts.len() / 2);
+                let mut read = self.all(one);
+                read.extend(self.all(other));
+                read
+            }
+        }
+    }
+}
+
+impl Drop for Judge {
+    fn drop(&mut self) {
+        // Nothing is lost if it stays.
+        let _ = std::fs::remove_file(&self.file);
+    }
+}
+
+/// Whether rustc refuses a list on purpose: a call without arguments of an await.
+fn calls_await(tokens: &[u16]) -> bool {
+    tokens.windows(3).any(|window| window == [codes::AWAIT, OPEN, CLOSE])
+}
+
+/// Lists with the tree that rustc must read, gathered until a batch is full.
+struct Judged {
+    judge: Judge,
+    waiting: Vec<(Vec<u16>, Vec<u16>)>,
+    agreed: u64,
+    /// Lists without a reading that rustc reads as a tree that is not plain.
+    not_plain: u64,
+    /// Calls of an await, which rustc refuses, and those that it does not.
+    refused_awaits: u64,
+    read_awaits: u64,
+    different: u64,
+}
+
+impl Judged {
+    fn new() -> Self {
+        Judged {
+            judge: Judge::new(),
+            waiting: Vec::new(),
+            agreed: 0,
+            not_plain: 0,
+            refused_awaits: 0,
+            read_awaits: 0,
+            different: 0,
+        }
+    }
+
+    fn differs(&mut self, tokens: &[u16], read: &Read) {
+        self.different += 1;
+        if self.different <= 20 {
+            println!("  rustc reads {read:?}: {}", text(tokens));
+        }
+    }
+
+    /// A list that must be read as a tree.
+    fn list(&mut self, tokens: Vec<u16>, table: Vec<u16>) {
+        if calls_await(&tokens) {
+            // Some are tried, one at a time.
+            if self.refused_awaits + self.read_awaits < 100 {
+                match self.judge.all(&[text(&tokens)]).pop() {
+                    Some(Read::Error) => self.refused_awaits += 1,
+                    _ => self.read_awaits += 1,
+                }
+            }
+            return;
+        }
+        self.waiting.push((tokens, table));
+        if self.waiting.len() == BATCH {
+            self.judged();
+        }
+    }
+
+    fn judged(&mut self) {
+        let waiting = std::mem::take(&mut self.waiting);
+        let texts: Vec<String> = waiting.iter().map(|(tokens, _)| text(tokens)).collect();
+        let read = self.judge.all(&texts);
+        for ((tokens, table), read) in waiting.into_iter().zip(read) {
+            if read == Read::Tree(table) {
+                self.agreed += 1;
+            } else {
+                self.differs(&tokens, &read);
+            }
+        }
+    }
+
+    /// A list without a reading, which must be an error or a tree that is not plain.
+    fn error(&mut self, tokens: &[u16]) {
+        match self.judge.all(&[text(tokens)]).pop() {
+            Some(Read::Error) => self.agreed += 1,
+            Some(Read::Other(_)) => self.not_plain += 1,
+            read => self.differs(tokens, &read.expect("an answer")),
+        }
+    }
+
+    fn print(mut self, name: &str, start: Instant) -> u64 {
+        self.judged();
+        println!(
+            "{name}: agreed {}, read as a tree that is not plain {}, different {}; calls of an await \
+             tried and refused {}, read {}; rustc ran {} times, {} s",
+            self.agreed,
+            self.not_plain,
+            self.different,
+            self.refused_awaits,
+            self.read_awaits,
+            self.judge.runs,
+            start.elapsed().as_secs(),
+        );
+        self.different + self.read_awaits
+    }
+}
+
+/// All trees of few nodes and random ones; left-out pairs, those without a reading
+/// one at a time; random lists that have a reading. Gives how many differ.
+pub fn compare(trees: u64, pairs: u64, seed: u64) -> u64 {
+    let mut chart = Chart::new(Rules::new(None));
+    let mut different = 0;
+    for set in trees::sets(2) {
+        let (mut judged, start) = (Judged::new(), Instant::now());
+        set.each(|tree| judged.list(written(tree).tokens, without_parens(tree)));
+        let name = format!("trees, {} up to {} nodes", set.name, set.most_nodes);
+        different += judged.print(&name, start);
+    }
+    let (mut judged, start) = (Judged::new(), Instant::now());
+    trees::random(seed, trees / 4, 40, |tree| {
+        judged.list(written(tree).tokens, without_parens(tree));
+    });
+    different += judged.print("trees, random up to 40 tokens", start);
+
+    let (mut others, mut errors, start) = (Judged::new(), Judged::new(), Instant::now());
+    let (mut left_out, mut same) = (0, 0);
+    let mut leave_out = |tree: &NodeTable, most: u64| {
+        let written = written(tree);
+        let meant = without_parens(tree);
+        for &pair in &written.pairs {
+            let tokens = written.without(pair);
+            chart.read(&tokens);
+            match chart.readings().pop() {
+                Some(reading) if reading == meant => same += 1,
+                Some(reading) => others.list(tokens, reading),
+                None if errors.judge.runs < most => errors.error(&tokens),
+                None => continue,
+            }
+            left_out += 1;
+        }
+    };
+    for set in trees::sets(2) {
+        set.each(|tree| leave_out(tree, pairs / 2));
+    }
+    trees::random(seed + 1, pairs / 4, 40, |tree| leave_out(tree, pairs));
+    println!("left-out pairs {left_out}, of which with the same reading {same}");
+    different += same;
+    different += others.print("left-out pairs, read as another tree", start);
+    different += errors.print("left-out pairs, without a reading", start);
+
+    let (mut judged, mut errors, start) = (Judged::new(), Judged::new(), Instant::now());
+    for index in 0..trees {
+        let tokens = makers::random(&mut Dice::new(seed + 2, index), seed + 2, 40);
+        match verdict::of(&mut chart, &tokens) {
+            Ok(Ok(table)) => judged.list(tokens, table),
+            Ok(Err(15)) if errors.judge.runs < pairs / 2 && is_as_spelled(&tokens) => {
+                errors.error(&tokens);
+            }
+            _ => {}
+        }
+    }
+    different += judged.print("random lists that have a reading", start);
+    different + errors.print("random lists without a reading", start)
+}
+
+/// Whether a list means to rustc what it means here: `&&` before an operand is two
+/// references to it, `>>`, `>=` and `>>=` may close type arguments, a comma may
+/// follow the last item, and a numbered member is a literal too.
+fn is_as_spelled(tokens: &[u16]) -> bool {
+    let otherwise = |code: &u16| matches!(code, 5 | 11 | 16 | 27);
+    let apart = |window: &[u16]| match window {
+        [COMMA, next] => matches!(*next, CLOSE | GT),
+        [before, NUMBERED] => *before != DOT,
+        [before, LITERAL] => *before == DOT,
+        _ => false,
+    };
+    let first = tokens.first().is_none_or(|&code| code == NUMBERED);
+    !(first || tokens.iter().any(otherwise) || tokens.windows(2).any(apart))
+}

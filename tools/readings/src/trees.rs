@@ -1,0 +1,231 @@
+//! Plain trees: what is written for one has one reading, the tree without its own
+//! parentheses, and none that equals it with a pair left out.
+
+use crate::chart::Chart;
+use crate::codes::text;
+use crate::makers;
+use crate::ours::{numbers, Ours};
+use crate::plain::{self, PlainTrees};
+use crate::rules::Rules;
+use crate::verdict::MOST_NODES;
+use crate::written::{self, without_parens, written};
+use oracle::generate::Dice;
+use oracle::table::{self, NodeTable};
+use std::time::Instant;
+
+/// What came of a set of trees.
+#[derive(Default)]
+pub struct Tally {
+    pub trees: u64,
+    pub tokens: u64,
+    pub longest: usize,
+    pub pairs: u64,
+    /// Left-out pairs with which the tokens read as another tree.
+    pub others: u64,
+    pub different: u64,
+    /// The differences with the shortest token list, so many of them as are shown.
+    pub shown: Vec<(usize, String)>,
+}
+
+const SHOWN: usize = 3;
+
+impl Tally {
+    fn differs(&mut self, what: &str, tokens: &[u16]) {
+        self.different += 1;
+        self.shown.push((tokens.len(), format!("{what}: {}", text(tokens))));
+        self.shown.sort_by_key(|shown| shown.0);
+        self.shown.truncate(SHOWN);
+    }
+
+    /// Holds one tree to the rules, and our writer and reader to it.
+    pub fn tree(&mut self, chart: &mut Chart, ours: &mut Ours, tree: &NodeTable) {
+        let written = written(tree);
+        let meant = without_parens(tree);
+        let tokens = &written.tokens;
+        self.trees += 1;
+        self.tokens += tokens.len() as u64;
+        self.longest = self.longest.max(tokens.len());
+        chart.read(tokens);
+        match &chart.readings()[..] {
+            [] => self.differs("no reading", tokens),
+            [reading] if *reading == meant => {}
+            [_] => self.differs("another reading", tokens),
+            _ => self.differs("several readings", tokens),
+        }
+        for &pair in &written.pairs {
+            self.pairs += 1;
+            let left_out = written.without(pair);
+            chart.read(&left_out);
+            let readings = chart.readings();
+            self.others += u64::from(!readings.is_empty());
+            if readings.contains(&meant) {
+                self.differs("a needless pair", tokens);
+            }
+        }
+        let lent = 6 * usize::from(tree.count) + self.trees as usize % 3;
+        if ours.write(tree, lent).is_some_and(|ours| ours.as_ref() != Ok(tokens)) {
+            self.differs("we write otherwise", tokens);
+        }
+        if ours.read(tokens, 5 * MOST_NODES).is_some_and(|ours| ours != Ok(meant)) {
+            self.differs("we read otherwise", tokens);
+        }
+    }
+
+    fn print(&self, name: &str, start: Instant) {
+        println!(
+            "{name}: trees {}, tokens {}, longest {}, pairs left out {}, another tree {}, none {}, \
+             different {}, {} s",
+            self.trees,
+            self.tokens,
+            self.longest,
+            self.pairs,
+            self.others,
+            self.pairs - self.others,
+            self.different,
+            start.elapsed().as_secs(),
+        );
+        for (_, shown) in &self.shown {
+            println!("  {shown}");
+        }
+    }
+}
+
+/// A set of trees: labels, and the nodes of the largest.
+pub struct Set {
+    pub name: &'static str,
+    pub trees: PlainTrees,
+    pub most_nodes: usize,
+}
+
+impl Set {
+    pub fn each(&self, mut visit: impl FnMut(&NodeTable)) {
+        for nodes in 1..=self.most_nodes {
+            for index in 0..self.trees.with(nodes) {
+                visit(&self.trees.tree(nodes, index));
+            }
+        }
+    }
+}
+
+/// The sets that are gone through whole, so many nodes smaller than they could be.
+pub fn sets(smaller: usize) -> Vec<Set> {
+    let set = |name, trees: fn(usize) -> PlainTrees, most: usize| {
+        let most_nodes = most - smaller;
+        Set { name, trees: trees(most_nodes), most_nodes }
+    };
+    vec![
+        set("every label", PlainTrees::every, 6),
+        set("kinds of labels", PlainTrees::kinds, 7),
+        set("narrow", PlainTrees::narrow, 8),
+    ]
+}
+
+/// Random trees, so many of each kind, with up to so many tokens.
+pub fn random(seed: u64, trees: u64, most_tokens: usize, mut visit: impl FnMut(&NodeTable)) {
+    let short = |tree: &NodeTable| written(tree).tokens.len() <= most_tokens;
+    let drawn = plain::random(seed, most_tokens as u16);
+    for tree in drawn.filter(short).take(trees as usize) {
+        visit(&tree);
+    }
+    for labels in [PlainTrees::every(20), PlainTrees::kinds(20), PlainTrees::narrow(20)] {
+        let drawn = (0..).map(|index| {
+            let dice = &mut Dice::new(seed, index);
+            labels.any(7 + dice.below(14), dice)
+        });
+        for tree in drawn.filter(short).take(trees as usize) {
+            visit(&tree);
+        }
+    }
+}
+
+/// Node tables, plain or not, with enough cells lent or too few: our writer's reply
+/// beside document 01's. Gives how many differ.
+fn replies(ours: &mut Ours, tables: u64, seed: u64) -> u64 {
+    let mut counts = [0u64; 17];
+    let mut different = 0;
+    for index in 0..tables {
+        let dice = &mut Dice::new(seed, index);
+        let tree = makers::table(dice, seed);
+        if !ours.is_lent() && !written::fits_a_file(&tree) {
+            continue;
+        }
+        let needed = 6 * usize::from(tree.count);
+        let lent = if dice.percent(10) { needed.saturating_sub(1) } else { needed };
+        let lent = if ours.is_lent() { lent } else { needed };
+        let reply = written::reply(&tree, lent);
+        counts[usize::from(*reply.as_ref().err().unwrap_or(&0))] += 1;
+        if ours.write(&tree, lent).is_some_and(|ours| ours != reply) {
+            different += 1;
+            if different <= 3 {
+                println!("  our reply is not {reply:?} for {tree:?}");
+            }
+        }
+    }
+    let refused: Vec<String> = (1..).zip(&counts[1..]).map(|(n, c)| format!("{n}: {c}")).collect();
+    println!(
+        "tables, plain or not: {}, written {}, refused by {}, different {different}",
+        counts.iter().sum::<u64>(),
+        counts[0],
+        refused.join(", ")
+    );
+    different
+}
+
+/// All trees of few nodes, and random ones. Gives how many differ.
+pub fn compare(ours: &mut Ours, smaller: usize, trees: u64, seed: u64) -> u64 {
+    let mut chart = Chart::new(Rules::new(None));
+    let mut different = 0;
+    for set in sets(smaller) {
+        let (mut tally, start) = (Tally::default(), Instant::now());
+        set.each(|tree| tally.tree(&mut chart, ours, tree));
+        tally.print(&format!("{} up to {} nodes", set.name, set.most_nodes), start);
+        different += tally.different;
+    }
+    for (most_tokens, trees) in [(40, trees), (200, trees / 40)] {
+        let (mut tally, start) = (Tally::default(), Instant::now());
+        random(seed, trees, most_tokens, |tree| tally.tree(&mut chart, ours, tree));
+        tally.print(&format!("random up to {most_tokens} tokens"), start);
+        different += tally.different;
+    }
+    different + replies(ours, 2 * trees, seed) + damaged_files(ours, seed)
+}
+
+/// Tree files on the standard input of the program `tokens` that are cut off, too
+/// long, or have bytes behind them.
+fn damaged_files(ours: &mut Ours, seed: u64) -> u64 {
+    if ours.is_lent() || !ours.is_slow() {
+        return 0;
+    }
+    let mut different = 0;
+    for index in 0..300 {
+        let dice = &mut Dice::new(seed + 3, index);
+        let tree = makers::drawn(dice, seed, 60);
+        let mut file = table::write(&tree);
+        let header = 1 + numbers(&[tree.count]).len();
+        let reply = match dice.below(3) {
+            0 => {
+                let left = dice.below(file.len());
+                file.truncate(left);
+                if left < header {
+                    2
+                } else {
+                    5
+                }
+            }
+            1 => {
+                file.push(dice.below(256) as u8);
+                5
+            }
+            _ => {
+                file.resize(65_537, 0);
+                1
+            }
+        };
+        if ours.write_file(&file) != Some(Err(reply)) {
+            different += 1;
+            println!("  our reply is not {reply} for a file of {} bytes", file.len());
+        }
+    }
+    println!("damaged files: 300, different {different}");
+    different
+}
