@@ -23,10 +23,6 @@ put-more {before} {after} {last} {at} {mid} {next} {first} {second} p q =
       room = q .room ∙ p .room;
     }
 
--- from the first cell on
-pub put-over : (before codes after : List ℕ) (next : ℕ) → length codes ≤ length before → Put before 0 codes after next → after ≡ over codes before
-put-over before codes after next h p = p .cells ∙ sets-over codes before h
-
 pub put-two : (before : List ℕ) (at a b : ℕ) → Put before at (a ∷ b ∷ []) (set (set before at a) (at + 1) b) (at + 2)
 put-two before at a b =
     let e : at + 1 + 1 ≡ at + 2 = omega arith in
@@ -36,3 +32,7 @@ pub put-three : (before : List ℕ) (at a b c : ℕ) → Put before at (a ∷ b 
 put-three before at a b c =
     let e : at + 2 + 1 ≡ at + 3 = omega arith in
     rw e at (put-more (put-two before at a b) (put-one (set (set before at a) (at + 1) b) (at + 2) c))
+
+-- from the first cell on
+pub put-over : (before codes after : List ℕ) (next : ℕ) → length codes ≤ length before → Put before 0 codes after next → after ≡ over codes before
+put-over before codes after next h p = p .cells ∙ sets-over codes before h

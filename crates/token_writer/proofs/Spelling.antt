@@ -94,12 +94,12 @@ path-signs s detail e = rw e (go (eqb detail 2))
 
 -- ---- the signs of a node of a table
 
-module _ (cells : List ℕ) (count i : ℕ) where
-  there-by : (p : ℕ) → isPresent (presence p) ≡ not (eqb p 0)
-  unfolding presence
-  there-by zero = refl
-  there-by (suc p) = sym (ap not (ne-eqb (suc p) 0 (λ e. omega arith)))
+there-by : (p : ℕ) → isPresent (presence p) ≡ not (eqb p 0)
+unfolding presence
+there-by zero = refl
+there-by (suc p) = sym (ap not (ne-eqb (suc p) 0 (λ e. omega arith)))
 
+module _ (cells : List ℕ) (count i : ℕ) where
   pub spells-at : (s : Signs) (form detail second : ℕ) → form ≡ cellAt cells i 0 → detail ≡ cellAt cells i 2 → second ≡ operandAt cells count i 4
       → Spells s (lookup (signRows detail (not (eqb second 0))) (signs [] [] []) form)
       → Spells s (signsOf (labelAt cells i) (treeAt cells count (operandAt cells count i 4)))
