@@ -2,17 +2,21 @@
 // expression, or the number of the refusal.
 use libc::STDIN_FILENO;
 use libc::STDOUT_FILENO;
+use text::put_byte;
+use text::put_head;
+use text::put_number;
+use text::put_spaced;
 use tree::form::class_of;
 use tree::shape::form_at;
 use tree_file::Loaded;
-ghost use mathlib.Core.List.{[], _∷_};
 ghost use mathlib.Core.Path.{_≡_};
-ghost use Prim.Native.Nat.{_+_, _*_, _≤_, _<_};
+ghost use Prim.Native.Nat.{_+_, _*_, _≤_};
 ghost use lib.ListN.{length, take, drop};
 ghost use Rattle.io.specs.Counts.{Counts};
 ghost use Rattle.tree.specs.Refusals.{refusal};
-ghost use Rattle.parens.specs.Growth.{Added};
-ghost use Rattle.parens.specs.Text.{decimal, spaced, headed, lineOf, nodeText, linesOf, acceptedText, printed};
+ghost use Rattle.text.specs.Growth.{Added};
+ghost use Rattle.text.specs.Numbers.{spaced};
+ghost use Rattle.parens.specs.Text.{lineOf, nodeText, linesOf, acceptedText, printed};
 
 // One byte more than the longest file, so that a longer one shows.
 const FILE: usize = 65_537;
@@ -25,46 +29,7 @@ const SCRATCH: usize = 12_288;
 // The most bytes that are printed: a first line of 9, and 36 for each of 4,096 nodes.
 const TEXT: usize = 147_465;
 
-// ---- a text that grows: each function adds to it at its end, and answers where it then ends
-
-fn put_byte(out: &mut [u8], end: usize, byte: u8) -> usize
-    requires { ⌜ end < length (now out) ⌝ }
-    ensures { λ r. ⌜ Added (now (out .entry)) end (byte ∷ []) (now (out .exit)) r ⌝ }
-{
-    out[end] = byte;
-    end + 1
-}
-
-fn digit(n: u16) -> u8
-    requires { ⌜ n < 10 ⌝ }
-    ensures { λ r. ⌜ r ≡ 48 + n ⌝ }
-{
-    48 + n as u8
-}
-
-fn put_number(out: &mut [u8], end: usize, n: u16) -> usize
-    requires { ⌜ end + length (decimal n) ≤ length (now out) ⌝ }
-    ensures { λ r. ⌜ Added (now (out .entry)) end (decimal n) (now (out .exit)) r ⌝ }
-{
-    if n < 10 {
-        return put_byte(out, end, digit(n));
-    }
-    let next = put_number(out, end, n / 10);
-    put_byte(out, next, digit(n % 10))
-}
-
-// Two letters and a number, as the first line.
-fn put_head(out: &mut [u8], first: u8, second: u8, n: u16) -> usize
-    requires { ⌜ 9 ≤ length (now out) ⌝ }
-    ensures { λ r. ⌜ Added (now (out .entry)) 0 (headed first second n) (now (out .exit)) r ⌝ }
-    ensures { λ r. ⌜ r ≤ 9 ⌝ }
-{
-    let one = put_byte(out, 0, first);
-    let two = put_byte(out, one, second);
-    let three = put_byte(out, two, b' ');
-    let end = put_number(out, three, n);
-    put_byte(out, end, b'\n')
-}
+// ---- lines
 
 // The five cells of a row, which start at `from`.
 fn put_row(out: &mut [u8], end: usize, rows: &[u16], from: usize) -> usize
@@ -72,14 +37,8 @@ fn put_row(out: &mut [u8], end: usize, rows: &[u16], from: usize) -> usize
     ensures { λ r. ⌜ Added (now (out .entry)) end (spaced (take 5 (drop from (now (rows .entry))))) (now (out .exit)) r ⌝ }
     ensures { λ r. ⌜ r ≤ end + 30 ⌝ }
 {
-    let mut at = end;
-    let mut done = 0;
-    while done < 5 {
-        let next = put_byte(out, at, b' ');
-        at = put_number(out, next, rows[from + done]);
-        done += 1;
-    }
-    at
+    let to = from + 5;
+    put_spaced(out, end, &rows[from..to])
 }
 
 fn put_line(out: &mut [u8], end: usize, rows: &[u16], node: u16) -> usize

@@ -1,3 +1,4 @@
 pub mod Groups
 pub mod Several
 pub mod Files
+pub mod Loading

@@ -1,14 +1,14 @@
 -- `parens::put_line` meets its contract. Assumes nothing.
 use native.Mathlib.Omega.{arith}
+use Rattle.text.proofs.Digits.{length-decimal}
+use Rattle.text.proofs.Growing.{fits, added-more}
 use Rattle.parens.specs.Text.{lineOf}
-use Rattle.parens.proofs.Digits.{length-decimal}
-use Rattle.parens.proofs.Growing.{added-more}
 use borrow.Author.Needs.{needs}
 use Rattle.parens.proofs.put_line.Statement.{statement}
 use Rattle.parens.proofs.put_line.Tie as tie
 
 put-number-requires : tie.Need-put-number-requires
-put-number-requires c κs = omega (arith, length-decimal (c .before .before .before .args .node) (omega arith))
+put-number-requires c κs = search needs
 
 sub-put-row : tie.Need-sub-put-row
 sub-put-row c = search needs
@@ -25,7 +25,7 @@ put-row-requires c κs =
     (omega arith, omega arith)
 
 put-byte-requires : tie.Need-put-byte-requires
-put-byte-requires c κs = omega (arith, length-decimal (c .before .before .before .before .before .before .before .before .before .before .before .args .node) (omega arith))
+put-byte-requires c κs = search needs
 
 same-length : tie.Need-same-length
 same-length c = search needs
@@ -34,7 +34,9 @@ returns : tie.Need-returns
 unfolding lineOf
 returns c =
     let digits = length-decimal (c .before .before .before .before .before .before .before .before .before .before .before .before .before .before .args .node) (omega arith) in
-    (added-more (c .before .before .before .before .before .before .before .before .before .before .put-number .ensures) (added-more (c .before .before .before .before .before .before .put-row .ensures .0) (c .before .before .put-byte .ensures)), omega arith)
+    let number = fits (omega arith) (c .before .before .before .before .before .before .before .before .before .before .put-number .ensures) in
+    let end = fits (omega (arith, number .ends)) (c .before .before .put-byte .ensures) in
+    (added-more number (added-more (c .before .before .before .before .before .before .put-row .ensures .0) end), omega (arith, number .ends, end .ends))
 
 pub put-line-spec : {M : Type 1} → statement M
 put-line-spec =

@@ -2,7 +2,7 @@
 use mathlib.Core.Path.{ap, _∙_}
 use native.Mathlib.Omega.{arith}
 use Rattle.tree.specs.Forms.{classOf}
-use Rattle.parens.proofs.Growing.{added-none}
+use Rattle.text.proofs.Growing.{added-none}
 use Rattle.parens.proofs.Lines.{no-line, a-line}
 use borrow.Author.Needs.{needs}
 use Rattle.parens.proofs.put_node.Statement.{statement}

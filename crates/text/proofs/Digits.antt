@@ -7,7 +7,7 @@ use native.Mathlib.Decide.{decLe}
 use lib.ListN.{length, length-append}
 use borrow.Author.Tests.{lt-ltb, le-ltb}
 use Rattle.laws.proofs.Choice.{pick-true, pick-false}
-use Rattle.parens.specs.Text.{decimalTo, decimal}
+use Rattle.text.specs.Numbers.{decimalTo, decimal}
 
 -- any two bounds above a number give the same digits
 same-digits : (j k n : ℕ) → n < j → n < k → decimalTo j n ≡ decimalTo k n
