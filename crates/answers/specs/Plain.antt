@@ -1,12 +1,19 @@
--- The writer's and the reader's replies as one number: the refusal times 65,536, or the count of what was stored.
+-- The loader's, the writer's and the reader's replies as one number: the refusal times 65,536, or the count of what was stored.
 use mathlib.Core.Path.{_≡_}
 use mathlib.Core.List.{List}
-use Prim.Native.Nat.{ℕ, _*_}
+use Prim.Native.Nat.{ℕ, _+_, _*_}
+use Rattle.tree_file.specs.declared.Loaded.{Loaded}
+use Rattle.tree_file.specs.declared.Loaded.the-variants as loaded
 use Rattle.token_writer.specs.declared.Written.{Written}
 use Rattle.token_writer.specs.declared.Written.the-variants as written
 use Rattle.token_reader.specs.declared.Reply.{Reply}
 use Rattle.token_reader.specs.declared.Reply.the-variants as reply
 use Rattle.token_reader.specs.Reading.{Answers}
+
+-- with the context times 8,192, which is above every count
+abbrev pub loadedNumber : Loaded → ℕ
+loadedNumber (loaded.Refused n) = 65536 * n
+loadedNumber (loaded.Accepted context count) = 8192 * context + count
 
 abbrev pub writtenNumber : Written → ℕ
 writtenNumber (written.Refused n) = 65536 * n

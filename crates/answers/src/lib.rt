@@ -4,6 +4,7 @@ mod cells; // cells.rt: contexts, and what an operand gets, a cell at a time
 pub mod in_context; // in_context.rt: what fixup.rs says of a node in a context
 pub mod contexts; // contexts.rt: the contexts that fixup.rs makes
 pub mod rows; // rows.rt: the rows of all nodes
+pub mod files; // files.rt: tree files
 pub mod plain; // plain.rt: the tokens of plain trees, and their readings
 pub mod handed; // handed.rt: what expr.rs hands down
 
