@@ -9,6 +9,7 @@ use lib.ListN.{length, getD}
 use borrow.Author.Tests.{le-leb, ne-eqb, lt-ltb, le-ltb}
 use Rattle.laws.specs.Choice.{pick, lookup, isOneOf}
 use Rattle.laws.specs.Each.{all}
+use Rattle.laws.proofs.Choice.{of-true, and-true}
 use Rattle.laws.proofs.Each.{all-at}
 use Rattle.tree.specs.Trees.{Label}
 use Rattle.tree.specs.Forms.{ExprAssign, ExprBinary}
@@ -133,6 +134,11 @@ stops-not least e h q = go (leb least 0) refl q
     go : (b : Bool) → leb least 0 ≡ b → (b && true) ≡ true → ⊥
     go true k r = absurd (omega (arith, leb→le least 0 (rw k tt)))
     go false k r = let z : _≡_ {A = ℕ} 0 1 = cc in omega arith
+
+-- nor with the code that stands for the end
+pub past-goes : (least strength : ℕ) (t d : Bool) → 1 ≤ least → goesOnBy least strength t d 46 ≡ true → ⊥
+unfolding goesOnBy levelOf levelPast levelRows pastRows lookup pick
+past-goes least strength t d h q = absurd (omega (arith, leb→le least 0 (of-true (and-true (leb least 0) _ q .0))))
 
 -- a token that is no operator and makes no other form
 abbrev isStop : Next → Bool

@@ -6,7 +6,6 @@ use Prim.Native.Nat.{ℕ, _+_, _*_, _-_, _≤_, _<_}
 use native.Mathlib.Omega.{arith}
 use lib.ListN.{length, getD}
 use borrow.Author.Needs.{needs}
-use borrow.Author.Tests.{not-true, not-false}
 use Rattle.laws.specs.Choice.{pick, lookup, isOneOf}
 use Rattle.laws.proofs.Keys.{arm, rest}
 use Rattle.grammar.specs.Expressions.{path, literal, neg, deref, invert, ref, refMut, byNumber, awaited}
@@ -15,47 +14,44 @@ use Rattle.token_reader.specs.Tables.{levelOf, goesOnBy}
 use Rattle.token_reader.proofs.First.{there}
 use Rattle.token_reader.proofs.Tables.{level-most, after-least, no-form}
 use Rattle.token_reader.proofs.Tells.{ready-on, ready-grew}
-use Rattle.token_reader.proofs.ExprEnds.{operand-atom, operand-prefixed, operand-group, operand-none, prefixed-none, prefixed-stored, group-none, group-closed, expr-none, expr-on, on-stops, on-none, on-more}
+use Rattle.token_reader.proofs.ExprEnds.{operand-atom, operand-prefixed, operand-group, operand-none, prefixed-none, prefixed-stored, group-none, group-closed, goes-inside, Under, under-start, under-ready, under-past, under-step, under-end, step-less}
 use Rattle.token_reader.proofs.ExprEnds.{step-binary, step-cast, step-dot, step-call, step-index, step-try, step-none, binary-none, binary-stored, index-none, index-stored, dot-named, dot-member, dot-none, named-member, named-call}
 use Rattle.token_reader.proofs.ExprEnds.{call-empty, call-none, call-stored, arguments-last, arguments-none, arguments-more-none, arguments-more}
 use borrow.Fn.Kinds.{In}
 use borrow.Fn.PlainCycle.{Measures, is, falls, and}
 use Rattle.token_reader.proofs.expressions.arguments.Reads as arguments
 use Rattle.token_reader.proofs.expressions.arguments.Kinds as arguments-kinds
-use Rattle.token_reader.proofs.expressions.+arguments+binary+call+dot+expr+group+index+named+on+operand+prefixed+step.Lts-arguments as arguments-lts
+use Rattle.token_reader.proofs.expressions.+arguments+binary+call+dot+expr+group+index+named+operand+prefixed+step.Lts-arguments as arguments-lts
 use Rattle.token_reader.proofs.expressions.binary.Reads as binary
 use Rattle.token_reader.proofs.expressions.binary.Kinds as binary-kinds
-use Rattle.token_reader.proofs.expressions.+arguments+binary+call+dot+expr+group+index+named+on+operand+prefixed+step.Lts-binary as binary-lts
+use Rattle.token_reader.proofs.expressions.+arguments+binary+call+dot+expr+group+index+named+operand+prefixed+step.Lts-binary as binary-lts
 use Rattle.token_reader.proofs.expressions.call.Reads as call
 use Rattle.token_reader.proofs.expressions.call.Kinds as call-kinds
-use Rattle.token_reader.proofs.expressions.+arguments+binary+call+dot+expr+group+index+named+on+operand+prefixed+step.Lts-call as call-lts
+use Rattle.token_reader.proofs.expressions.+arguments+binary+call+dot+expr+group+index+named+operand+prefixed+step.Lts-call as call-lts
 use Rattle.token_reader.proofs.expressions.dot.Reads as dot
 use Rattle.token_reader.proofs.expressions.dot.Kinds as dot-kinds
-use Rattle.token_reader.proofs.expressions.+arguments+binary+call+dot+expr+group+index+named+on+operand+prefixed+step.Lts-dot as dot-lts
+use Rattle.token_reader.proofs.expressions.+arguments+binary+call+dot+expr+group+index+named+operand+prefixed+step.Lts-dot as dot-lts
 use Rattle.token_reader.proofs.expressions.expr.Reads as expr
 use Rattle.token_reader.proofs.expressions.expr.Kinds as expr-kinds
-use Rattle.token_reader.proofs.expressions.+arguments+binary+call+dot+expr+group+index+named+on+operand+prefixed+step.Lts-expr as expr-lts
+use Rattle.token_reader.proofs.expressions.+arguments+binary+call+dot+expr+group+index+named+operand+prefixed+step.Lts-expr as expr-lts
 use Rattle.token_reader.proofs.expressions.group.Reads as group
 use Rattle.token_reader.proofs.expressions.group.Kinds as group-kinds
-use Rattle.token_reader.proofs.expressions.+arguments+binary+call+dot+expr+group+index+named+on+operand+prefixed+step.Lts-group as group-lts
+use Rattle.token_reader.proofs.expressions.+arguments+binary+call+dot+expr+group+index+named+operand+prefixed+step.Lts-group as group-lts
 use Rattle.token_reader.proofs.expressions.index.Reads as index
 use Rattle.token_reader.proofs.expressions.index.Kinds as index-kinds
-use Rattle.token_reader.proofs.expressions.+arguments+binary+call+dot+expr+group+index+named+on+operand+prefixed+step.Lts-index as index-lts
+use Rattle.token_reader.proofs.expressions.+arguments+binary+call+dot+expr+group+index+named+operand+prefixed+step.Lts-index as index-lts
 use Rattle.token_reader.proofs.expressions.named.Reads as named
 use Rattle.token_reader.proofs.expressions.named.Kinds as named-kinds
-use Rattle.token_reader.proofs.expressions.+arguments+binary+call+dot+expr+group+index+named+on+operand+prefixed+step.Lts-named as named-lts
-use Rattle.token_reader.proofs.expressions.on.Reads as on
-use Rattle.token_reader.proofs.expressions.on.Kinds as on-kinds
-use Rattle.token_reader.proofs.expressions.+arguments+binary+call+dot+expr+group+index+named+on+operand+prefixed+step.Lts-on as on-lts
+use Rattle.token_reader.proofs.expressions.+arguments+binary+call+dot+expr+group+index+named+operand+prefixed+step.Lts-named as named-lts
 use Rattle.token_reader.proofs.expressions.operand.Reads as operand
 use Rattle.token_reader.proofs.expressions.operand.Kinds as operand-kinds
-use Rattle.token_reader.proofs.expressions.+arguments+binary+call+dot+expr+group+index+named+on+operand+prefixed+step.Lts-operand as operand-lts
+use Rattle.token_reader.proofs.expressions.+arguments+binary+call+dot+expr+group+index+named+operand+prefixed+step.Lts-operand as operand-lts
 use Rattle.token_reader.proofs.expressions.prefixed.Reads as prefixed
 use Rattle.token_reader.proofs.expressions.prefixed.Kinds as prefixed-kinds
-use Rattle.token_reader.proofs.expressions.+arguments+binary+call+dot+expr+group+index+named+on+operand+prefixed+step.Lts-prefixed as prefixed-lts
+use Rattle.token_reader.proofs.expressions.+arguments+binary+call+dot+expr+group+index+named+operand+prefixed+step.Lts-prefixed as prefixed-lts
 use Rattle.token_reader.proofs.expressions.step.Reads as step
 use Rattle.token_reader.proofs.expressions.step.Kinds as step-kinds
-use Rattle.token_reader.proofs.expressions.+arguments+binary+call+dot+expr+group+index+named+on+operand+prefixed+step.Lts-step as step-lts
+use Rattle.token_reader.proofs.expressions.+arguments+binary+call+dot+expr+group+index+named+operand+prefixed+step.Lts-step as step-lts
 use Rattle.token_reader.proofs.expressions.atom.Reads as atom-reads
 use Rattle.token_reader.proofs.expressions.attempt.Reads as attempt-reads
 use Rattle.token_reader.proofs.expressions.cast.Reads as cast-reads
@@ -70,8 +66,8 @@ use Rattle.token_reader.proofs.token.level_of.Reads as level-of-reads
 use Rattle.token_reader.proofs.token.lowest_after.Reads as lowest-after-reads
 use Rattle.token_reader.proofs.token.operator_detail.Reads as operator-detail-reads
 use Rattle.token_reader.proofs.token.operator_form.Reads as operator-form-reads
-use Rattle.token_reader.proofs.expressions.+arguments+binary+call+dot+expr+group+index+named+on+operand+prefixed+step.{statement}
-use Rattle.token_reader.proofs.expressions.+arguments+binary+call+dot+expr+group+index+named+on+operand+prefixed+step.Tie.{close}
+use Rattle.token_reader.proofs.expressions.+arguments+binary+call+dot+expr+group+index+named+operand+prefixed+step.{statement}
+use Rattle.token_reader.proofs.expressions.+arguments+binary+call+dot+expr+group+index+named+operand+prefixed+step.Tie.{close}
 
 abbrev μ-arguments : Measures 2 arguments-kinds.ps ℕ
 μ-arguments κs a = 4 * (length (a .0 .now) - a .1 .1 .0) + 3
@@ -96,9 +92,6 @@ abbrev μ-index : Measures 2 index-kinds.ps ℕ
 
 abbrev μ-named : Measures 2 named-kinds.ps ℕ
 μ-named κs a = 4 * (length (a .0 .now) - a .1 .1 .0 .at)
-
-abbrev μ-on : Measures 2 on-kinds.ps ℕ
-μ-on κs a = 4 * (length (a .0 .now) - a .1 .1 .0 .at) + 3
 
 abbrev μ-operand : Measures 2 operand-kinds.ps ℕ
 μ-operand κs a = 4 * (length (a .0 .now) - a .1 .1 .0) + 1
@@ -158,12 +151,6 @@ named-at t = and 2 named-kinds.ps (is 2 named-kinds.ps μ-named t) named.Pre
 abbrev named-below : ℕ → In 2 named-kinds.ps
 named-below t = and 2 named-kinds.ps (falls 2 named-kinds.ps _<_ μ-named t) named.Pre
 
-abbrev on-at : ℕ → In 2 on-kinds.ps
-on-at t = and 2 on-kinds.ps (is 2 on-kinds.ps μ-on t) on.Pre
-
-abbrev on-below : ℕ → In 2 on-kinds.ps
-on-below t = and 2 on-kinds.ps (falls 2 on-kinds.ps _<_ μ-on t) on.Pre
-
 abbrev operand-at : ℕ → In 2 operand-kinds.ps
 operand-at t = and 2 operand-kinds.ps (is 2 operand-kinds.ps μ-operand t) operand.Pre
 
@@ -183,6 +170,12 @@ step-at t = and 2 step-kinds.ps (is 2 step-kinds.ps μ-step t) step.Pre
 abbrev step-below : ℕ → In 2 step-kinds.ps
 step-below t = and 2 step-kinds.ps (falls 2 step-kinds.ps _<_ μ-step t) step.Pre
 
+abbrev expr-Inv-loop : expr-lts.InvT-loop
+expr-Inv-loop tokens own₀ at free min left₀ own left = (length own ≡ length own₀) × Under tokens own₀ own min left₀ left
+
+abbrev expr-μ-loop : expr-lts.MeasureT-loop
+expr-μ-loop tokens own₀ at free min left₀ own left = length tokens + 1 - left .at
+
 -- what the callees ask and ensure
 abbrev arguments-claims : ℕ → arguments-lts.Claims
 arguments-claims t = (expr-below t, expr.Post, code-at-reads.Asked, code-at-reads.Learnt, store-reads.Asked, store-reads.Learnt, no-piece-reads.Asked, no-piece-reads.Learnt, arguments-below t, arguments.Post)
@@ -197,7 +190,7 @@ abbrev dot-claims : ℕ → dot-lts.Claims
 dot-claims t = (code-at-reads.Asked, code-at-reads.Learnt, named-below t, named.Post, member-reads.Asked, member-reads.Learnt, no-expr-reads.Asked, no-expr-reads.Learnt)
 
 abbrev expr-claims : ℕ → expr-lts.Claims
-expr-claims t = (operand-below t, operand.Post, on-below t, on.Post)
+expr-claims t = (operand-below t, operand.Post, code-at-reads.Asked, code-at-reads.Learnt, goes-on-reads.Asked, goes-on-reads.Learnt, step-below t, step.Post)
 
 abbrev group-claims : ℕ → group-lts.Claims
 group-claims t = (expr-below t, expr.Post, code-at-reads.Asked, code-at-reads.Learnt, no-expr-reads.Asked, no-expr-reads.Learnt, strongest-reads.Asked, strongest-reads.Learnt)
@@ -207,9 +200,6 @@ index-claims t = (expr-below t, expr.Post, code-at-reads.Asked, code-at-reads.Le
 
 abbrev named-claims : ℕ → named-lts.Claims
 named-claims t = (code-at-reads.Asked, code-at-reads.Learnt, member-reads.Asked, member-reads.Learnt, call-below t, call.Post)
-
-abbrev on-claims : ℕ → on-lts.Claims
-on-claims t = (code-at-reads.Asked, code-at-reads.Learnt, goes-on-reads.Asked, goes-on-reads.Learnt, step-below t, step.Post, on-below t, on.Post)
 
 abbrev operand-claims : ℕ → operand-lts.Claims
 operand-claims t = (code-at-reads.Asked, code-at-reads.Learnt, prefixed-below t, prefixed.Post, atom-reads.Asked, atom-reads.Learnt, group-below t, group.Post, no-expr-reads.Asked, no-expr-reads.Learnt)
@@ -448,28 +438,38 @@ dot-returns-3 t c = dot-member _ (c .before .before .before .before .before .bef
 dot-returns-4 : (t : ℕ) → dot-lts.Need-returns-4 (dot-claims t) (dot-at t) dot.Post
 dot-returns-4 t c = dot-none _ (c .before .before .before .before .before .before .pre .1 .0) (sym (ap afterDotBy (c .before .before .code-at .ensures)) ∙ rest afterDotRows noMember _ (c .before .match .rest)) (c .no-expr .ensures)
 
-expr-operand-requires : (t : ℕ) → expr-lts.Need-operand-requires (expr-claims t) (expr-at t) expr.Post
+expr-operand-requires : (t : ℕ) → expr-lts.Need-operand-requires (expr-claims t) (expr-at t) expr.Post expr-Inv-loop expr-μ-loop
 expr-operand-requires t c κs = let p = c .before .before .before .pre .0 in (omega arith, c .before .before .before .pre .1 .0)
 
-expr-same-length : (t : ℕ) → expr-lts.Need-same-length (expr-claims t) (expr-at t) expr.Post
+expr-loop-holds : (t : ℕ) → expr-lts.Need-loop-holds (expr-claims t) (expr-at t) expr.Post expr-Inv-loop expr-μ-loop
+expr-loop-holds t c = (refl, under-start _ _ _ _)
+
+expr-code-at-requires : (t : ℕ) → expr-lts.Need-code-at-requires (expr-claims t) (expr-at t) expr.Post expr-Inv-loop expr-μ-loop
+expr-code-at-requires t c κs = search needs
+
+expr-goes-on-requires : (t : ℕ) → expr-lts.Need-goes-on-requires (expr-claims t) (expr-at t) expr.Post expr-Inv-loop expr-μ-loop
+expr-goes-on-requires t c κs = search needs
+
+expr-step-requires : (t : ℕ) → expr-lts.Need-step-requires (expr-claims t) (expr-at t) expr.Post expr-Inv-loop expr-μ-loop
+expr-step-requires t c κs =
+    let p = c .before .before .before .before .before .before .before .before .before .before .before .pre .0 in
+    let h = goes-inside (c .before .before .before .before .before .before .before .before .before .before .before .args .tokens .now) (c .before .before .before .before .loop .left .at) (c .before .before .before .before .before .before .before .before .before .before .before .args .min) (c .before .before .before .before .loop .left .level) (c .before .before .before .before .loop .left .named) (c .before .before .before .before .loop .left .dotted) (c .before .before .before .before .before .before .before .before .before .before .before .pre .1 .1) (sym (ap (goesOnBy (c .before .before .before .before .before .before .before .before .before .before .before .args .min) (c .before .before .before .before .loop .left .level) (c .before .before .before .before .loop .left .named) (c .before .before .before .before .loop .left .dotted)) (c .before .before .before .code-at .ensures)) ∙ sym (c .before .before .goes-on .ensures) ∙ c .before .if1 .taken) in
+    let q = under-past (c .before .before .before .before .before .before .before .before .before .before .before .pre .1 .0) _ _ (c .before .before .before .before .before .before .before .operand .ensures) (c .before .before .before .before .loop .inv .1) (omega arith) in
+    (omega arith, under-ready (c .before .before .before .before .before .before .before .before .before .before .before .pre .1 .0) _ _ (c .before .before .before .before .before .before .before .operand .ensures) (c .before .before .before .before .loop .inv .1) (omega arith))
+
+expr-loop-less : (t : ℕ) → expr-lts.Need-loop-less (expr-claims t) (expr-at t) expr.Post expr-Inv-loop expr-μ-loop
+expr-loop-less t c = step-less _ _ (goes-inside (c .before .before .before .before .before .before .before .before .before .before .before .before .before .before .args .tokens .now) (c .before .before .before .before .before .before .before .loop .left .at) (c .before .before .before .before .before .before .before .before .before .before .before .before .before .before .args .min) (c .before .before .before .before .before .before .before .loop .left .level) (c .before .before .before .before .before .before .before .loop .left .named) (c .before .before .before .before .before .before .before .loop .left .dotted) (c .before .before .before .before .before .before .before .before .before .before .before .before .before .before .pre .1 .1) (sym (ap (goesOnBy (c .before .before .before .before .before .before .before .before .before .before .before .before .before .before .args .min) (c .before .before .before .before .before .before .before .loop .left .level) (c .before .before .before .before .before .before .before .loop .left .named) (c .before .before .before .before .before .before .before .loop .left .dotted)) (c .before .before .before .before .before .before .code-at .ensures)) ∙ sym (c .before .before .before .before .before .goes-on .ensures) ∙ c .before .before .before .before .if1 .taken)) (c .before .before .step .ensures)
+
+expr-loop-again : (t : ℕ) → expr-lts.Need-loop-again (expr-claims t) (expr-at t) expr.Post expr-Inv-loop expr-μ-loop
+expr-loop-again t c =
+    let h = goes-inside (c .before .before .before .before .before .before .before .before .before .before .before .before .before .before .args .tokens .now) (c .before .before .before .before .before .before .before .loop .left .at) (c .before .before .before .before .before .before .before .before .before .before .before .before .before .before .args .min) (c .before .before .before .before .before .before .before .loop .left .level) (c .before .before .before .before .before .before .before .loop .left .named) (c .before .before .before .before .before .before .before .loop .left .dotted) (c .before .before .before .before .before .before .before .before .before .before .before .before .before .before .pre .1 .1) (sym (ap (goesOnBy (c .before .before .before .before .before .before .before .before .before .before .before .before .before .before .args .min) (c .before .before .before .before .before .before .before .loop .left .level) (c .before .before .before .before .before .before .before .loop .left .named) (c .before .before .before .before .before .before .before .loop .left .dotted)) (c .before .before .before .before .before .before .code-at .ensures)) ∙ sym (c .before .before .before .before .before .goes-on .ensures) ∙ c .before .before .before .before .if1 .taken) in
+    (search needs, under-step (c .before .before .before .before .before .before .before .before .before .before .before .before .before .before .pre .1 .0) _ _ (c .before .before .before .before .before .before .before .before .before .before .operand .ensures) (c .before .before .before .before .before .before .before .loop .inv .1) _ (c .before .before .before .before .before .before .before .before .before .before .before .before .before .before .pre .1 .1) (sym (ap (goesOnBy (c .before .before .before .before .before .before .before .before .before .before .before .before .before .before .args .min) (c .before .before .before .before .before .before .before .loop .left .level) (c .before .before .before .before .before .before .before .loop .left .named) (c .before .before .before .before .before .before .before .loop .left .dotted)) (c .before .before .before .before .before .before .code-at .ensures)) ∙ sym (c .before .before .before .before .before .goes-on .ensures) ∙ c .before .before .before .before .if1 .taken) (omega arith) (c .before .before .step .ensures))
+
+expr-same-length : (t : ℕ) → expr-lts.Need-same-length (expr-claims t) (expr-at t) expr.Post expr-Inv-loop expr-μ-loop
 expr-same-length t c = search needs
 
-expr-returns : (t : ℕ) → expr-lts.Need-returns (expr-claims t) (expr-at t) expr.Post
-expr-returns t c = expr-none (c .before .before .before .before .before .before .before .before .pre .1 .0) (c .if1 .taken) (c .before .before .before .before .operand .ensures)
-
-expr-on-requires : (t : ℕ) → expr-lts.Need-on-requires (expr-claims t) (expr-at t) expr.Post
-expr-on-requires t c κs =
-    let p = c .before .before .before .before .before .before .before .before .before .pre .0 in
-    let o = c .before .before .before .before .before .operand .ensures in
-    let h = c .before .if1 .left in
-    let q = o .past h in
-    (omega arith, (ready-grew _ (omega arith) h (c .before .before .before .before .before .before .before .before .before .pre .1 .0) (o .grew h), c .before .before .before .before .before .before .before .before .before .pre .1 .1))
-
-expr-same-length-2 : (t : ℕ) → expr-lts.Need-same-length-2 (expr-claims t) (expr-at t) expr.Post
-expr-same-length-2 t c = search needs
-
-expr-returns-2 : (t : ℕ) → expr-lts.Need-returns-2 (expr-claims t) (expr-at t) expr.Post
-expr-returns-2 t c = expr-on (c .before .before .before .before .before .before .before .before .before .before .before .before .pre .1 .0) _ (c .before .before .before .before .if1 .left) (c .before .before .before .before .before .before .before .before .operand .ensures) (c .before .before .on .ensures)
+expr-returns : (t : ℕ) → expr-lts.Need-returns (expr-claims t) (expr-at t) expr.Post expr-Inv-loop expr-μ-loop
+expr-returns t c = under-end (c .before .before .before .before .before .before .before .before .before .before .pre .1 .0) _ _ (c .before .before .before .before .before .before .operand .ensures) (c .before .before .before .loop .inv .1) (sym (ap (goesOnBy (c .before .before .before .before .before .before .before .before .before .before .args .min) (c .before .before .before .loop .left .level) (c .before .before .before .loop .left .named) (c .before .before .before .loop .left .dotted)) (c .before .before .code-at .ensures)) ∙ sym (c .before .goes-on .ensures) ∙ c .if1 .left)
 
 group-add-expr : (t : ℕ) → group-lts.Need-add-expr (group-claims t) (group-at t) group.Post
 group-add-expr t c = search needs
@@ -570,38 +570,6 @@ named-same-length-2 t c = search needs
 
 named-returns-2 : (t : ℕ) → named-lts.Need-returns-2 (named-claims t) (named-at t) named.Post
 named-returns-2 t c = named-call _ (c .before .before .before .before .before .before .before .before .before .before .pre .1 .0) (sym (c .before .before .before .before .before .before .code-at .ensures) ∙ c .before .before .before .before .before .if1 .left) (c .before .before .call .ensures)
-
-on-code-at-requires : (t : ℕ) → on-lts.Need-code-at-requires (on-claims t) (on-at t) on.Post
-on-code-at-requires t c κs = search needs
-
-on-goes-on-requires : (t : ℕ) → on-lts.Need-goes-on-requires (on-claims t) (on-at t) on.Post
-on-goes-on-requires t c κs = search needs
-
-on-returns : (t : ℕ) → on-lts.Need-returns (on-claims t) (on-at t) on.Post
-on-returns t c = on-stops _ (c .before .before .before .before .before .pre .1 .0) (sym (ap (goesOnBy (c .before .before .before .before .before .args .min) (c .before .before .before .before .before .args .left .level) (c .before .before .before .before .before .args .left .named) (c .before .before .before .before .before .args .left .dotted)) (c .before .before .code-at .ensures)) ∙ sym (c .before .goes-on .ensures) ∙ not-true _ (c .if1 .taken))
-
-on-step-requires : (t : ℕ) → on-lts.Need-step-requires (on-claims t) (on-at t) on.Post
-on-step-requires t c κs = let p = c .before .before .before .before .before .before .pre .0 in (omega arith, c .before .before .before .before .before .before .pre .1 .0)
-
-on-same-length : (t : ℕ) → on-lts.Need-same-length (on-claims t) (on-at t) on.Post
-on-same-length t c = search needs
-
-on-returns-2 : (t : ℕ) → on-lts.Need-returns-2 (on-claims t) (on-at t) on.Post
-on-returns-2 t c = on-none _ (c .before .before .before .before .before .before .before .before .before .before .before .pre .1 .0) (c .before .before .before .before .before .before .before .before .before .before .before .pre .1 .1) (sym (ap (goesOnBy (c .before .before .before .before .before .before .before .before .before .before .before .args .min) (c .before .before .before .before .before .before .before .before .before .before .before .args .left .level) (c .before .before .before .before .before .before .before .before .before .before .before .args .left .named) (c .before .before .before .before .before .before .before .before .before .before .before .args .left .dotted)) (c .before .before .before .before .before .before .before .before .code-at .ensures)) ∙ sym (c .before .before .before .before .before .before .before .goes-on .ensures) ∙ not-false _ (c .before .before .before .before .before .before .if1 .left)) (c .if2 .taken) (c .before .before .before .before .step .ensures)
-
-on-on-requires : (t : ℕ) → on-lts.Need-on-requires (on-claims t) (on-at t) on.Post
-on-on-requires t c κs =
-    let p = c .before .before .before .before .before .before .before .before .before .before .before .before .pre .0 in
-    let o = c .before .before .before .before .before .step .ensures in
-    let h = c .before .if2 .left in
-    let q = o .past h in
-    (omega arith, (ready-grew _ (omega arith) h (c .before .before .before .before .before .before .before .before .before .before .before .before .pre .1 .0) (o .grew h), c .before .before .before .before .before .before .before .before .before .before .before .before .pre .1 .1))
-
-on-same-length-2 : (t : ℕ) → on-lts.Need-same-length-2 (on-claims t) (on-at t) on.Post
-on-same-length-2 t c = search needs
-
-on-returns-3 : (t : ℕ) → on-lts.Need-returns-3 (on-claims t) (on-at t) on.Post
-on-returns-3 t c = on-more _ (c .before .before .before .before .before .before .before .before .before .before .before .before .before .before .before .pre .1 .0) _ (c .before .before .before .before .before .before .before .before .before .before .before .before .before .before .before .pre .1 .1) (sym (ap (goesOnBy (c .before .before .before .before .before .before .before .before .before .before .before .before .before .before .before .args .min) (c .before .before .before .before .before .before .before .before .before .before .before .before .before .before .before .args .left .level) (c .before .before .before .before .before .before .before .before .before .before .before .before .before .before .before .args .left .named) (c .before .before .before .before .before .before .before .before .before .before .before .before .before .before .before .args .left .dotted)) (c .before .before .before .before .before .before .before .before .before .before .before .before .code-at .ensures)) ∙ sym (c .before .before .before .before .before .before .before .before .before .before .before .goes-on .ensures) ∙ not-false _ (c .before .before .before .before .before .before .before .before .before .before .if1 .left)) (c .before .before .before .before .if2 .left) (c .before .before .before .before .before .before .before .before .step .ensures) (c .before .before .on .ensures)
 
 operand-code-at-requires : (t : ℕ) → operand-lts.Need-code-at-requires (operand-claims t) (operand-at t) operand.Post
 operand-code-at-requires t c κs = search needs
@@ -781,9 +749,9 @@ step-returns-7 t c =
     let e = c .before .before .before .code-at .ensures in
     step-none _ (c .before .before .before .before .before .before .pre .1) (omega (arith, c .before .if1 .left, e)) (subst (λ n. isOneOf (31 ∷ 34 ∷ 35 ∷ 37 ∷ 40 ∷ []) n ≡ false) e (no-form _ (m .0 .0 .0 .0 .1) (m .0 .0 .0 .1) (m .0 .0 .1) (m .0 .1) (m .1))) (c .no-expr .ensures)
 
-pub +arguments+binary+call+dot+expr+group+index+named+on+operand+prefixed+step-spec :
+pub +arguments+binary+call+dot+expr+group+index+named+operand+prefixed+step-spec :
     {M : Type 1} → statement M
-+arguments+binary+call+dot+expr+group+index+named+on+operand+prefixed+step-spec =
++arguments+binary+call+dot+expr+group+index+named+operand+prefixed+step-spec =
     close
     μ-arguments
     μ-binary
@@ -793,7 +761,6 @@ pub +arguments+binary+call+dot+expr+group+index+named+on+operand+prefixed+step-s
     μ-group
     μ-index
     μ-named
-    μ-on
     μ-operand
     μ-prefixed
     μ-step
@@ -876,12 +843,17 @@ pub +arguments+binary+call+dot+expr+group+index+named+on+operand+prefixed+step-s
     (λ t. expr-lts.spec (expr-claims t)
     (expr-at t)
     expr.Post
+    expr-Inv-loop
+    expr-μ-loop
     (expr-operand-requires t)
+    (expr-loop-holds t)
+    (expr-code-at-requires t)
+    (expr-goes-on-requires t)
+    (expr-step-requires t)
+    (expr-loop-less t)
+    (expr-loop-again t)
     (expr-same-length t)
-    (expr-returns t)
-    (expr-on-requires t)
-    (expr-same-length-2 t)
-    (expr-returns-2 t))
+    (expr-returns t))
     (λ t. group-lts.spec (group-claims t)
     (group-at t)
     group.Post
@@ -923,18 +895,6 @@ pub +arguments+binary+call+dot+expr+group+index+named+on+operand+prefixed+step-s
     (named-call-requires t)
     (named-same-length-2 t)
     (named-returns-2 t))
-    (λ t. on-lts.spec (on-claims t)
-    (on-at t)
-    on.Post
-    (on-code-at-requires t)
-    (on-goes-on-requires t)
-    (on-returns t)
-    (on-step-requires t)
-    (on-same-length t)
-    (on-returns-2 t)
-    (on-on-requires t)
-    (on-same-length-2 t)
-    (on-returns-3 t))
     (λ t. operand-lts.spec (operand-claims t)
     (operand-at t)
     operand.Post
