@@ -4,13 +4,14 @@ use mathlib.Core.Bool.{Bool, true, false, not, _&&_, _||_, and-false}
 use Prim.Native.Nat.{ℕ}
 use native.Mathlib.Omega.{arith}
 use lib.Dec.{leb}
+use borrow.Author.Tests.{eqb-true}
 use Rattle.laws.specs.Choice.{pick}
 use Rattle.laws.proofs.Choice.{pick-true, pick-false, true-not-false}
 use Rattle.tree.specs.Trees.{Tree}
 use Rattle.tree.specs.Walks.{isThere}
 use Rattle.precedence.specs.declared.Precedence.{Precedence}
 use Rattle.precedence.specs.declared.Precedence.the-variants as level
-use Rattle.precedence.specs.Precedences.{below, atMost, same}
+use Rattle.precedence.specs.Precedences.{rankOf, below, atMost, same}
 use Rattle.fixup.specs.declared.context.FixupContext.{FixupContext}
 use Rattle.scan.specs.declared.Scan.{Scan}
 use Rattle.scan.specs.declared.Scan.the-variants.{Fail, Bailout, Consume}
@@ -177,7 +178,7 @@ unfolding pick
 pick-of true s r a e P h k = h e
 pick-of false s r a e P h k = k e
 
-answer-of : (t : Bool) (s r : Scan) → finish (pick t (Answer s) Ask) r ≡ pick t s r
+pub answer-of : (t : Bool) (s r : Scan) → finish (pick t (Answer s) Ask) r ≡ pick t s r
 unfolding pick
 answer-of true s r = refl
 answer-of false s r = refl
@@ -228,26 +229,8 @@ pub late-unambiguous : (next : Precedence) (d : Bool) (b : ℕ) → same next le
 unfolding enough
 late-unambiguous next d b u = (pick-true _ _ u, pick-true _ _ u)
 
-pub unambiguous : (p : Precedence) → same p level.Unambiguous ≡ true → p ≡ level.Unambiguous
-unambiguous level.Jump e = true-not-false (sym e)
-unambiguous level.Assign e = true-not-false (sym e)
-unambiguous level.Range e = true-not-false (sym e)
-unambiguous level.Or e = true-not-false (sym e)
-unambiguous level.And e = true-not-false (sym e)
-unambiguous level.Let e = true-not-false (sym e)
-unambiguous level.Compare e = true-not-false (sym e)
-unambiguous level.BitOr e = true-not-false (sym e)
-unambiguous level.BitXor e = true-not-false (sym e)
-unambiguous level.BitAnd e = true-not-false (sym e)
-unambiguous level.Shift e = true-not-false (sym e)
-unambiguous level.Sum e = true-not-false (sym e)
-unambiguous level.Product e = true-not-false (sym e)
-unambiguous level.Cast e = true-not-false (sym e)
-unambiguous level.Prefix e = true-not-false (sym e)
-unambiguous level.Unambiguous e = refl
-
 pub binary-late : (q next : Precedence) (d : Bool) (b : ℕ) → same next level.Unambiguous ≡ true → early (Binary q) next d 1 b ≡ false
-binary-late q next d b u = ap₂ _||_ (late-unambiguous next d b u .0) (rw (unambiguous next u) (and-false (same q level.Compare)))
+binary-late q next d b u = ap₂ _||_ (late-unambiguous next d b u .0) (rw (eqb-true (rankOf next) 15 u) (and-false (same q level.Compare)))
 
 abbrev MoreBailout : Tree → Type 0
 MoreBailout t = (x : FixupContext) (p : Precedence) (b : ℕ) → scanRight t x p 1 0 ≡ Fail → scanRight t x p 1 b ≡ Fail
