@@ -208,7 +208,7 @@ asks-not-consume arm p next Fail e = refl
 asks-not-consume arm p next Bailout e = refl
 asks-not-consume arm p next Consume e = answer-not-ask e
 
-prefix-asks : (p next : Precedence) (s : Scan) → leaveBy Prefix p next s ≡ Ask → s ≡ Fail
+pub prefix-asks : (p next : Precedence) (s : Scan) → leaveBy Prefix p next s ≡ Ask → s ≡ Fail
 prefix-asks p next Fail e = refl
 prefix-asks p next Bailout e = answer-not-ask e
 prefix-asks p next Consume e = answer-not-ask e
