@@ -154,7 +154,7 @@ operand-spine Let a b = refl
 operand-spine Group a b = refl
 operand-spine Closed a b = refl
 
-spine-along : (l : Label) (c d : Tree) → spine (node l c d) ≡ 1 + spine (onwards (node l c d))
+pub spine-along : (l : Label) (c d : Tree) → spine (node l c d) ≡ 1 + spine (onwards (node l c d))
 unfolding spine onwards
 spine-along l c d = ap (_+_ 1) (operand-spine (armOf (node l c d)) c d)
 
@@ -258,7 +258,7 @@ is-ask : (l : Leave) → isAsk l ≡ true → l ≡ Ask
 is-ask (Answer s) e = true-not-false (sym e)
 is-ask Ask e = refl
 
-pick-within : (b : Bool) (n m : ℕ) → n ≤ m → pick b n 0 ≤ m
+pub pick-within : (b : Bool) (n m : ℕ) → n ≤ m → pick b n 0 ≤ m
 unfolding pick
 pick-within true n m h = h
 pick-within false n m h = omega arith
