@@ -24,6 +24,10 @@ unfoldable pub spaced : List ℕ → List ℕ
 spaced [] = []
 spaced (n ∷ ns) = space ∷ decimal n ++ spaced ns
 
+-- a line: a number, and more with a space before each
+unfoldable pub line : ℕ → List ℕ → List ℕ
+line n ns = decimal n ++ (spaced ns ++ (newline ∷ []))
+
 -- a first line: two letters and a number
 unfoldable pub headed : ℕ → ℕ → ℕ → List ℕ
 headed a b n = a ∷ b ∷ space ∷ decimal n ++ (newline ∷ [])

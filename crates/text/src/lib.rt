@@ -4,7 +4,7 @@ ghost use mathlib.Core.List.{[], _∷_};
 ghost use mathlib.Core.Path.{_≡_};
 ghost use Prim.Native.Nat.{_+_, _<_};
 ghost use Rattle.text.specs.Growth.{Grown};
-ghost use Rattle.text.specs.Numbers.{decimal, spaced, headed};
+ghost use Rattle.text.specs.Numbers.{decimal, spaced, line, headed};
 
 pub fn put_byte(out: &mut [u8], end: usize, byte: u8) -> usize
     ensures { λ r. ⌜ Grown (now (out .entry)) end (byte ∷ []) (now (out .exit)) r ⌝ }
@@ -45,6 +45,15 @@ pub fn put_spaced(out: &mut [u8], end: usize, numbers: &[u16]) -> usize
         done += 1;
     }
     at
+}
+
+// A number, and more numbers with a space before each, as a line.
+pub fn put_line(out: &mut [u8], end: usize, n: u16, numbers: &[u16]) -> usize
+    ensures { λ r. ⌜ Grown (now (out .entry)) end (line n (now (numbers .entry))) (now (out .exit)) r ⌝ }
+{
+    let first = put_number(out, end, n);
+    let last = put_spaced(out, first, numbers);
+    put_byte(out, last, b'\n')
 }
 
 // Two letters and a number, as a first line.
