@@ -12,7 +12,7 @@ use Rattle.tree.specs.Passes.{Levelled}
 use Rattle.tree.proofs.Unfold.{operand-range, operand-most, tree-zero, tree-past, unfolds, levels-most}
 
 module _ (cells : List ℕ) (count : ℕ) where
-  none-levels : (j : ℕ) → treeAt cells count j ≡ none → 0 ≡ levels (treeAt cells count j)
+  pub none-levels : (j : ℕ) → treeAt cells count j ≡ none → 0 ≡ levels (treeAt cells count j)
   unfolding levels
   none-levels j e = rw e
 
@@ -25,7 +25,7 @@ module _ (cells : List ℕ) (count : ℕ) where
       each (suc j) k = none-levels (suc j) (tree-past cells count (suc j) (k (omega arith)))
 
   -- the levels of a node, by its operands
-  levels-node : (i : ℕ) → 1 ≤ i → i ≤ count
+  pub levels-node : (i : ℕ) → 1 ≤ i → i ≤ count
       → levels (treeAt cells count i) ≡ ownLevel (formAt cells i) + max (levels (treeAt cells count (operandAt cells count i 3))) (levels (treeAt cells count (operandAt cells count i 4)))
   unfolding levels labelAt
   levels-node i h k = rw (unfolds cells count i h k)
