@@ -9,7 +9,7 @@ use lib.ListN.{length, getD}
 use borrow.Author.Tests.{le-leb, ne-eqb, lt-ltb, le-ltb}
 use Rattle.laws.specs.Choice.{pick, lookup, isOneOf}
 use Rattle.laws.specs.Each.{all}
-use Rattle.laws.proofs.Choice.{of-true, and-true}
+use Rattle.laws.proofs.Choice.{of-true, and-true, alike, alike-same}
 use Rattle.laws.proofs.Each.{all-at}
 use Rattle.tree.specs.Trees.{Label}
 use Rattle.tree.specs.Forms.{ExprAssign, ExprBinary}
@@ -20,15 +20,11 @@ use Rattle.grammar.specs.Types.{one}
 use Rattle.grammar.specs.Expressions.{Expr, kindOf, endsInTypeName, endsInDotName}
 use Rattle.grammar.specs.Grammar.{opensArguments}
 use Rattle.grammar.specs.Parser.{Next, stops, operates, castsTo, dots, calls, indexes, tries, nextOf, levelAt, follows, goesOn}
-use Rattle.grammar.proofs.Tokens.{code-same, code-token}
+use Rattle.grammar.proofs.Tokens.{number-operator, code-same, code-token}
 use Rattle.plain.specs.Trees.{label, operatorLabel}
 use Rattle.token_reader.specs.Tables.{levelRows, pastRows, levelPast, levelOf, beforeOf, afterOf, barred, goesOnBy, operatorForm, operatorDetail}
 
 -- ---- operators
-
-number-operator : (n : ℕ) → n < 29 → number (operatorOf n) ≡ n
-unfolding operatorOf
-number-operator n h = eqb→eq (number (operatorOf n)) n (all-at (λ m. eqb (number (operatorOf m)) m) 29 tt n h)
 
 pub operator-token : (n : ℕ) → n < 29 → tokenOf n ≡ operator (operatorOf n)
 operator-token n h = code-same (tokenOf n) (operator (operatorOf n)) (code-token n (omega arith) ∙ sym (number-operator n h))
@@ -61,16 +57,6 @@ operator-labelled n h = go (number (operatorOf n)) (number-operator n h)
     go m e = by (eqb n 28) ∙ ap (λ k. pick (eqb k 28) (label ExprAssign 0) (label ExprBinary k)) (sym e)
 
 -- ---- what may follow
-
-abbrev alike : Bool → Bool → Bool
-alike true b = b
-alike false b = not b
-
-alike-same : (a b : Bool) → T (alike a b) → a ≡ b
-alike-same true true t = refl
-alike-same true false t = absurd t
-alike-same false true t = absurd t
-alike-same false false t = refl
 
 -- the level that must stand before, and whether a special rule forbids it
 abbrev beforeAt : Next → ℕ

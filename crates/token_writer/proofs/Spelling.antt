@@ -6,11 +6,11 @@ use Prim.Native.Nat.{ℕ, zero, suc, _+_, _*_, _-_, _<_, _≤_}
 use native.Mathlib.Omega.{arith}
 use native.Mathlib.Decide.{ℕ-discrete}
 use lib.ListN.{getD, List·getD-eq-default}
-use lib.Dec.{T, eqb, eqb→eq}
+use lib.Dec.{T, eqb}
 use types.Run.{OneOf}
 use borrow.Author.Tests.{ne-eqb}
 use Rattle.laws.specs.Choice.{pick, lookup}
-use Rattle.laws.proofs.Each.{all-at}
+use Rattle.grammar.proofs.Tokens.{number-operator}
 use Rattle.laws.proofs.Keys.{numbersAt, givenAt, apartBefore, arm, Missed, rest}
 use Rattle.tree.specs.Table.{cellAt}
 use Rattle.tree.specs.Shapes.{presence}
@@ -48,8 +48,7 @@ pair-cell rows (suc i) h = let e : 5 * i + 0 ≡ 5 * (suc i - 1) = omega arith i
 -- ---- operators
 
 pub operator-low : (n : ℕ) → n < 28 → number (operatorOf n) ≡ n
-unfolding operatorOf
-operator-low n h = eqb→eq (number (operatorOf n)) n (all-at (λ m. eqb (number (operatorOf m)) m) 28 tt n h)
+operator-low n h = number-operator n (omega arith)
 
 pub operator-high : (n : ℕ) → 28 ≤ n → number (operatorOf n) ≡ 28
 unfolding operatorOf
