@@ -4,6 +4,8 @@
 //!     cargo run --release                         nanoseconds a node
 //!     cargo run --release -- turns                the same, with cold trees
 //!     cargo run --release -- instructions         instructions a node, with valgrind
+//!     cargo run --release -- nests                nests of 4 to 126 levels
+//!     cargo run --release -- slowest              the slowest trees that a search finds
 //!     cargo run --release -- run SET SIDE TIMES   what valgrind and perf look at
 //!
 //! Inside the timing of each side, for one tree:
@@ -38,6 +40,7 @@
 //! the rounds' ratios count.
 
 mod clock;
+mod nests;
 mod sets;
 mod sides;
 
@@ -57,6 +60,8 @@ fn main() -> ExitCode {
         [] => time_all(GROUP_NODES),
         ["turns"] => time_all(u64::MAX),
         ["instructions"] => count_all(),
+        ["nests"] => nests::time_nests(),
+        ["slowest"] => nests::search_slowest(),
         ["run", set, side, times] => match (SETS.get(number(set)), Side::ALL.get(number(side))) {
             (Some(set), Some(&side)) => {
                 for group in &mut prepare(set, GROUP_NODES) {
@@ -71,7 +76,7 @@ fn main() -> ExitCode {
 }
 
 fn usage() -> ExitCode {
-    eprintln!("usage: bench [turns | instructions | run SET SIDE TIMES], sets and sides from 0 on");
+    eprintln!("usage: bench [turns | instructions | nests | slowest | run SET SIDE TIMES], sets and sides from 0 on");
     ExitCode::FAILURE
 }
 
