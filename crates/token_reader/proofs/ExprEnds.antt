@@ -2,17 +2,17 @@
 use mathlib.Core.Path.{_≡_, refl, sym, subst, ap, ap₂, _∙_}
 use mathlib.Core.Bool.{Bool, true, false, _&&_}
 use mathlib.Core.List.{List, [], _∷_}
-use Prim.Native.Nat.{ℕ, zero, suc, _+_, _*_, _-_, _≤_, _<_}
+use Prim.Native.Nat.{ℕ, zero, suc, _+_, _-_, _≤_, _<_}
 use native.Mathlib.Omega.{arith}
 use native.Mathlib.Decide.{decLe}
 use lib.ListN.{length, getD}
-use Rattle.laws.specs.Choice.{pick, lookup, isOneOf}
+use Rattle.laws.specs.Choice.{isOneOf}
 use Rattle.tree.specs.Forms.{ExprCall, ExprCast, ExprIndex, ExprMethodCall, ExprTry, Link}
 use Rattle.tree.specs.Trees.{Tree, none, node}
-use Rattle.grammar.specs.Tokens.{Token, operator, code, LeftParen, RightParen, RightBracket, Comma}
+use Rattle.grammar.specs.Tokens.{Token, code, LeftParen, RightParen, RightBracket, Comma}
 use Rattle.grammar.specs.Codes.{operatorOf, tokenOf}
-use Rattle.grammar.specs.Levels.{prefixes, kind, level, after}
-use Rattle.grammar.specs.Types.{one, list, items, Ty}
+use Rattle.grammar.specs.Levels.{kind, level, after}
+use Rattle.grammar.specs.Types.{one, list, items}
 use Rattle.grammar.specs.Expressions.{Atom, Prefix, Member, byName, byNumber, awaited, Expr, atom, paren, prefix, binary, cast, member, try, index, call, method, noArguments, arguments, lastArgument, moreArguments, kindOf, endsInTypeName, endsInDotName}
 use Rattle.grammar.specs.Grammar.{NONE, bare}
 use Rattle.grammar.specs.Parser.{Out, fail, ok, then, tail, isFirst, Start, noStart, anAtom, aPrefix, aGroup, start, startBy, AfterDot, noMember, aMember, afterDot, afterDotBy, isByName, Next, stops, operates, castsTo, dots, calls, indexes, tries, nextOf, next, goesOn, typeBy, exprBy, onBy, argumentsBy, someArgumentsBy}
@@ -22,7 +22,7 @@ use Rattle.token_reader.specs.declared.piece.Piece.{Piece}
 use Rattle.token_reader.specs.declared.piece.Parsed.{Parsed}
 use Rattle.token_reader.specs.Reading.{anyAbove}
 use Rattle.token_reader.specs.Tables.{levelOf, afterOf, goesOnBy, operatorForm, operatorDetail}
-use Rattle.token_reader.specs.Pieces.{Placed, Stored, Ready, Grew, Tells, from, Enough, IsType, TypeAt, IsExpr, IsArguments, Postfix, ExprAt, ArgumentsAt, AtomAt, prefixBy, PrefixedAt, closeBy, groupBy, GroupAt, operandBy, OperandAt, binaryBy, castBy, callBy, indexBy, memberBy, dotBy, stepBy, StepAt, BinaryAt, CastAt, IndexAt, TryAt, MemberAt, DotAt, NamedAt, Called, CallAt}
+use Rattle.token_reader.specs.Pieces.{Placed, Stored, Ready, Grew, Tells, from, Enough, IsType, TypeAt, IsExpr, IsArguments, Postfix, ExprAt, ArgumentsAt, AtomAt, PrefixedAt, closeBy, GroupAt, operandBy, OperandAt, callBy, memberBy, dotBy, stepBy, StepAt, BinaryAt, CastAt, IndexAt, TryAt, MemberAt, DotAt, NamedAt, Called, CallAt}
 use Rattle.token_reader.proofs.Cells.{past-list}
 use Rattle.token_reader.proofs.First.{there, code-most, tail-from, tail-from-next, first-there, first-other, start-at, after-dot-at, next-at}
 use Rattle.token_reader.proofs.Nodes.{carried, lower, placed, grew-none, grew-wider, grew-on, grew-node}

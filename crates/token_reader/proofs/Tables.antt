@@ -1,19 +1,16 @@
 -- The reader's tables give what the parser asks of the token that a code stands for. Assumes nothing.
 use mathlib.Core.Path.{_≡_, refl, sym, ap, ap₂, _∙_}
 use mathlib.Core.Bool.{Bool, true, false, not, _&&_, _||_}
-use mathlib.Core.List.{List, [], _∷_}
-use Prim.Native.Nat.{ℕ, _+_, _≤_, _<_}
+use mathlib.Core.List.{[], _∷_}
+use Prim.Native.Nat.{ℕ, _≤_, _<_}
 use native.Mathlib.Omega.{arith}
 use lib.Dec.{T, eqb, leb, ltb, eqb→eq, leb→le}
-use lib.ListN.{length, getD}
-use borrow.Author.Tests.{le-leb, ne-eqb, lt-ltb, le-ltb}
+use borrow.Author.Tests.{le-leb, ne-eqb, le-ltb}
 use Rattle.laws.specs.Choice.{pick, lookup, isOneOf}
-use Rattle.laws.specs.Each.{all}
 use Rattle.laws.proofs.Choice.{of-true, and-true, alike, alike-same}
 use Rattle.laws.proofs.Each.{all-at}
-use Rattle.tree.specs.Trees.{Label}
 use Rattle.tree.specs.Forms.{ExprAssign, ExprBinary}
-use Rattle.grammar.specs.Tokens.{Operator, number, Token, operator, code}
+use Rattle.grammar.specs.Tokens.{number, operator}
 use Rattle.grammar.specs.Codes.{operatorOf, tokenOf}
 use Rattle.grammar.specs.Levels.{casts, postfixes, kind, level, before, after}
 use Rattle.grammar.specs.Types.{one}

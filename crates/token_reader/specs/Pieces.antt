@@ -1,16 +1,15 @@
 -- What the reader's private functions answer, by the parser. Nothing here is to be believed: proofs/Whole says what it comes to.
 use mathlib.Core.Path.{_≡_}
 use mathlib.Core.Bool.{Bool, true, false, _&&_}
-use mathlib.Core.List.{List, [], _∷_}
-use Prim.Native.Nat.{ℕ, suc, _+_, _*_, _≤_, _<_}
+use mathlib.Core.List.{List}
+use Prim.Native.Nat.{ℕ, _+_, _*_, _≤_, _<_}
 use lib.ListN.{length, drop, getD}
-use Rattle.tree.specs.Forms.{Link}
 use Rattle.tree.specs.Table.{firstAt, secondAt}
-use Rattle.tree.specs.Trees.{Label, Tree, none, node, labelAt}
+use Rattle.tree.specs.Trees.{Tree, none, node, labelAt}
 use Rattle.grammar.specs.Tokens.{Token, Operator, operator, Lt, LeftParen, RightBracket, RightParen}
 use Rattle.grammar.specs.Codes.{operatorOf, tokensOf}
 use Rattle.grammar.specs.Levels.{kind, level, prefixes, after}
-use Rattle.grammar.specs.Types.{Sort, one, list, items, TypePrefix, TypeSign, Ty, named, applied, pointing, sign, typeEndsInName}
+use Rattle.grammar.specs.Types.{one, list, items, TypePrefix, TypeSign, Ty, named, applied, pointing, sign, typeEndsInName}
 use Rattle.grammar.specs.Expressions.{Atom, Prefix, Member, byName, Expr, atom, paren, prefix, binary, cast, member, try, index, call, method, kindOf, endsInTypeName, endsInDotName}
 use Rattle.grammar.specs.Grammar.{NONE, bare}
 use Rattle.grammar.specs.Parser.{Out, fail, ok, then, tail, isFirst, Start, noStart, anAtom, aPrefix, aGroup, start, AfterDot, noMember, aMember, afterDot, isByName, Next, stops, operates, castsTo, dots, calls, indexes, tries, next, typeBy, typesBy, someTypesBy, exprBy, argumentsBy, someArgumentsBy}

@@ -12,8 +12,6 @@ use crate::token::operator_detail;
 use crate::token::operator_form;
 use crate::types::ty;
 use tree::forms;
-ghost use mathlib.Core.Path.{_≡_};
-ghost use mathlib.Core.Bool.{false};
 ghost use Prim.Native.Nat.{_+_, _≤_, _<_};
 ghost use lib.ListN.{length};
 ghost use Rattle.token_reader.specs.Pieces.{Ready, Postfix, AtomAt, ExprAt, OperandAt, PrefixedAt, GroupAt, StepAt, BinaryAt, CastAt, DotAt, NamedAt, MemberAt, TryAt, IndexAt, CallAt, ArgumentsAt};

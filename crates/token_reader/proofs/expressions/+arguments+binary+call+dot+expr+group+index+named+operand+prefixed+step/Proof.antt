@@ -1,16 +1,16 @@
 -- The reader of expressions meets its contracts: with each call there are fewer tokens left to read, or the call goes to a smaller part of the work. Assumes nothing.
 use mathlib.Core.Path.{_≡_, refl, sym, subst, ap, _∙_}
-use mathlib.Core.Bool.{false, true}
+use mathlib.Core.Bool.{false}
 use mathlib.Core.List.{[], _∷_}
-use Prim.Native.Nat.{ℕ, _+_, _*_, _-_, _≤_, _<_}
+use Prim.Native.Nat.{ℕ, _+_, _*_, _-_, _<_}
 use native.Mathlib.Omega.{arith}
-use lib.ListN.{length, getD}
+use lib.ListN.{length}
 use borrow.Author.Needs.{needs}
-use Rattle.laws.specs.Choice.{pick, lookup, isOneOf}
+use Rattle.laws.specs.Choice.{isOneOf}
 use Rattle.laws.proofs.Keys.{arm, rest}
 use Rattle.grammar.specs.Expressions.{path, literal, neg, deref, invert, ref, refMut, byNumber, awaited}
 use Rattle.grammar.specs.Parser.{noStart, startRows, startBy, noMember, afterDotRows, afterDotBy}
-use Rattle.token_reader.specs.Tables.{levelOf, goesOnBy}
+use Rattle.token_reader.specs.Tables.{goesOnBy}
 use Rattle.token_reader.proofs.First.{there}
 use Rattle.token_reader.proofs.Tables.{level-most, after-least, no-form}
 use Rattle.token_reader.proofs.Tells.{ready-on, ready-grew}
