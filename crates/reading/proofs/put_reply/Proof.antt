@@ -43,7 +43,7 @@ returns c =
     let all = fits (omega arith) (c .put-head .ensures) in
     let within : c .put-head .result ≤ length (c .put-head .last .0) = omega (arith, all .ends, all .room) in (
       (within, sym (length-take-le _ _ within)),
-      record { reply = _; after = _; answers = rw (c .before .before .before .why .given .1) at (c .before .before .before .before .before .before .read .ensures); prints = all .text }
+      record { reply = _; after = _; answers = rw (c .before .before .before .why .given .1) at (c .before .before .before .before .before .before .read .ensures); prints = all .text },
     )
 
 returns-2 : tie.Need-returns-2
@@ -52,7 +52,7 @@ returns-2 c =
     let all = c .put-table .ensures .0 in
     let within : c .put-table .result ≤ length (c .put-table .last .0) = omega arith in (
       (within, sym (length-take-le _ _ within)),
-      record { reply = _; after = _; answers = rw (c .before .before .before .before .count .given .1) at (c .before .before .before .before .before .before .before .read .ensures); prints = all .text }
+      record { reply = _; after = _; answers = rw (c .before .before .before .before .count .given .1) at (c .before .before .before .before .before .before .before .read .ensures); prints = all .text },
     )
 
 pub put-reply-spec : {M : Type 1} → statement M
