@@ -1,5 +1,5 @@
 -- Document 01, 'Decisions': what `parens` prints for a file, as ASCII codes.
-use mathlib.Core.List.{List, [], _∷_, _++_}
+use mathlib.Core.List.{List, [], _++_}
 use Prim.Native.Nat.{ℕ, zero, suc, _*_, _-_}
 use lib.Dec.{eqb}
 use lib.ListN.{take, drop, replicate}
@@ -12,11 +12,11 @@ use Rattle.tree_file.specs.declared.Loaded.the-variants.{Refused, Accepted}
 use Rattle.tree_file.specs.Files.{cellsIn, loaded}
 use Rattle.walk.specs.Rows.{rowsOf}
 use Rattle.walk.specs.Walk.{rootHanded, placed}
-use Rattle.text.specs.Numbers.{newline, decimal, spaced, headed}
+use Rattle.text.specs.Numbers.{line, headed}
 
 -- "its node number and row": node i's, whose five cells stand in `rows`
 unfoldable pub lineOf : List ℕ → ℕ → List ℕ
-lineOf rows i = decimal i ++ (spaced (take 5 (drop (5 * (i - 1)) rows)) ++ (newline ∷ []))
+lineOf rows i = line i (take 5 (drop (5 * (i - 1)) rows))
 
 -- "for each expression": nothing for a type or a link
 unfoldable pub nodeText : ℕ → List ℕ → List ℕ → ℕ → List ℕ

@@ -2,20 +2,17 @@
 // expression, or the number of the refusal.
 use libc::STDIN_FILENO;
 use libc::STDOUT_FILENO;
-use text::put_byte;
 use text::put_head;
-use text::put_number;
-use text::put_spaced;
+use text::put_line;
 use tree::form::class_of;
 use tree::shape::form_at;
 use tree_file::Loaded;
 ghost use mathlib.Core.Path.{_≡_};
 ghost use Prim.Native.Nat.{_+_, _*_, _≤_};
-ghost use lib.ListN.{length, take, drop};
+ghost use lib.ListN.{length, take};
 ghost use Rattle.io.specs.Counts.{Counts};
 ghost use Rattle.tree.specs.Refusals.{refusal};
 ghost use Rattle.text.specs.Growth.{Added};
-ghost use Rattle.text.specs.Numbers.{spaced};
 ghost use Rattle.parens.specs.Text.{lineOf, nodeText, linesOf, acceptedText, printed};
 
 // One byte more than the longest file, so that a longer one shows.
@@ -31,24 +28,15 @@ const TEXT: usize = 147_465;
 
 // ---- lines
 
-// The five cells of a row, which start at `from`.
-fn put_row(out: &mut [u8], end: usize, rows: &[u16], from: usize) -> usize
-    requires { ⌜ (from + 5 ≤ length (now rows)) × (end + 30 ≤ length (now out)) ⌝ }
-    ensures { λ r. ⌜ Added (now (out .entry)) end (spaced (take 5 (drop from (now (rows .entry))))) (now (out .exit)) r ⌝ }
-    ensures { λ r. ⌜ r ≤ end + 30 ⌝ }
-{
-    let to = from + 5;
-    put_spaced(out, end, &rows[from..to])
-}
-
-fn put_line(out: &mut [u8], end: usize, rows: &[u16], node: u16) -> usize
+// The line of a node: its number, and the five cells of its row.
+fn put_row(out: &mut [u8], end: usize, rows: &[u16], node: u16) -> usize
     requires { ⌜ (1 ≤ node) × (5 * node ≤ length (now rows)) × (end + 36 ≤ length (now out)) ⌝ }
     ensures { λ r. ⌜ Added (now (out .entry)) end (lineOf (now (rows .entry)) node) (now (out .exit)) r ⌝ }
     ensures { λ r. ⌜ r ≤ end + 36 ⌝ }
 {
-    let number = put_number(out, end, node);
-    let row = put_row(out, number, rows, 5 * ((node - 1) as usize));
-    put_byte(out, row, b'\n')
+    let from = 5 * ((node - 1) as usize);
+    let to = from + 5;
+    put_line(out, end, node, &rows[from..to])
 }
 
 // The line of an expression; nothing for another node.
@@ -60,7 +48,7 @@ fn put_node(out: &mut [u8], end: usize, count: u16, table: &[u16], rows: &[u16],
     if class_of(form_at(table, count, node)) != 1 {
         return end;
     }
-    put_line(out, end, rows, node)
+    put_row(out, end, rows, node)
 }
 
 fn put_lines(out: &mut [u8], end: usize, count: u16, table: &[u16], rows: &[u16]) -> usize
