@@ -204,11 +204,13 @@ drops s (atom y) = λ x c w.
 drops s (paren a) = λ x c w.
     split (DropsAt (paren a) x)
     (λ p m.
-    let d = operand-drops (alone a) (drops one a) p (subst (λ h. markedAt h (treeOf a) p ≡ true) (paren-first x a) m) in
-    (d .0, λ end.
-    but-first x _ _ _ (signs (LeftParen ∷ []) (RightParen ∷ []) []) refl (tokensBut p) end
-    ∙ ap (λ h. LeftParen ∷ tokensBut p h (treeOf a) (RightParen ∷ end)) (paren-first x a)
-    ∙ ap (λ r. LeftParen ∷ r) (d .1 (RightParen ∷ end))))
+    let d = operand-drops (alone a) (drops one a) p (subst (λ h. markedAt h (treeOf a) p ≡ true) (paren-first x a) m) in (
+      d .0,
+      λ end.
+          but-first x _ _ _ (signs (LeftParen ∷ []) (RightParen ∷ []) []) refl (tokensBut p) end
+          ∙ ap (λ h. LeftParen ∷ tokensBut p h (treeOf a) (RightParen ∷ end)) (paren-first x a)
+          ∙ ap (λ r. LeftParen ∷ r) (d .1 (RightParen ∷ end)),
+    ))
     (λ p m. nothing (handsSecond x (treeOf (paren a))) p m)
 drops s (prefix y a) = λ x c w.
     split (DropsAt (prefix y a) x)
@@ -219,25 +221,31 @@ drops s (prefix y a) = λ x c w.
 drops s (binary o a b) = λ x c w.
     split (DropsAt (binary o a b) x)
     (λ p m.
-    let d = operand-drops (binary-first x c w o a b) (drops one a) p m in
-    (inl (d .0), λ end.
-    but-first x _ _ _ (signs [] (operator o ∷ []) []) (operator-signs o (treeOf b)) (tokensBut p) end
-    ∙ ap (λ r. tokensBut p (handsFirst x (treeOf (binary o a b))) (treeOf a) (operator o ∷ r)) (operand-is (binary-second x c w o a b) (is one b) end)
-    ∙ d .1 _))
+    let d = operand-drops (binary-first x c w o a b) (drops one a) p m in (
+      inl (d .0),
+      λ end.
+          but-first x _ _ _ (signs [] (operator o ∷ []) []) (operator-signs o (treeOf b)) (tokensBut p) end
+          ∙ ap (λ r. tokensBut p (handsFirst x (treeOf (binary o a b))) (treeOf a) (operator o ∷ r)) (operand-is (binary-second x c w o a b) (is one b) end)
+          ∙ d .1 _,
+    ))
     (λ p m.
-    let d = operand-drops (binary-second x c w o a b) (drops one b) p m in
-    (inr (d .0), λ end.
-    but-second x _ _ _ (signs [] (operator o ∷ []) []) (operator-signs o (treeOf b)) (tokensBut p) end
-    ∙ ap (λ r. tokensFor (handsFirst x (treeOf (binary o a b))) (treeOf a) (operator o ∷ r)) (d .1 end)
-    ∙ operand-is (binary-first x c w o a b) (is one a) _))
+    let d = operand-drops (binary-second x c w o a b) (drops one b) p m in (
+      inr (d .0),
+      λ end.
+          but-second x _ _ _ (signs [] (operator o ∷ []) []) (operator-signs o (treeOf b)) (tokensBut p) end
+          ∙ ap (λ r. tokensFor (handsFirst x (treeOf (binary o a b))) (treeOf a) (operator o ∷ r)) (d .1 end)
+          ∙ operand-is (binary-first x c w o a b) (is one a) _,
+    ))
 drops s (cast a t) = λ x c w.
     split (DropsAt (cast a t) x)
     (λ p m.
-    let d = operand-drops (cast-first x c w a t) (drops one a) p m in
-    (d .0, λ end.
-    but-first x _ _ _ (signs [] (As ∷ []) []) refl (tokensBut p) end
-    ∙ ap (λ r. tokensBut p (handsFirst x (treeOf (cast a t))) (treeOf a) (As ∷ r)) (types-are t (handsSecond x (treeOf (cast a t))) end)
-    ∙ d .1 _))
+    let d = operand-drops (cast-first x c w a t) (drops one a) p m in (
+      d .0,
+      λ end.
+          but-first x _ _ _ (signs [] (As ∷ []) []) refl (tokensBut p) end
+          ∙ ap (λ r. tokensBut p (handsFirst x (treeOf (cast a t))) (treeOf a) (As ∷ r)) (types-are t (handsSecond x (treeOf (cast a t))) end)
+          ∙ d .1 _,
+    ))
     (λ p m. true-not-false (sym m ∙ unmarked t (handsSecond x (treeOf (cast a t))) p))
 drops s (member y a) = λ x c w.
     split (DropsAt (member y a) x)
@@ -254,80 +262,98 @@ drops s (try a) = λ x c w.
 drops s (index a b) = λ x c w.
     split (DropsAt (index a b) x)
     (λ p m.
-    let d = operand-drops (index-first x c w a b) (drops one a) p m in
-    (inl (d .0), λ end.
-    but-first x _ _ _ (signs [] (LeftBracket ∷ []) (RightBracket ∷ [])) refl (tokensBut p) end
-    ∙ ap (λ h. tokensBut p (handsFirst x (treeOf (index a b))) (treeOf a) (LeftBracket ∷ tokensFor h (treeOf b) (RightBracket ∷ end))) (index-second x a b)
-    ∙ ap (λ r. tokensBut p (handsFirst x (treeOf (index a b))) (treeOf a) (LeftBracket ∷ r)) (operand-is (alone b) (is one b) (RightBracket ∷ end))
-    ∙ d .1 _))
+    let d = operand-drops (index-first x c w a b) (drops one a) p m in (
+      inl (d .0),
+      λ end.
+          but-first x _ _ _ (signs [] (LeftBracket ∷ []) (RightBracket ∷ [])) refl (tokensBut p) end
+          ∙ ap (λ h. tokensBut p (handsFirst x (treeOf (index a b))) (treeOf a) (LeftBracket ∷ tokensFor h (treeOf b) (RightBracket ∷ end))) (index-second x a b)
+          ∙ ap (λ r. tokensBut p (handsFirst x (treeOf (index a b))) (treeOf a) (LeftBracket ∷ r)) (operand-is (alone b) (is one b) (RightBracket ∷ end))
+          ∙ d .1 _,
+    ))
     (λ p m.
-    let d = operand-drops (alone b) (drops one b) p (subst (λ h. markedAt h (treeOf b) p ≡ true) (index-second x a b) m) in
-    (inr (d .0), λ end.
-    but-second x _ _ _ (signs [] (LeftBracket ∷ []) (RightBracket ∷ [])) refl (tokensBut p) end
-    ∙ ap (λ h. tokensFor (handsFirst x (treeOf (index a b))) (treeOf a) (LeftBracket ∷ tokensBut p h (treeOf b) (RightBracket ∷ end))) (index-second x a b)
-    ∙ ap (λ r. tokensFor (handsFirst x (treeOf (index a b))) (treeOf a) (LeftBracket ∷ r)) (d .1 (RightBracket ∷ end))
-    ∙ operand-is (index-first x c w a b) (is one a) _))
+    let d = operand-drops (alone b) (drops one b) p (subst (λ h. markedAt h (treeOf b) p ≡ true) (index-second x a b) m) in (
+      inr (d .0),
+      λ end.
+          but-second x _ _ _ (signs [] (LeftBracket ∷ []) (RightBracket ∷ [])) refl (tokensBut p) end
+          ∙ ap (λ h. tokensFor (handsFirst x (treeOf (index a b))) (treeOf a) (LeftBracket ∷ tokensBut p h (treeOf b) (RightBracket ∷ end))) (index-second x a b)
+          ∙ ap (λ r. tokensFor (handsFirst x (treeOf (index a b))) (treeOf a) (LeftBracket ∷ r)) (d .1 (RightBracket ∷ end))
+          ∙ operand-is (index-first x c w a b) (is one a) _,
+    ))
 drops s (call a l) = λ x c w.
     split (DropsAt (call a l) x)
     (λ p m.
-    let d = operand-drops (call-first x c w a l) (drops one a) p m in
-    (inl (d .0), λ end.
-    but-first x _ _ _ (signs [] (LeftParen ∷ []) (RightParen ∷ [])) refl (tokensBut p) end
-    ∙ ap (λ r. tokensBut p (handsFirst x (treeOf (call a l))) (treeOf a) (LeftParen ∷ r)) (is list l (handsSecond x (treeOf (call a l))) end)
-    ∙ d .1 _))
+    let d = operand-drops (call-first x c w a l) (drops one a) p m in (
+      inl (d .0),
+      λ end.
+          but-first x _ _ _ (signs [] (LeftParen ∷ []) (RightParen ∷ [])) refl (tokensBut p) end
+          ∙ ap (λ r. tokensBut p (handsFirst x (treeOf (call a l))) (treeOf a) (LeftParen ∷ r)) (is list l (handsSecond x (treeOf (call a l))) end)
+          ∙ d .1 _,
+    ))
     (λ p m.
-    let d = drops list l (handsSecond x (treeOf (call a l))) p m in
-    (inr (d .0), λ end.
-    but-second x _ _ _ (signs [] (LeftParen ∷ []) (RightParen ∷ [])) refl (tokensBut p) end
-    ∙ ap (λ r. tokensFor (handsFirst x (treeOf (call a l))) (treeOf a) (LeftParen ∷ r)) (d .1 end)
-    ∙ operand-is (call-first x c w a l) (is one a) _))
+    let d = drops list l (handsSecond x (treeOf (call a l))) p m in (
+      inr (d .0),
+      λ end.
+          but-second x _ _ _ (signs [] (LeftParen ∷ []) (RightParen ∷ [])) refl (tokensBut p) end
+          ∙ ap (λ r. tokensFor (handsFirst x (treeOf (call a l))) (treeOf a) (LeftParen ∷ r)) (d .1 end)
+          ∙ operand-is (call-first x c w a l) (is one a) _,
+    ))
 drops s (method a l) = λ x c w.
     split (DropsAt (method a l) x)
     (λ p m.
-    let d = operand-drops (method-first x c w a l) (drops one a) p m in
-    (inl (d .0), λ end.
-    but-first x _ _ _ (signs [] (Dot ∷ Name ∷ LeftParen ∷ []) (RightParen ∷ [])) refl (tokensBut p) end
-    ∙ ap (λ r. tokensBut p (handsFirst x (treeOf (method a l))) (treeOf a) (Dot ∷ Name ∷ LeftParen ∷ r)) (is list l (handsSecond x (treeOf (method a l))) end)
-    ∙ d .1 _))
+    let d = operand-drops (method-first x c w a l) (drops one a) p m in (
+      inl (d .0),
+      λ end.
+          but-first x _ _ _ (signs [] (Dot ∷ Name ∷ LeftParen ∷ []) (RightParen ∷ [])) refl (tokensBut p) end
+          ∙ ap (λ r. tokensBut p (handsFirst x (treeOf (method a l))) (treeOf a) (Dot ∷ Name ∷ LeftParen ∷ r)) (is list l (handsSecond x (treeOf (method a l))) end)
+          ∙ d .1 _,
+    ))
     (λ p m.
-    let d = drops list l (handsSecond x (treeOf (method a l))) p m in
-    (inr (d .0), λ end.
-    but-second x _ _ _ (signs [] (Dot ∷ Name ∷ LeftParen ∷ []) (RightParen ∷ [])) refl (tokensBut p) end
-    ∙ ap (λ r. tokensFor (handsFirst x (treeOf (method a l))) (treeOf a) (Dot ∷ Name ∷ LeftParen ∷ r)) (d .1 end)
-    ∙ operand-is (method-first x c w a l) (is one a) _))
+    let d = drops list l (handsSecond x (treeOf (method a l))) p m in (
+      inr (d .0),
+      λ end.
+          but-second x _ _ _ (signs [] (Dot ∷ Name ∷ LeftParen ∷ []) (RightParen ∷ [])) refl (tokensBut p) end
+          ∙ ap (λ r. tokensFor (handsFirst x (treeOf (method a l))) (treeOf a) (Dot ∷ Name ∷ LeftParen ∷ r)) (d .1 end)
+          ∙ operand-is (method-first x c w a l) (is one a) _,
+    ))
 drops s noArguments = λ h p m. nothing h p m
 drops s (arguments l) = λ h p m. drops items l h p m
 drops s (lastArgument a) = λ h.
     let x = ownContext h (treeOf (lastArgument a)) in
     by-path (DropsList (lastArgument a) h) (λ m. link-here h (treeOf a) none m)
     (λ p m.
-    let d = operand-drops (alone a) (drops one a) p (subst (λ k. markedAt k (treeOf a) p ≡ true) (link-first x (treeOf a) none) (sym (below-marked h (linked (treeOf a) none) first p) ∙ m)) in
-    (d .0, λ end.
-    link-below h (treeOf a) none first p (RightParen ∷ end)
-    ∙ but-first x _ _ _ (signs [] [] []) refl (tokensBut p) (RightParen ∷ end)
-    ∙ ap (λ k. tokensBut p k (treeOf a) (RightParen ∷ end)) (link-first x (treeOf a) none)
-    ∙ d .1 (RightParen ∷ end)))
+    let d = operand-drops (alone a) (drops one a) p (subst (λ k. markedAt k (treeOf a) p ≡ true) (link-first x (treeOf a) none) (sym (below-marked h (linked (treeOf a) none) first p) ∙ m)) in (
+      d .0,
+      λ end.
+          link-below h (treeOf a) none first p (RightParen ∷ end)
+          ∙ but-first x _ _ _ (signs [] [] []) refl (tokensBut p) (RightParen ∷ end)
+          ∙ ap (λ k. tokensBut p k (treeOf a) (RightParen ∷ end)) (link-first x (treeOf a) none)
+          ∙ d .1 (RightParen ∷ end),
+    ))
     (λ p m. nothing (handsSecond x (treeOf (lastArgument a))) p (sym (below-marked h (linked (treeOf a) none) second p) ∙ m))
 drops s (moreArguments a l) = λ h.
     let t = treeOf (moreArguments a l) in
     let x = ownContext h t in
     by-path (DropsList (moreArguments a l) h) (λ m. link-here h (treeOf a) (treeOf l) m)
     (λ p m.
-    let d = operand-drops (alone a) (drops one a) p (subst (λ k. markedAt k (treeOf a) p ≡ true) (link-first x (treeOf a) (treeOf l)) (sym (below-marked h t first p) ∙ m)) in
-    (inl (d .0), λ end.
-    link-below h (treeOf a) (treeOf l) first p (RightParen ∷ end)
-    ∙ but-first x _ _ _ (signs [] (Comma ∷ []) []) (link-signs l) (tokensBut p) (RightParen ∷ end)
-    ∙ ap (λ k. tokensBut p k (treeOf a) (Comma ∷ tokensFor (handsSecond x t) (treeOf l) (RightParen ∷ end))) (link-first x (treeOf a) (treeOf l))
-    ∙ ap (λ r. tokensBut p (neither NONE) (treeOf a) (Comma ∷ r)) (is items l (handsSecond x t) end)
-    ∙ d .1 _))
+    let d = operand-drops (alone a) (drops one a) p (subst (λ k. markedAt k (treeOf a) p ≡ true) (link-first x (treeOf a) (treeOf l)) (sym (below-marked h t first p) ∙ m)) in (
+      inl (d .0),
+      λ end.
+          link-below h (treeOf a) (treeOf l) first p (RightParen ∷ end)
+          ∙ but-first x _ _ _ (signs [] (Comma ∷ []) []) (link-signs l) (tokensBut p) (RightParen ∷ end)
+          ∙ ap (λ k. tokensBut p k (treeOf a) (Comma ∷ tokensFor (handsSecond x t) (treeOf l) (RightParen ∷ end))) (link-first x (treeOf a) (treeOf l))
+          ∙ ap (λ r. tokensBut p (neither NONE) (treeOf a) (Comma ∷ r)) (is items l (handsSecond x t) end)
+          ∙ d .1 _,
+    ))
     (λ p m.
-    let d = drops items l (handsSecond x t) p (sym (below-marked h t second p) ∙ m) in
-    (inr (d .0), λ end.
-    link-below h (treeOf a) (treeOf l) second p (RightParen ∷ end)
-    ∙ but-second x _ _ _ (signs [] (Comma ∷ []) []) (link-signs l) (tokensBut p) (RightParen ∷ end)
-    ∙ ap (λ k. tokensFor k (treeOf a) (Comma ∷ tokensBut p (handsSecond x t) (treeOf l) (RightParen ∷ end))) (link-first x (treeOf a) (treeOf l))
-    ∙ ap (λ r. tokensFor (neither NONE) (treeOf a) (Comma ∷ r)) (d .1 end)
-    ∙ operand-is (alone a) (is one a) _))
+    let d = drops items l (handsSecond x t) p (sym (below-marked h t second p) ∙ m) in (
+      inr (d .0),
+      λ end.
+          link-below h (treeOf a) (treeOf l) second p (RightParen ∷ end)
+          ∙ but-second x _ _ _ (signs [] (Comma ∷ []) []) (link-signs l) (tokensBut p) (RightParen ∷ end)
+          ∙ ap (λ k. tokensFor k (treeOf a) (Comma ∷ tokensBut p (handsSecond x t) (treeOf l) (RightParen ∷ end))) (link-first x (treeOf a) (treeOf l))
+          ∙ ap (λ r. tokensFor (neither NONE) (treeOf a) (Comma ∷ r)) (d .1 end)
+          ∙ operand-is (alone a) (is one a) _,
+    ))
 
 -- With a pair of the root's rows in context 0 left out.
 pub tokens-without : (e : Expr one) (p : List Step) → markedAt (neither NONE) (treeOf e) p ≡ true

@@ -158,10 +158,11 @@ module _ (count : ℕ) (cells : List ℕ) (lent : ℕ) (taken : writeRefusal 0 c
       → (reply ≡ Nodes (size (meant count cells))) × (treeAt after (size (meant count cells)) 1 ≡ meant count cells)
   unfolding countOrLarge stored reading.refusal12
   returned table after reply long a =
-      let r = a .read (le-ltb (length table) (5 * 4096) long) known (meant count cells) reads in
-      (r .0 ∙ pick-false _ _ within-limits,
-      ap (λ z. treeAt z (size (meant count cells)) 1) (r .1 ∙ pick-false _ _ within-limits)
-      ∙ over-numbered (meant count cells) table (omega (arith, size-without root, size-accepted 0 count cells ok, bounds .1)))
+      let r = a .read (le-ltb (length table) (5 * 4096) long) known (meant count cells) reads in (
+        r .0 ∙ pick-false _ _ within-limits,
+        ap (λ z. treeAt z (size (meant count cells)) 1) (r .1 ∙ pick-false _ _ within-limits)
+            ∙ over-numbered (meant count cells) table (omega (arith, size-without root, size-accepted 0 count cells ok, bounds .1)),
+      )
 
   -- ---- a pair left out
 
