@@ -1,8 +1,8 @@
--- `tree_file::number_at` meets its contract. Assumes nothing.
-use Rattle.tree_file.proofs.Groups.{nothing-left, one-byte, cut-after-one, zero-second, two-bytes, cut-after-two, zero-third, high-third, three-bytes}
+-- `numbers::number_at` meets its contract. Assumes nothing.
+use Rattle.numbers.proofs.Groups.{nothing-left, one-byte, cut-after-one, zero-second, two-bytes, cut-after-two, zero-third, high-third, three-bytes}
 use borrow.Author.Needs.{needs}
-use Rattle.tree_file.proofs.number_at.Statement.{statement}
-use Rattle.tree_file.proofs.number_at.Tie as tie
+use Rattle.numbers.proofs.number_at.Statement.{statement}
+use Rattle.numbers.proofs.number_at.Tie as tie
 
 returns : tie.Need-returns
 returns c = nothing-left _ _ (c .if1 .taken)

@@ -11,9 +11,8 @@ use lib.Seq.{take-nil, getD-drop, drop-drop}
 use borrow.Author.Tests.{le-leb, lt-leb, lt-ltb, le-ltb, eq-eqb, ne-eqb}
 use Rattle.laws.specs.Choice.{pick}
 use Rattle.laws.proofs.Choice.{pick-true, pick-false}
-use Rattle.tree_file.specs.declared.Number.the-variants.{Malformed, Value}
-use Rattle.tree_file.specs.Numbers.{followed, groups, valueOf, malformed}
-use Rattle.tree_file.specs.Reads.{numberAt}
+use Rattle.numbers.specs.declared.Number.the-variants.{Malformed, Value}
+use Rattle.numbers.specs.Numbers.{followed, groups, valueOf, malformed, numberAt}
 
 -- ---- one byte after the other
 

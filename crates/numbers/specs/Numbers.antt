@@ -1,10 +1,12 @@
--- Document 01, 'Tree file': the numbers of a file.
-use mathlib.Core.Bool.{Bool, true, false, _&&_, _||_}
+-- Document 01, 'Tree file': a number of a file.
+use mathlib.Core.Bool.{Bool, _&&_, _||_}
 use mathlib.Core.List.{List, [], _∷_}
-use Prim.Native.Nat.{ℕ, zero, suc, _+_, _*_, _%_}
+use Prim.Native.Nat.{ℕ, suc, _+_, _*_, _%_}
 use lib.Dec.{eqb, leb, ltb}
 use lib.ListN.{length, getD, take, drop}
 use Rattle.laws.specs.Choice.{pick}
+use Rattle.numbers.specs.declared.Number.{Number}
+use Rattle.numbers.specs.declared.Number.the-variants.{Malformed, Value}
 
 -- ---- "A number is groups of seven bits, lowest group first; the high bit of a byte says another follows."
 
@@ -33,31 +35,6 @@ malformed bytes =
     || (ltb 65535 (valueOf bytes)
     || (ltb 0 (followed bytes) && eqb (getD bytes (followed bytes) 0) 0))
 
--- ---- several numbers
-
--- the numbers at the start of a list of bytes, with the bytes after them; or that one of them is malformed
-pub data Numbers : Type 0 where
-  broken : Numbers
-  numbers : List ℕ → List ℕ → Numbers
-
-unfoldable pub prepend : ℕ → Numbers → Numbers
-prepend n broken = broken
-prepend n (numbers ns bytes) = numbers (n ∷ ns) bytes
-
-unfoldable pub numbersOf : ℕ → List ℕ → Numbers
-numbersOf zero bytes = numbers [] bytes
-numbersOf (suc n) bytes = pick (malformed bytes) broken (prepend (valueOf bytes) (numbersOf n (restOf bytes)))
-
-unfoldable pub isBroken : Numbers → Bool
-isBroken broken = true
-isBroken (numbers ns bytes) = false
-
--- the numbers, none where one is malformed
-unfoldable pub valuesIn : Numbers → List ℕ
-valuesIn broken = []
-valuesIn (numbers ns bytes) = ns
-
--- the bytes after them
-unfoldable pub bytesAfter : Numbers → List ℕ
-bytesAfter broken = []
-bytesAfter (numbers ns bytes) = bytes
+-- the number that starts at a place, with the place after it
+unfoldable pub numberAt : List ℕ → ℕ → Number
+numberAt file at = pick (malformed (drop at file)) Malformed (Value (valueOf (drop at file)) (at + suc (followed (drop at file))))
