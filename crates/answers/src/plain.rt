@@ -8,12 +8,7 @@ ghost use Rattle.answers.specs.Plain.{writtenNumber, ReadNumber};
 
 // token_writer::write.
 #[no_mangle]
-pub extern "C" fn tezhukor_write(
-    context: u16,
-    count: u16,
-    table: &[u16],
-    tokens: &mut [u16],
-) -> u32
+pub extern "C" fn tezhukor_write(context: u16, count: u16, table: &[u16], tokens: &mut [u16]) -> u32
     ensures reply { λ r. ⌜ r ≡ writtenNumber (answered context count (now (table .entry)) (length (now (tokens .entry)))) ⌝ }
     ensures tokens { λ r. ⌜ now (tokens .exit) ≡ tokensAfter context count (now (table .entry)) (now (tokens .entry)) ⌝ }
 {
