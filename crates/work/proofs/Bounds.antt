@@ -11,7 +11,7 @@ use Rattle.precedence.specs.Precedences.{same}
 use Rattle.fixup.specs.declared.context.FixupContext.{FixupContext}
 use Rattle.fixup.specs.Fixup.{effective}
 use Rattle.scan.specs.Scans.{loose, scanned}
-use Rattle.scan.specs.Linear.{rightVisitsBy, visits, spine}
+use Rattle.scan.specs.Linear.{rightVisitsBy, spine}
 use Rattle.scan.proofs.Linear.{pick-within, visits-at-most-twice}
 use Rattle.scan.proofs.Levels.{spine-levels}
 use Rattle.expr.specs.declared.Side.{Side}
