@@ -1,17 +1,16 @@
 -- An operand whose right precedence is asked: what scan_right answered of it decides that question too, but below a prefix operator with no next operator. Assumes nothing.
 use mathlib.Core.Path.{_≡_, refl, sym, ap, _∙_}
 use mathlib.Core.Bool.{Bool, true, false, not, _&&_, _||_}
-use mathlib.Core.List.{List, [], _∷_}
+use mathlib.Core.List.{[], _∷_}
 use Prim.Native.Nat.{ℕ}
 use native.Mathlib.Omega.{arith}
 use lib.Dec.{T}
 use lib.ListN.{getD}
 use Rattle.laws.specs.Choice.{pick}
 use Rattle.laws.specs.Each.{all}
-use Rattle.laws.proofs.Choice.{pick-true, pick-false, true-not-false, true-of}
+use Rattle.laws.proofs.Choice.{pick-true, pick-false, true-not-false}
 use Rattle.laws.proofs.Each.{all-at}
 use Rattle.tree.specs.Trees.{Tree}
-use Rattle.tree.specs.Walks.{isThere}
 use Rattle.precedence.specs.declared.Precedence.{Precedence}
 use Rattle.precedence.specs.declared.Precedence.the-variants as level
 use Rattle.precedence.specs.Precedences.{below, atMost, same}
@@ -20,14 +19,13 @@ use Rattle.fixup.specs.Contexts.{rightmost}
 use Rattle.fixup.specs.Fixup.{effective, scanLeft}
 use Rattle.scan.specs.declared.Scan.{Scan}
 use Rattle.scan.specs.declared.Scan.the-variants.{Fail, Bailout, Consume}
-use Rattle.scan.specs.declared.answer.Leave.{Leave}
 use Rattle.scan.specs.declared.answer.Leave.the-variants.{Answer, Ask}
 use Rattle.scan.specs.declared.arm.Arm.{Arm}
 use Rattle.scan.specs.declared.arm.Arm.the-variants.{Assign, Binary, Prefix, Range, Break, Return, Closure, Let, Group, Closed}
-use Rattle.scan.specs.Scans.{binds, consumes, consumeBy, armOf, closedScan, bareScan, leafScan, failHanded, one, visitBy, failOr, leaveBy, finish, notConsume, loose, scanned, rightBy, scanRight, rightmostPrecedence}
+use Rattle.scan.specs.Scans.{binds, consumes, consumeBy, armOf, closedScan, bareScan, leafScan, failHanded, one, visitBy, leaveBy, notConsume, loose, scanned, rightBy, scanRight, rightmostPrecedence}
 use Rattle.scan.specs.Linear.{asksAgain, rightGiven, onwards}
-use Rattle.scan.proofs.Spine.{goesOn, along, asked, back, after, isEarly, body, both-scans}
-use Rattle.scan.proofs.Offsets.{consume-not-fail, bailout-not-fail, consume-by-not-fail, answer-of, body-lower, lower-offsets, lowest, body-group, body-fail, late-unambiguous, binary-late, more-bailout}
+use Rattle.scan.proofs.Spine.{goesOn, along, asked, back, isEarly, body, both-scans}
+use Rattle.scan.proofs.Offsets.{consume-not-fail, consume-by-not-fail, answer-of, body-lower, lower-offsets, lowest, body-group, body-fail, late-unambiguous, binary-late, more-bailout}
 
 -- ---- a rule for every precedence is one computed test
 

@@ -1,12 +1,12 @@
 -- The right spine of a tree is no longer than its levels, but for a link at its end. Assumes nothing.
-use mathlib.Core.Path.{_≡_, refl, sym, ap, _∙_}
+use mathlib.Core.Path.{_≡_, refl, sym}
 use mathlib.Core.Bool.{Bool, true, false}
 use Prim.Native.Nat.{ℕ, _+_, _≤_, max}
 use native.Mathlib.Omega.{arith}
 use lib.Dec.{eqb, leb}
 use borrow.Author.Tests.{leb-true, leb-false}
 use Rattle.laws.specs.Choice.{pick, lookup}
-use Rattle.laws.proofs.Choice.{pick-false, true-not-false}
+use Rattle.laws.proofs.Choice.{true-not-false}
 use Rattle.tree.specs.Forms.{aLink, classOf}
 use Rattle.tree.specs.Trees.{Label, Tree, none, node, ownLevel, levels}
 use Rattle.tree.specs.Walks.{isThere, atRoot}

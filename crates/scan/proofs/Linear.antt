@@ -1,12 +1,11 @@
 -- The scan that the code runs is the plain one, and it visits each node of the right spine at most twice. Assumes nothing.
 use mathlib.Core.Path.{_≡_, refl, sym, ap, ap₂, _∙_}
-use mathlib.Core.Bool.{Bool, true, false, not, _&&_}
+use mathlib.Core.Bool.{Bool, true, false, _&&_}
 use Prim.Native.Nat.{ℕ, _+_, _*_, _≤_}
 use native.Mathlib.Omega.{arith}
-use lib.Dec.{leb}
 use borrow.Author.Tests.{eqb-true}
 use Rattle.laws.specs.Choice.{pick}
-use Rattle.laws.proofs.Choice.{pick-true, pick-false, true-not-false, and-true}
+use Rattle.laws.proofs.Choice.{true-not-false, and-true}
 use Rattle.tree.specs.Trees.{Label, Tree, none, node}
 use Rattle.tree.specs.Walks.{isThere, atRoot}
 use Rattle.precedence.specs.declared.Precedence.{Precedence}
@@ -21,9 +20,9 @@ use Rattle.scan.specs.declared.answer.Leave.{Leave}
 use Rattle.scan.specs.declared.answer.Leave.the-variants.{Answer, Ask}
 use Rattle.scan.specs.declared.arm.Arm.{Arm}
 use Rattle.scan.specs.declared.arm.Arm.the-variants.{Assign, Binary, Prefix, Range, Break, Return, Closure, Let, Group, Closed}
-use Rattle.scan.specs.Scans.{consumes, consumeBy, armOf, operandBy, failHanded, one, visitBy, leaveBy, settleBy, finish, Scans, notConsume, loose, scanned, rightBy, scanBy, nowhere, scanRight, rightmostPrecedence}
-use Rattle.scan.specs.Linear.{asksAgain, rightGiven, onwards, linearBy, linear, Counts, noVisit, rightVisitsBy, isAsk, visitsBy, visits, spine}
-use Rattle.scan.proofs.Spine.{goesOn, there-goes-on, along, scan-along, asked, back, isEarly, body, at-grouped, at-leaf, at-inner}
+use Rattle.scan.specs.Scans.{consumes, consumeBy, armOf, operandBy, failHanded, one, visitBy, leaveBy, settleBy, finish, notConsume, loose, scanned, rightBy, scanBy, nowhere, scanRight, rightmostPrecedence}
+use Rattle.scan.specs.Linear.{asksAgain, rightGiven, onwards, linearBy, linear, noVisit, rightVisitsBy, isAsk, visitsBy, visits, spine}
+use Rattle.scan.proofs.Spine.{goesOn, there-goes-on, along, scan-along, asked, back, isEarly, body, at-grouped, at-inner}
 use Rattle.scan.proofs.Offsets.{consume-not-fail, consume-by-not-fail, body-fail, body-group, lower-offsets}
 use Rattle.scan.proofs.Again.{prefix-asks, first-serves}
 

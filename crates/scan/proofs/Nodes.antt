@@ -1,6 +1,6 @@
 -- scan_right at a node of a table, by what its operand answers. Assumes nothing.
 use mathlib.Core.Path.{_≡_, refl, sym, ap, _∙_}
-use mathlib.Core.Bool.{Bool, true, false, not, _&&_}
+use mathlib.Core.Bool.{true, false, _&&_}
 use mathlib.Core.List.{List}
 use Prim.Native.Nat.{ℕ, _≤_, _<_}
 use native.Mathlib.Omega.{arith}
@@ -8,9 +8,9 @@ use native.Mathlib.Decide.{decLe}
 use Rattle.laws.specs.Choice.{pick}
 use Rattle.laws.proofs.Choice.{pick-true, pick-false}
 use Rattle.tree.specs.declared.table.Operand.the-variants.{Absent, Present}
-use Rattle.tree.specs.Trees.{Tree, none, node, labelAt, operandAt, treeAt}
+use Rattle.tree.specs.Trees.{Tree, none, operandAt, treeAt}
 use Rattle.tree.specs.Shapes.{presence}
-use Rattle.tree.specs.Walks.{isThere, atRoot}
+use Rattle.tree.specs.Walks.{atRoot}
 use Rattle.tree.proofs.Unfold.{tree-zero, tree-past, unfolds}
 use Rattle.tree.proofs.Walks.{present-above, absent-zero}
 use Rattle.precedence.specs.declared.Precedence.{Precedence}
@@ -24,7 +24,7 @@ use Rattle.scan.specs.declared.answer.Leave.the-variants.{Answer, Ask}
 use Rattle.scan.specs.declared.arm.Arm.{Arm}
 use Rattle.scan.specs.declared.arm.Arm.the-variants.{Assign, Binary, Prefix, Range, Break, Return, Closure, Let, Group, Closed}
 use Rattle.scan.specs.declared.visit.Visit.{Visit}
-use Rattle.scan.specs.Scans.{consumes, consumeBy, armOf, armRows, operandBy, leafScan, early, visitBy, leaveBy, settleBy, finish, notConsume, loose, scanned, rightBy, scanBy, nowhere, scanRight, rightmostPrecedence}
+use Rattle.scan.specs.Scans.{consumes, consumeBy, armOf, operandBy, leafScan, early, visitBy, leaveBy, settleBy, finish, notConsume, loose, scanned, rightBy, scanBy, nowhere, scanRight, rightmostPrecedence}
 use Rattle.scan.specs.Steps.{operandNumber}
 use Rattle.scan.specs.Linear.{asksAgain, rightGiven}
 use Rattle.scan.proofs.Again.{first-serves}

@@ -1,6 +1,6 @@
 -- What the offsets change of scan_right's answer: an answer that is not Consume stays at lower ones, and a Fail at (1, 0) at any of bailout. Assumes nothing.
 use mathlib.Core.Path.{_≡_, refl, sym, ap, ap₂, _∙_}
-use mathlib.Core.Bool.{Bool, true, false, not, _&&_, _||_, and-false}
+use mathlib.Core.Bool.{Bool, true, false, _&&_, _||_, and-false}
 use Prim.Native.Nat.{ℕ}
 use native.Mathlib.Omega.{arith}
 use lib.Dec.{leb}
@@ -8,7 +8,6 @@ use borrow.Author.Tests.{eqb-true}
 use Rattle.laws.specs.Choice.{pick}
 use Rattle.laws.proofs.Choice.{pick-true, pick-false, true-not-false}
 use Rattle.tree.specs.Trees.{Tree}
-use Rattle.tree.specs.Walks.{isThere}
 use Rattle.precedence.specs.declared.Precedence.{Precedence}
 use Rattle.precedence.specs.declared.Precedence.the-variants as level
 use Rattle.precedence.specs.Precedences.{rankOf, below, atMost, same}

@@ -13,8 +13,7 @@ use Rattle.scan.specs.declared.Scan.{Scan}
 use Rattle.scan.specs.declared.Scan.the-variants.{Consume}
 use Rattle.scan.specs.declared.arm.Arm.{Arm}
 use Rattle.scan.specs.declared.arm.Arm.the-variants.{Assign, Binary, Prefix, Range, Break, Return, Closure, Let, Group, Closed}
-use Rattle.scan.specs.declared.visit.Visit.{Visit}
-use Rattle.scan.specs.Scans.{consumes, consumeBy, armOf, armRows, operandBy, leafScan, early, visitBy, leaveBy, settleBy, finish, rightBy, scanBy, nowhere, scanRight, rightmostPrecedence}
+use Rattle.scan.specs.Scans.{consumes, consumeBy, armOf, operandBy, leafScan, early, visitBy, leaveBy, settleBy, finish, scanBy, nowhere, scanRight, rightmostPrecedence}
 use Rattle.scan.specs.Linear.{onwards}
 
 -- ---- induction along the spine

@@ -1,20 +1,17 @@
--- A walk takes at most 258 visits a node. Assumes nothing.
-use mathlib.Core.Path.{_≡_, refl, sym, ap, _∙_}
-use mathlib.Core.Bool.{Bool, true, false, not, _&&_, _||_}
+-- A walk takes at most 258 visits of scan_right a node. Assumes nothing.
+use mathlib.Core.Bool.{not, _&&_, _||_}
 use mathlib.Core.List.{List}
-use Prim.Native.Nat.{ℕ, suc, _+_, _*_, _≤_, max}
+use Prim.Native.Nat.{ℕ, _*_, _≤_}
 use native.Mathlib.Omega.{arith}
-use borrow.Author.Tests.{ltb-false}
-use Rattle.laws.specs.Choice.{pick}
-use Rattle.laws.proofs.Choice.{true-not-false}
-use Rattle.tree.specs.Trees.{Tree, none, node, treeAt, ownLevel, levels}
-use Rattle.tree.specs.Refusals.{refusal11}
+use Rattle.tree.specs.Trees.{Tree, none, node, treeAt, levels}
+use Rattle.tree.specs.Refusals.{Accepted}
+use Rattle.tree.proofs.Accepted.{levels-bound}
 use Rattle.precedence.specs.declared.Precedence.the-variants as level
 use Rattle.precedence.specs.Precedences.{same}
 use Rattle.fixup.specs.declared.context.FixupContext.{FixupContext}
 use Rattle.fixup.specs.Fixup.{effective}
 use Rattle.scan.specs.Scans.{loose, scanned}
-use Rattle.scan.specs.Linear.{rightVisitsBy, visits, spine}
+use Rattle.scan.specs.Linear.{rightVisitsBy, spine}
 use Rattle.scan.proofs.Linear.{pick-within, visits-at-most-twice}
 use Rattle.scan.proofs.Levels.{spine-levels}
 use Rattle.expr.specs.declared.Side.{Side}
@@ -22,8 +19,10 @@ use Rattle.expr.specs.declared.Side.the-variants.{Left, Right, Neither}
 use Rattle.expr.specs.declared.Handed.{Handed}
 use Rattle.expr.specs.Expr.{handsFirst, handsSecond}
 use Rattle.walk.specs.Rows.{isExpression, ownContext}
+use Rattle.walk.specs.Walk.{rootHanded}
 use Rattle.numbering.specs.Numbered.{size}
-use Rattle.work.specs.Work.{leftVisits, precedenceVisits, rowVisits, walkVisits}
+use Rattle.numbering.proofs.Sizes.{size-accepted}
+use Rattle.work.specs.Work.{leftVisits, precedenceVisits, rowVisits, walkVisits, decideVisits}
 
 -- one node
 precedence-visits : (s : Side) (x : FixupContext) (t : Tree) → precedenceVisits s x t ≤ 2 * spine t
@@ -49,7 +48,9 @@ walk-visits h (node l a b) d =
     let q = walk-visits (handsSecond (ownContext h (node l a b)) (node l a b)) b (omega arith) in
     omega arith
 
--- A walk of a table that refusal 11 lets pass takes at most 258 visits a node: 2 for each of 128 levels, and 2 more.
-pub accepted-visits : (cells : List ℕ) (count : ℕ) (h : Handed) → refusal11 cells count ≡ false → walkVisits h (treeAt cells count 1) ≤ 258 * size (treeAt cells count 1)
-unfolding refusal11
-accepted-visits cells count h e = walk-visits h (treeAt cells count 1) (ltb-false 128 (levels (treeAt cells count 1)) e)
+-- In an accepted table, a walk takes at most 258 visits a node: 2 for each of 128 levels, and 2 for a node that is none.
+pub bounded-work : (context count : ℕ) (cells : List ℕ) → Accepted context count cells → decideVisits context count cells ≤ 258 * count
+bounded-work context count cells ok =
+    let v = walk-visits (rootHanded context) (treeAt cells count 1) (levels-bound context count cells ok) in
+    let s = size-accepted context count cells ok in
+    omega arith

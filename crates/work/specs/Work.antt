@@ -1,8 +1,9 @@
--- How many nodes scan_right visits in a whole walk, each as often as it is visited.
+-- How many nodes scan_right visits in a whole walk, each as often as it is visited. What is not counted goes down one path: the questions that a visit asks of its node (parenthesize, precedence, scan_left, a leading label), and the walk itself, which comes to each node once.
 use mathlib.Core.Bool.{not, _||_}
+use mathlib.Core.List.{List}
 use Prim.Native.Nat.{ℕ, _+_}
 use Rattle.laws.specs.Choice.{pick}
-use Rattle.tree.specs.Trees.{Tree, none, node}
+use Rattle.tree.specs.Trees.{Tree, none, node, treeAt}
 use Rattle.precedence.specs.declared.Precedence.the-variants as level
 use Rattle.precedence.specs.Precedences.{same}
 use Rattle.fixup.specs.declared.context.FixupContext.{FixupContext}
@@ -12,6 +13,7 @@ use Rattle.expr.specs.declared.Side.the-variants.{Left, Right, Neither}
 use Rattle.expr.specs.declared.Handed.{Handed}
 use Rattle.expr.specs.Expr.{handsFirst, handsSecond}
 use Rattle.walk.specs.Rows.{isExpression, ownContext}
+use Rattle.walk.specs.Walk.{rootHanded}
 
 -- leftmost_subexpression_precedence scans after its first test
 unfoldable pub leftVisits : Tree → FixupContext → ℕ
@@ -33,3 +35,7 @@ walkVisits h (node l a b) =
     rowVisits h (node l a b)
     + walkVisits (handsFirst (ownContext h (node l a b)) (node l a b)) a
     + walkVisits (handsSecond (ownContext h (node l a b)) (node l a b)) b
+
+-- the visits of `walk::decide` on an accepted table
+abbrev pub decideVisits : ℕ → ℕ → List ℕ → ℕ
+decideVisits context count cells = walkVisits (rootHanded context) (treeAt cells count 1)

@@ -5,7 +5,7 @@ use crate::clock::Clock;
 use crate::sets::{numbered, planted, BARE, LARGEST, LONGEST_PATH, NAME, RANGE_TO};
 use crate::sides::{Prepared, Side};
 use oracle::forms::{operator::*, *};
-use oracle::generate::{Draft, Label, Slot, Stem, NEXTS};
+use oracle::generate::{Dice, Draft, Label, Slot, Stem, NEXTS};
 use oracle::{accept, NodeTable};
 
 /// What stands above a nest, what its levels are by turns, and its end.
@@ -21,16 +21,36 @@ const MINUS: Stem = Stem::one(UNARY, 0, 2);
 const PLUS: Stem = Stem::right(BINARY, 0, ADD);
 
 const NESTS: [Nest; 6] = [
-    Nest { name: "`..` by its end, left of `=`", above: Stem::left(ASSIGN, 0, 0), turns: &[RANGE_TO], end: NAME },
-    Nest { name: "`..` by its end, below a Field", above: Stem::one(FIELD, 0, 0), turns: &[RANGE_TO], end: BARE },
-    Nest { name: "`+`, Group by turns, below a Field", above: Stem::one(FIELD, 0, 0), turns: &[PLUS, GROUP_OF], end: BARE },
+    Nest {
+        name: "`..` by its end, left of `=`",
+        above: Stem::left(ASSIGN, 0, 0),
+        turns: &[RANGE_TO],
+        end: NAME,
+    },
+    Nest {
+        name: "`..` by its end, below a Field",
+        above: Stem::one(FIELD, 0, 0),
+        turns: &[RANGE_TO],
+        end: BARE,
+    },
+    Nest {
+        name: "`+`, Group by turns, below a Field",
+        above: Stem::one(FIELD, 0, 0),
+        turns: &[PLUS, GROUP_OF],
+        end: BARE,
+    },
     Nest {
         name: "`-`, Group, `+`, Group by turns, below a Field",
         above: Stem::one(FIELD, 0, 0),
         turns: &[MINUS, GROUP_OF, PLUS, GROUP_OF],
         end: BARE,
     },
-    Nest { name: "`..`, `-` by turns, left of `+=`", above: Stem::left(BINARY, 0, ADD_ASSIGN), turns: &[RANGE_TO, MINUS], end: NAME },
+    Nest {
+        name: "`..`, `-` by turns, left of `+=`",
+        above: Stem::left(BINARY, 0, ADD_ASSIGN),
+        turns: &[RANGE_TO, MINUS],
+        end: NAME,
+    },
     Nest { name: "`..` by its end, below `-`", above: MINUS, turns: &[RANGE_TO], end: BARE },
 ];
 
@@ -40,11 +60,15 @@ const LEVELS: [usize; 6] = [4, 8, 16, 32, 64, 126];
 const PATIENCE: f64 = 4e9;
 
 /// A line for each nest: nanoseconds a node by its levels, ours and the crate's.
-pub fn time_nests() {
+/// Where a folder is given, the longest of each are written there as tree files.
+pub fn time_nests(folder: Option<&str>) {
     let levels = LEVELS.map(|levels| levels.to_string()).join(" | ");
     println!("| ns a node, by levels | side | {levels} |");
     println!("|---|---|{}", "---:|".repeat(LEVELS.len()));
-    for nest in &NESTS {
+    for (number, nest) in NESTS.iter().enumerate() {
+        if let Some(folder) = folder {
+            write(folder, &format!("nest{number}"), &nest.tree(LEVELS[5]));
+        }
         let ours = LEVELS.map(|levels| format!("{:.0}", a_node(&nest.tree(levels), Side::Ours)));
         println!("| {} | ours | {} |", nest.name, ours.join(" | "));
         // A nest of more levels takes it at least as much longer as one of two levels less took.
@@ -93,6 +117,9 @@ fn a_node(tree: &NodeTable, side: Side) -> f64 {
     least.min().expect("some times") as f64 / f64::from(tree.count)
 }
 
+/// How many changes are tried of a slow nest.
+const CHANGES: usize = 150;
+
 /// What the levels of a searched nest are.
 const LEVEL: [Stem; 16] = [
     Stem::right(ASSIGN, 0, 0),
@@ -115,8 +142,9 @@ const LEVEL: [Stem; 16] = [
 
 /// Nests of as many levels as are accepted: every two levels by turns, below
 /// everything that may follow, with a few ends. The slowest by the node are then
-/// repeated as arguments of a call until there is no more room.
-pub fn search_slowest() {
+/// repeated as arguments of a call until there is no more room, and changed level by
+/// level. Where a folder is given, these are written there as tree files.
+pub fn search_slowest(folder: Option<&str>) {
     let mut found: Vec<(f64, Vec<Stem>)> = Vec::new();
     for above in NEXTS.into_iter().flatten().chain([MINUS, GROUP_OF, Stem::one(PAREN, 0, 0)]) {
         for first in LEVEL {
@@ -134,12 +162,47 @@ pub fn search_slowest() {
     }
     found.sort_by(|a, b| b.0.total_cmp(&a.0));
     println!("{} nests; the slowest, and as many of them as 4,096 nodes hold:", found.len());
-    for (a_nest, stems) in found.iter().take(40).step_by(8) {
-        let full = accepted(&arguments(stems));
+    for (number, (a_nest, stems)) in found.into_iter().take(60).step_by(10).enumerate() {
+        let (steps, stems) = climbed(number as u64, stems);
+        let full = accepted(&arguments(&stems));
         let time = a_node(&full, Side::Ours) * f64::from(full.count);
-        let labels: Vec<String> = stems[..3].iter().map(|stem| format!("{}/{}", stem.label.form, stem.label.detail)).collect();
-        println!("{a_nest:.0} ns a node: {}; {} nodes: {:.2} ms", labels.join(" over "), full.count, time / 1e6);
+        let labels =
+            stems[..6].iter().map(|stem| format!("{}/{}", stem.label.form, stem.label.detail));
+        let labels: Vec<String> = labels.collect();
+        let (labels, nodes) = (labels.join(" over "), full.count);
+        println!(
+            "{labels}: {a_nest:.0} ns a node; after {steps} changes, {nodes} nodes: {:.2} ms",
+            time / 1e6
+        );
+        if let Some(folder) = folder {
+            write(folder, &format!("slow{number}"), &full);
+        }
     }
+}
+
+/// A nest with levels changed one by one, wherever that made the call slower, and
+/// how often it did.
+fn climbed(seed: u64, mut stems: Vec<Stem>) -> (usize, Vec<Stem>) {
+    let mut dice = Dice::new(seed, 0);
+    let time = |stems: &[Stem]| {
+        let tree = numbered(&arguments(stems));
+        (accept::refusal(&tree) == 0).then(|| a_node(&tree, Side::Ours) * f64::from(tree.count))
+    };
+    let (mut slowest, mut steps) = (time(&stems).expect("an accepted tree"), 0);
+    for _ in 0..CHANGES {
+        let at = 1 + dice.below(stems.len() - 2);
+        let before = std::mem::replace(&mut stems[at], dice.pick(&LEVEL));
+        match time(&stems) {
+            Some(slower) if slower > slowest => (slowest, steps) = (slower, steps + 1),
+            _ => stems[at] = before,
+        }
+    }
+    (steps, stems)
+}
+
+fn write(folder: &str, name: &str, tree: &NodeTable) {
+    let file = std::path::Path::new(folder).join(name);
+    std::fs::write(file, oracle::table::write(tree)).expect("a folder to write to");
 }
 
 /// A call with one nest for each argument, as often as there is room.
