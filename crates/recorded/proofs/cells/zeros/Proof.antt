@@ -1,8 +1,8 @@
--- judge::zeros is safe and ends: the measure is the number of cells that are left.
+-- cells::zeros is safe and ends: the measure is the number of cells that are left.
 use Prim.Native.Nat.{_-_}
 use native.Mathlib.Omega.{arith}
-use Rattle.recorded.proofs.judge.zeros.Statement.{statement}
-use Rattle.recorded.proofs.judge.zeros.Tie as tie
+use Rattle.recorded.proofs.cells.zeros.Statement.{statement}
+use Rattle.recorded.proofs.cells.zeros.Tie as tie
 
 abbrev Inv-loop : tie.InvT-loop
 Inv-loop table n i₀ i = Unit {0}

@@ -1,8 +1,8 @@
--- judge::fill is safe and ends: the measure is the number of cells that are left.
+-- cells::fill is safe and ends: the measure is the number of cells that are left.
 use Prim.Native.Nat.{_-_}
 use native.Mathlib.Omega.{arith}
-use Rattle.recorded.proofs.judge.fill.Statement.{statement}
-use Rattle.recorded.proofs.judge.fill.Tie as tie
+use Rattle.recorded.proofs.cells.fill.Statement.{statement}
+use Rattle.recorded.proofs.cells.fill.Tie as tie
 
 abbrev Inv-loop : tie.InvT-loop
 Inv-loop table₀ i₀ table i = Unit {0}

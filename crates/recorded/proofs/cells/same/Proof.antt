@@ -1,8 +1,8 @@
--- judge::same is safe and ends: the measure is the number of cells that are left.
+-- cells::same is safe and ends: the measure is the number of cells that are left.
 use Prim.Native.Nat.{_-_}
 use native.Mathlib.Omega.{arith}
-use Rattle.recorded.proofs.judge.same.Statement.{statement}
-use Rattle.recorded.proofs.judge.same.Tie as tie
+use Rattle.recorded.proofs.cells.same.Statement.{statement}
+use Rattle.recorded.proofs.cells.same.Tie as tie
 
 abbrev Inv-loop : tie.InvT-loop
 Inv-loop table cells n i₀ i = Unit {0}

@@ -1,8 +1,8 @@
--- judge::keeps is safe and ends: the measure is the number of cells that are left.
+-- cells::keeps is safe and ends: the measure is the number of cells that are left.
 use Prim.Native.Nat.{_-_}
 use native.Mathlib.Omega.{arith}
-use Rattle.recorded.proofs.judge.keeps.Statement.{statement}
-use Rattle.recorded.proofs.judge.keeps.Tie as tie
+use Rattle.recorded.proofs.cells.keeps.Statement.{statement}
+use Rattle.recorded.proofs.cells.keeps.Tie as tie
 
 abbrev Inv-loop : tie.InvT-loop
 Inv-loop table from i₀ i = Unit {0}
