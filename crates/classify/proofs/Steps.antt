@@ -19,7 +19,7 @@ use Rattle.tree.proofs.Unfold.{tree-zero, tree-past, unfolds}
 use Rattle.tree.proofs.Shapes.{form-in, form-none}
 use Rattle.tree.proofs.Walks.{leads}
 use Rattle.classify.specs.declared.ControlFlow.the-variants.{Break, Continue}
-use Rattle.classify.specs.Classify.{requiresComma, requiresSemi, lastTypeInPath, groupLabel, braceInPath, braceInBounds}
+use Rattle.classify.specs.Classify.{requiresComma, requiresSemi, lastTypeInPath, groupLabel}
 use Rattle.classify.specs.Steps.{flowBy}
 
 flow-ends : (s : Step Bool) (x : Bool) → Break x ≡ flowBy s → s ≡ ends x
@@ -40,6 +40,11 @@ module _ (asks : Label → Tree → Tree → Ask Bool) (missing : Bool) (cells :
 
 -- ---- what a detail or attributes ask, of a node with one operand
 
+pub one-test : (v w : Operand) (a x : Bool) → stepBy false (pick a first (answer x)) v w ≡ stepBy false (pick a first (answer x)) v v
+unfolding pick
+one-test v w true x = refl
+one-test v w false x = refl
+
 module _ (d : ℕ) (v w : Operand) where
   path-tests : (a b : Bool) → stepBy false (pick a (answer true) (pick b first (answer false))) v w ≡ stepBy false (pick a (answer true) (pick b first (answer false))) v v
   unfolding pick
@@ -51,22 +56,9 @@ module _ (d : ℕ) (v w : Operand) where
   unfolding lastTypeInPath
   path-one = path-tests (eqb d 1) (eqb d 3)
 
-  one-test : (a x : Bool) → stepBy false (pick a first (answer x)) v w ≡ stepBy false (pick a first (answer x)) v v
-  unfolding pick
-  one-test true x = refl
-  one-test false x = refl
-
   pub label-one : stepBy false (groupLabel d) v w ≡ stepBy false (groupLabel d) v v
   unfolding groupLabel
-  label-one = one-test (eqb d 0) false
-
-  pub brace-one : stepBy false (braceInPath d) v w ≡ stepBy false (braceInPath d) v v
-  unfolding braceInPath
-  brace-one = one-test (eqb d 3) false
-
-  pub bounds-one : stepBy false (braceInBounds d) v w ≡ stepBy false (braceInBounds d) v v
-  unfolding braceInBounds
-  bounds-one = one-test (eqb d 3) (eqb d 7)
+  label-one = one-test v w (eqb d 0) false
 
 -- ---- requires_semi_to_be_stmt
 

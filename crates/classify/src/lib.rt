@@ -1,4 +1,4 @@
-// prettyplease's classify.rs: questions about the ends of an expression, each a walk over node numbers.
+// prettyplease's classify.rs, but for the brace at an end (crate braces): questions about the ends of an expression, each a walk over node numbers.
 use tree::forms;
 use tree::shape::form_at;
 use tree::shape::shape_at;
@@ -7,8 +7,8 @@ use tree::table::cell;
 ghost use mathlib.Core.Path.{_≡_};
 ghost use mathlib.Core.Bool.{true, false};
 ghost use Rattle.tree.specs.Trees.{treeAt};
-ghost use Rattle.tree.specs.Walks.{treeOf, into, stepBy, stepAt};
-ghost use Rattle.classify.specs.Classify.{commaAsks, requiresComma, requiresSemi, lastTypeInPath, pathAsks, trailingPath, groupLabel, labelAsks, leadingLabel, braceInPath, braceInBounds, typeBraceAsks, typeTrailingBrace, braceAsks, trailingBrace};
+ghost use Rattle.tree.specs.Walks.{into, stepBy, stepAt};
+ghost use Rattle.classify.specs.Classify.{commaAsks, requiresComma, requiresSemi, lastTypeInPath, pathAsks, trailingPath, groupLabel, labelAsks, leadingLabel};
 ghost use Rattle.classify.specs.Steps.{flowBy};
 
 // A step of a walk: the answer, or the node that is asked next.
@@ -18,7 +18,7 @@ pub enum ControlFlow {
 }
 
 // On to an operand; where it is absent, the answer.
-fn go_on(absent: bool, operand: Operand) -> ControlFlow
+pub fn go_on(absent: bool, operand: Operand) -> ControlFlow
     ensures { λ r. ⌜ r ≡ flowBy (into absent operand) ⌝ }
 {
     let Operand::Present(number) = operand else {
@@ -145,117 +145,6 @@ pub fn expr_leading_label(table: &[u16], count: u16, node: u16) -> bool
     let mut at = node;
     loop {
         let step = label_step(table, count, at);
-        match step {
-            ControlFlow::Break(answer) => break answer,
-            ControlFlow::Continue(next) => at = next,
-        }
-    }
-}
-
-// The last bound: a path with an output goes on; tokens may end in braces.
-fn brace_in_bounds(detail: u16, output: Operand) -> ControlFlow
-    ensures { λ r. ⌜ r ≡ flowBy (stepBy false (braceInBounds detail) output output) ⌝ }
-{
-    match detail {
-        3 => go_on(false, output),
-        7 => ControlFlow::Break(true),
-        _ => ControlFlow::Break(false),
-    }
-}
-
-// The last segment: only the output of parenthesised arguments goes on.
-fn brace_in_path(detail: u16, output: Operand) -> ControlFlow
-    ensures { λ r. ⌜ r ≡ flowBy (stepBy false (braceInPath detail) output output) ⌝ }
-{
-    match detail {
-        3 => go_on(false, output),
-        _ => ControlFlow::Break(false),
-    }
-}
-
-fn type_brace_step(table: &[u16], count: u16, node: u16) -> ControlFlow
-    ensures { λ r. ⌜ r ≡ flowBy (stepAt typeBraceAsks false (now (table .entry)) count node) ⌝ }
-{
-    let shape = shape_at(table, count, node);
-    match form_at(table, count, node) {
-        forms::TYPE_FN_PTR | forms::TYPE_PTR => go_on(false, shape.first()),
-        forms::TYPE_REFERENCE => go_on(false, shape.first()),
-        forms::TYPE_IMPL_TRAIT | forms::TYPE_TRAIT_OBJECT => {
-            brace_in_bounds(cell(table, node, 2), shape.first())
-        }
-        forms::TYPE_MACRO => ControlFlow::Break(cell(table, node, 2) == 2),
-        forms::TYPE_PATH => brace_in_path(cell(table, node, 2), shape.first()),
-        forms::TYPE_VERBATIM => ControlFlow::Break(cell(table, node, 2) == 1),
-        _ => ControlFlow::Break(false),
-    }
-}
-
-// Nested in expr_trailing_brace: whether a type's last token is `}`.
-pub fn type_trailing_brace(table: &[u16], count: u16, node: u16) -> bool
-    ensures { λ r. ⌜ r ≡ typeTrailingBrace (treeAt (now (table .entry)) count node) ⌝ }
-{
-    let mut at = node;
-    loop {
-        let step = type_brace_step(table, count, at);
-        match step {
-            ControlFlow::Break(answer) => break answer,
-            ControlFlow::Continue(next) => at = next,
-        }
-    }
-}
-
-// A Cast ends where its type ends.
-fn cast_brace(table: &[u16], count: u16, ty: Operand) -> bool
-    ensures { λ r. ⌜ r ≡ typeTrailingBrace (treeOf (now (table .entry)) count ty) ⌝ }
-{
-    let Operand::Present(number) = ty else {
-        return false;
-    };
-    type_trailing_brace(table, count, number)
-}
-
-fn brace_step(table: &[u16], count: u16, node: u16) -> ControlFlow
-    ensures { λ r. ⌜ r ≡ flowBy (stepAt braceAsks false (now (table .entry)) count node) ⌝ }
-{
-    let shape = shape_at(table, count, node);
-    match form_at(table, count, node) {
-        forms::EXPR_ASYNC
-        | forms::EXPR_BLOCK
-        | forms::EXPR_CONST
-        | forms::EXPR_FOR_LOOP
-        | forms::EXPR_IF
-        | forms::EXPR_LOOP
-        | forms::EXPR_MATCH
-        | forms::EXPR_STRUCT
-        | forms::EXPR_TRY_BLOCK
-        | forms::EXPR_UNSAFE
-        | forms::EXPR_WHILE => ControlFlow::Break(true),
-        forms::EXPR_ASSIGN | forms::EXPR_BINARY | forms::EXPR_RANGE => {
-            go_on(false, shape.second())
-        }
-        forms::EXPR_BREAK
-        | forms::EXPR_CLOSURE
-        | forms::EXPR_GROUP
-        | forms::EXPR_LET
-        | forms::EXPR_RAW_ADDR
-        | forms::EXPR_RETURN
-        | forms::EXPR_UNARY
-        | forms::EXPR_YIELD => go_on(false, shape.first()),
-        forms::EXPR_REFERENCE => go_on(false, shape.first()),
-        forms::EXPR_CAST => ControlFlow::Break(cast_brace(table, count, shape.second())),
-        forms::EXPR_MACRO => ControlFlow::Break(cell(table, node, 2) == 2),
-        forms::EXPR_VERBATIM => ControlFlow::Break(cell(table, node, 2) == 1),
-        _ => ControlFlow::Break(false),
-    }
-}
-
-// Whether the expression's last token is `}`.
-pub fn expr_trailing_brace(table: &[u16], count: u16, node: u16) -> bool
-    ensures { λ r. ⌜ r ≡ trailingBrace (treeAt (now (table .entry)) count node) ⌝ }
-{
-    let mut at = node;
-    loop {
-        let step = brace_step(table, count, at);
         match step {
             ControlFlow::Break(answer) => break answer,
             ControlFlow::Continue(next) => at = next,

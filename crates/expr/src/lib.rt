@@ -3,8 +3,8 @@ use bools::both;
 use fixup::context::FixupContext;
 use precedence::Precedence;
 use tree::forms;
+use tree::shape::first_at;
 use tree::shape::form_at;
-use tree::shape::shape_at;
 use tree::table::Operand;
 use tree::table::cell;
 ghost use mathlib.Core.Path.{_≡_};
@@ -213,7 +213,6 @@ pub fn first_operand(fixup: FixupContext, table: &[u16], count: u16, node: u16) 
     ensures { λ r. ⌜ r ≡ handsFirst fixup (treeAt (now (table .entry)) count node) ⌝ }
 {
     let none = FixupContext::none();
-    let shape = shape_at(table, count, node);
     match form_at(table, count, node) {
         // expr_assign
         forms::EXPR_ASSIGN => before_operator(
@@ -235,7 +234,12 @@ pub fn first_operand(fixup: FixupContext, table: &[u16], count: u16, node: u16) 
             true,
             true,
             Precedence::Jump,
-            break_test(cell(table, node, 2), table, count, shape.first()),
+            break_test(
+                cell(table, node, 2),
+                table,
+                count,
+                first_at(table, count, node),
+            ),
         ),
         // expr_call
         forms::EXPR_CALL => before_operator(
@@ -243,7 +247,7 @@ pub fn first_operand(fixup: FixupContext, table: &[u16], count: u16, node: u16) 
             true,
             false,
             Precedence::Unambiguous,
-            call_test(table, count, shape.first()),
+            call_test(table, count, first_at(table, count, node)),
         ),
         // expr_cast
         forms::EXPR_CAST => before_operator(

@@ -5,14 +5,14 @@ use bools::and_not;
 use bools::either;
 use precedence::Precedence;
 use tree::forms;
+use tree::shape::first_at;
 use tree::shape::form_at;
-use tree::shape::shape_at;
 use tree::table::cell;
 ghost use mathlib.Core.Path.{_≡_};
 ghost use mathlib.Core.Bool.{_&&_};
 ghost use Rattle.tree.specs.Trees.{treeAt};
 ghost use Rattle.fixup.specs.Fixup.{parenthesize, effective, leftOfBinary, scanLeft};
-ghost use Rattle.fixup.specs.Steps.{lookOf};
+ghost use Rattle.fixup.specs.Steps.{lookOf, asks};
 
 // What parenthesize and precedence ask of an expression.
 enum Look {
@@ -78,8 +78,34 @@ fn left_of_binary(previous: Precedence, own: Precedence) -> bool
 }
 
 impl FixupContext {
+    // Whether one of the flags is set that parenthesize looks at.
+    fn asks(self) -> bool
+        ensures { λ r. ⌜ r ≡ asks self ⌝ }
+    {
+        either(
+            either(
+                either(self.stmt, self.leftmost_subexpression_in_stmt),
+                self.leftmost_subexpression_in_match_arm,
+            ),
+            either(
+                either(self.condition, self.rightmost_subexpression_in_condition),
+                self.leftmost_subexpression_in_optional_operand,
+            ),
+        )
+    }
+
     // Whether parentheses are needed to head off the early termination of a statement or condition.
     pub fn parenthesize(self, table: &[u16], count: u16, node: u16) -> bool
+        ensures { λ r. ⌜ r ≡ parenthesize self (treeAt (now (table .entry)) count node) ⌝ }
+    {
+        if self.asks() {
+            return self.parenthesize_asked(table, count, node);
+        }
+        false
+    }
+
+    // parenthesize, question by question.
+    fn parenthesize_asked(self, table: &[u16], count: u16, node: u16) -> bool
         ensures { λ r. ⌜ r ≡ parenthesize self (treeAt (now (table .entry)) count node) ⌝ }
     {
         if flagged(
@@ -161,13 +187,10 @@ impl FixupContext {
         ) {
             return Precedence::Prefix;
         }
-        if flagged(
-            self.next_operator_can_begin_generics,
-            Look::CastToPath,
-            table,
-            count,
-            node,
-        ) {
+        if !self.next_operator_can_begin_generics {
+            return Precedence::of(table, count, node);
+        }
+        if looks(Look::CastToPath, table, count, node) {
             return Precedence::MIN;
         }
         Precedence::of(table, count, node)
@@ -179,7 +202,6 @@ pub fn scan_left(table: &[u16], count: u16, node: u16, fixup: FixupContext) -> b
     ensures { λ r. ⌜ r ≡ scanLeft (treeAt (now (table .entry)) count node) fixup ⌝ }
 {
     let previous = fixup.previous_operator;
-    let shape = shape_at(table, count, node);
     match form_at(table, count, node) {
         forms::EXPR_ASSIGN => previous.is_at_most(Precedence::Assign),
         forms::EXPR_BINARY => {
@@ -188,7 +210,7 @@ pub fn scan_left(table: &[u16], count: u16, node: u16, fixup: FixupContext) -> b
         forms::EXPR_CAST => previous.is_below(Precedence::Cast),
         forms::EXPR_RANGE => {
             either(
-                look::is_absent(shape.first()),
+                look::is_absent(first_at(table, count, node)),
                 previous.is_below(Precedence::Assign),
             )
         }

@@ -1,8 +1,9 @@
 // What a node looks like from outside: the `matches!` tests of fixup.rs.
 use bools::both;
 use tree::forms;
+use tree::shape::first_at;
 use tree::shape::form_at;
-use tree::shape::shape_at;
+use tree::shape::second_at;
 use tree::table::Operand;
 use tree::table::cell;
 ghost use mathlib.Core.Path.{_≡_};
@@ -45,9 +46,8 @@ pub fn is_struct(table: &[u16], count: u16, node: u16) -> bool
 pub fn is_bare_return(table: &[u16], count: u16, node: u16) -> bool
     ensures { λ r. ⌜ r ≡ isBareReturn (treeAt (now (table .entry)) count node) ⌝ }
 {
-    let shape = shape_at(table, count, node);
     match form_at(table, count, node) {
-        forms::EXPR_RETURN | forms::EXPR_YIELD => is_absent(shape.first()),
+        forms::EXPR_RETURN | forms::EXPR_YIELD => is_absent(first_at(table, count, node)),
         _ => false,
     }
 }
@@ -56,11 +56,10 @@ pub fn is_bare_return(table: &[u16], count: u16, node: u16) -> bool
 pub fn is_open_ended(table: &[u16], count: u16, node: u16) -> bool
     ensures { λ r. ⌜ r ≡ isOpenEnded (treeAt (now (table .entry)) count node) ⌝ }
 {
-    let shape = shape_at(table, count, node);
     match form_at(table, count, node) {
-        forms::EXPR_BREAK => is_absent(shape.first()),
+        forms::EXPR_BREAK => is_absent(first_at(table, count, node)),
         forms::EXPR_PATH => true,
-        forms::EXPR_RANGE => is_absent(shape.second()),
+        forms::EXPR_RANGE => is_absent(second_at(table, count, node)),
         _ => false,
     }
 }
@@ -79,9 +78,12 @@ pub fn is_plain_block(table: &[u16], count: u16, node: u16) -> bool
 pub fn is_bare_jump(table: &[u16], count: u16, node: u16) -> bool
     ensures { λ r. ⌜ r ≡ isBareJump (treeAt (now (table .entry)) count node) ⌝ }
 {
-    let shape = shape_at(table, count, node);
     match form_at(table, count, node) {
-        forms::EXPR_BREAK | forms::EXPR_RETURN | forms::EXPR_YIELD => is_absent(shape.first()),
+        forms::EXPR_BREAK | forms::EXPR_RETURN | forms::EXPR_YIELD => is_absent(first_at(
+            table,
+            count,
+            node,
+        )),
         _ => false,
     }
 }
@@ -90,14 +92,13 @@ pub fn is_bare_jump(table: &[u16], count: u16, node: u16) -> bool
 pub fn is_open_ahead(table: &[u16], count: u16, node: u16) -> bool
     ensures { λ r. ⌜ r ≡ isOpenAhead (treeAt (now (table .entry)) count node) ⌝ }
 {
-    let shape = shape_at(table, count, node);
     match form_at(table, count, node) {
         forms::EXPR_BREAK
         | forms::EXPR_CLOSURE
         | forms::EXPR_LET
         | forms::EXPR_RETURN
         | forms::EXPR_YIELD => true,
-        forms::EXPR_RANGE => is_absent(shape.first()),
+        forms::EXPR_RANGE => is_absent(first_at(table, count, node)),
         _ => false,
     }
 }
@@ -116,9 +117,8 @@ fn ends_in_path(table: &[u16], count: u16, ty: Operand) -> bool
 pub fn is_cast_to_path(table: &[u16], count: u16, node: u16) -> bool
     ensures { λ r. ⌜ r ≡ isCastToPath (treeAt (now (table .entry)) count node) ⌝ }
 {
-    let shape = shape_at(table, count, node);
     match form_at(table, count, node) {
-        forms::EXPR_CAST => ends_in_path(table, count, shape.second()),
+        forms::EXPR_CAST => ends_in_path(table, count, second_at(table, count, node)),
         _ => false,
     }
 }

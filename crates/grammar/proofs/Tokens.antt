@@ -67,6 +67,10 @@ each-operator p h o =
     let d = and-true (p Assign) (allIn p operators) (true-of h) in
     subst (λ x. T (p x)) (operator-number o) (all-in p Assign operators (of-true (d .0)) (of-true (d .1)) (number o))
 
+pub number-operator : (n : ℕ) → n < 29 → number (operatorOf n) ≡ n
+unfolding operatorOf
+number-operator n h = eqb→eq (number (operatorOf n)) n (all-at (λ m. eqb (number (operatorOf m)) m) 29 tt n h)
+
 pub number-below : (o : Operator) → number o < 29
 number-below o = ltb→lt (number o) 29 (each-operator (λ x. ltb (number x) 29) tt o)
 

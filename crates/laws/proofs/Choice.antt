@@ -27,6 +27,17 @@ true-of {b} t = go b t
 pub of-true : {b : Bool} → b ≡ true → T b
 of-true {b} e = rw e tt
 
+-- whether two tests say the same, for tests over every number of a table
+abbrev pub alike : Bool → Bool → Bool
+alike true b = b
+alike false b = not b
+
+pub alike-same : (a b : Bool) → T (alike a b) → a ≡ b
+alike-same true true t = refl
+alike-same true false t = absurd t
+alike-same false true t = absurd t
+alike-same false false t = refl
+
 pub and-true : (a b : Bool) → a && b ≡ true → (a ≡ true) × (b ≡ true)
 and-true true b e = (refl, e)
 and-true false b e = true-not-false (sym e)

@@ -13,7 +13,7 @@ use Rattle.numbering.specs.declared.Renumbered.{Renumbered}
 use Rattle.numbering.specs.declared.Renumbered.the-variants.{TooLarge, TooShort, Nodes}
 use Rattle.numbering.specs.Numbered.{size, cellsFrom, numbered, tooLarge, tooShort, renumbered, renumberedAfter}
 use Rattle.numbering.proofs.Holds.{length-numbered}
-use Rattle.numbering.proofs.Stores.{sets-over}
+use Rattle.laws.proofs.Lists.{sets-over}
 
 module _ (t : Tree) (out : List ℕ) where
   -- what the two clauses of the contract say of an answer and of the lent table afterwards

@@ -5,13 +5,8 @@ use Prim.Native.Nat.{ℕ, suc, _+_, _≤_, _<_}
 use native.Mathlib.Omega.{arith}
 use native.Mathlib.Numerals.{towards-suc}
 use lib.ListN.{length, set}
-use lib.Seq.{sets, sets-eq, set-comm}
-use Rattle.laws.specs.Lists.{over}
-
--- one run after the other
-sets-append : (xs ys l : List ℕ) (i j : ℕ) → j ≡ i + length xs → sets l i (xs ++ ys) ≡ sets (sets l i xs) j ys
-sets-append [] ys l i j e = let s : j ≡ i = omega arith in rw s
-sets-append (x ∷ xs) ys l i j e = sets-append xs ys (set l i x) (suc i) j (omega arith)
+use lib.Seq.{sets, set-comm}
+use Rattle.laws.proofs.Lists.{sets-append}
 
 -- a store before a run, made after it
 set-sets : (ys l : List ℕ) (i j x : ℕ) → i < j → set (sets l j ys) i x ≡ sets (set l i x) j ys
@@ -30,8 +25,3 @@ three-runs xs ys zs l i j k e f =
 -- five stores in a row
 pub five-stores : (l : List ℕ) (i a b c d e : ℕ) → set (set (set (set (set l i a) (i + 1) b) (i + 2) c) (i + 3) d) (i + 4) e ≡ sets l i (a ∷ b ∷ c ∷ d ∷ e ∷ [])
 five-stores l i a b c d e = simp towards-suc
-
--- a run from the start on
-pub sets-over : (xs l : List ℕ) → length xs ≤ length l → sets l 0 xs ≡ over xs l
-unfolding over
-sets-over xs l h = let z : 0 + length xs ≡ length xs = omega arith in sets-eq xs l 0 (omega arith) ∙ rw z

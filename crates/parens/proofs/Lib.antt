@@ -1,4 +1,2 @@
-pub mod Digits
 pub mod Files
-pub mod Growing
 pub mod Lines

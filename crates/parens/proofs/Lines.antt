@@ -1,33 +1,15 @@
--- Laws of rows and lines, a step at a time. Assumes nothing.
-use mathlib.Core.Path.{_≡_, refl, _∙_}
-use mathlib.Core.List.{List, [], _∷_, _++_, append-assoc}
-use Prim.Native.Nat.{ℕ, suc, _+_, _<_}
+-- Laws of lines, a step at a time. Assumes nothing.
+use mathlib.Core.Path.{_≡_}
+use mathlib.Core.List.{List, [], _++_}
+use Prim.Native.Nat.{ℕ, suc, _+_}
 use native.Mathlib.Omega.{arith}
 use borrow.Author.Tests.{eq-eqb, ne-eqb}
-use lib.ListN.{length, take, drop, getD, length-drop}
-use lib.Seq.{take-suc, getD-drop}
 use Rattle.laws.proofs.Choice.{pick-true, pick-false}
 use Rattle.tree.specs.Forms.{anExpression, classOf}
 use Rattle.tree.specs.Shapes.{formIn}
-use Rattle.parens.specs.Text.{space, decimal, spaced, lineOf, nodeText, linesOf}
-use Rattle.parens.specs.Growth.{Added}
-use Rattle.parens.proofs.Growing.{append-none, added-more}
-
-spaced-append : (s t : List ℕ) → spaced (s ++ t) ≡ spaced s ++ spaced t
-unfolding spaced
-spaced-append [] t = refl
-spaced-append (n ∷ s) t = rw (spaced-append s t, append-assoc)
-
--- one cell more of a row that starts at `from`
-pub spaced-next : (rows : List ℕ) (from j : ℕ) → from + j < length rows → spaced (take (j + 1) (drop from rows)) ≡ spaced (take j (drop from rows)) ++ (space ∷ decimal (getD rows (from + j) 0))
-unfolding spaced
-spaced-next rows from j h =
-    let e : j + 1 ≡ suc j = omega arith in
-    let i : j < length (drop from rows) = rw length-drop (omega arith) in
-    rw (e, take-suc (drop from rows) j 0 i, getD-drop from rows j 0)
-    (spaced-append (take j (drop from rows)) (getD rows (from + j) 0 ∷ []) ∙ rw (append-none (decimal (getD rows (from + j) 0))))
-
--- ---- nodes
+use Rattle.text.specs.Growth.{Added}
+use Rattle.text.proofs.Growing.{added-more}
+use Rattle.parens.specs.Text.{lineOf, nodeText, linesOf}
 
 module _ (count : ℕ) (cells rows : List ℕ) where
   module _ (i class : ℕ) (is : class ≡ classOf (formIn cells count i)) where

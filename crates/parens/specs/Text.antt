@@ -1,7 +1,7 @@
 -- Document 01, 'Decisions': what `parens` prints for a file, as ASCII codes.
-use mathlib.Core.List.{List, [], _∷_, _++_}
-use Prim.Native.Nat.{ℕ, zero, suc, _+_, _*_, _-_, _/_, _%_}
-use lib.Dec.{eqb, ltb}
+use mathlib.Core.List.{List, [], _++_}
+use Prim.Native.Nat.{ℕ, zero, suc, _*_, _-_}
+use lib.Dec.{eqb}
 use lib.ListN.{take, drop, replicate}
 use Rattle.laws.specs.Choice.{pick}
 use Rattle.tree.specs.Forms.{anExpression, classOf}
@@ -12,34 +12,11 @@ use Rattle.tree_file.specs.declared.Loaded.the-variants.{Refused, Accepted}
 use Rattle.tree_file.specs.Files.{cellsIn, loaded}
 use Rattle.walk.specs.Rows.{rowsOf}
 use Rattle.walk.specs.Walk.{rootHanded, placed}
-
-abbrev pub space : ℕ
-space = 32
-
-abbrev pub newline : ℕ
-newline = 10
-
--- the last k decimal digits of n, or all where it has fewer; 48 is the code of `0`
-unfoldable pub decimalTo : ℕ → ℕ → List ℕ
-decimalTo zero n = []
-decimalTo (suc k) n = pick (ltb n 10) ((48 + n) ∷ []) (decimalTo k (n / 10) ++ ((48 + n % 10) ∷ []))
-
--- the decimal digits of n, of which there are no more than n + 1
-unfoldable pub decimal : ℕ → List ℕ
-decimal n = decimalTo (suc n) n
-
--- numbers with a space before each
-unfoldable pub spaced : List ℕ → List ℕ
-spaced [] = []
-spaced (n ∷ ns) = space ∷ decimal n ++ spaced ns
-
--- the first line: two letters and a number
-unfoldable pub headed : ℕ → ℕ → ℕ → List ℕ
-headed a b n = a ∷ b ∷ space ∷ decimal n ++ (newline ∷ [])
+use Rattle.text.specs.Numbers.{line, headed}
 
 -- "its node number and row": node i's, whose five cells stand in `rows`
 unfoldable pub lineOf : List ℕ → ℕ → List ℕ
-lineOf rows i = decimal i ++ (spaced (take 5 (drop (5 * (i - 1)) rows)) ++ (newline ∷ []))
+lineOf rows i = line i (take 5 (drop (5 * (i - 1)) rows))
 
 -- "for each expression": nothing for a type or a link
 unfoldable pub nodeText : ℕ → List ℕ → List ℕ → ℕ → List ℕ

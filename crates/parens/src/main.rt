@@ -2,17 +2,18 @@
 // expression, or the number of the refusal.
 use libc::STDIN_FILENO;
 use libc::STDOUT_FILENO;
+use text::put_head;
+use text::put_line;
 use tree::form::class_of;
 use tree::shape::form_at;
 use tree_file::Loaded;
-ghost use mathlib.Core.List.{[], _∷_};
 ghost use mathlib.Core.Path.{_≡_};
-ghost use Prim.Native.Nat.{_+_, _*_, _≤_, _<_};
-ghost use lib.ListN.{length, take, drop};
+ghost use Prim.Native.Nat.{_+_, _*_, _≤_};
+ghost use lib.ListN.{length, take};
 ghost use Rattle.io.specs.Counts.{Counts};
 ghost use Rattle.tree.specs.Refusals.{refusal};
-ghost use Rattle.parens.specs.Growth.{Added};
-ghost use Rattle.parens.specs.Text.{decimal, spaced, headed, lineOf, nodeText, linesOf, acceptedText, printed};
+ghost use Rattle.text.specs.Growth.{Added};
+ghost use Rattle.parens.specs.Text.{lineOf, nodeText, linesOf, acceptedText, printed};
 
 // One byte more than the longest file, so that a longer one shows.
 const FILE: usize = 65_537;
@@ -25,71 +26,17 @@ const SCRATCH: usize = 12_288;
 // The most bytes that are printed: a first line of 9, and 36 for each of 4,096 nodes.
 const TEXT: usize = 147_465;
 
-// ---- a text that grows: each function adds to it at its end, and answers where it then ends
+// ---- lines
 
-fn put_byte(out: &mut [u8], end: usize, byte: u8) -> usize
-    requires { ⌜ end < length (now out) ⌝ }
-    ensures { λ r. ⌜ Added (now (out .entry)) end (byte ∷ []) (now (out .exit)) r ⌝ }
-{
-    out[end] = byte;
-    end + 1
-}
-
-fn digit(n: u16) -> u8
-    requires { ⌜ n < 10 ⌝ }
-    ensures { λ r. ⌜ r ≡ 48 + n ⌝ }
-{
-    48 + n as u8
-}
-
-fn put_number(out: &mut [u8], end: usize, n: u16) -> usize
-    requires { ⌜ end + length (decimal n) ≤ length (now out) ⌝ }
-    ensures { λ r. ⌜ Added (now (out .entry)) end (decimal n) (now (out .exit)) r ⌝ }
-{
-    if n < 10 {
-        return put_byte(out, end, digit(n));
-    }
-    let next = put_number(out, end, n / 10);
-    put_byte(out, next, digit(n % 10))
-}
-
-// Two letters and a number, as the first line.
-fn put_head(out: &mut [u8], first: u8, second: u8, n: u16) -> usize
-    requires { ⌜ 9 ≤ length (now out) ⌝ }
-    ensures { λ r. ⌜ Added (now (out .entry)) 0 (headed first second n) (now (out .exit)) r ⌝ }
-    ensures { λ r. ⌜ r ≤ 9 ⌝ }
-{
-    let one = put_byte(out, 0, first);
-    let two = put_byte(out, one, second);
-    let three = put_byte(out, two, b' ');
-    let end = put_number(out, three, n);
-    put_byte(out, end, b'\n')
-}
-
-// The five cells of a row, which start at `from`.
-fn put_row(out: &mut [u8], end: usize, rows: &[u16], from: usize) -> usize
-    requires { ⌜ (from + 5 ≤ length (now rows)) × (end + 30 ≤ length (now out)) ⌝ }
-    ensures { λ r. ⌜ Added (now (out .entry)) end (spaced (take 5 (drop from (now (rows .entry))))) (now (out .exit)) r ⌝ }
-    ensures { λ r. ⌜ r ≤ end + 30 ⌝ }
-{
-    let mut at = end;
-    let mut done = 0;
-    while done < 5 {
-        let next = put_byte(out, at, b' ');
-        at = put_number(out, next, rows[from + done]);
-        done += 1;
-    }
-    at
-}
-
-fn put_line(out: &mut [u8], end: usize, rows: &[u16], node: u16) -> usize
+// The line of a node: its number, and the five cells of its row.
+fn put_row(out: &mut [u8], end: usize, rows: &[u16], node: u16) -> usize
     requires { ⌜ (1 ≤ node) × (5 * node ≤ length (now rows)) × (end + 36 ≤ length (now out)) ⌝ }
     ensures { λ r. ⌜ Added (now (out .entry)) end (lineOf (now (rows .entry)) node) (now (out .exit)) r ⌝ }
     ensures { λ r. ⌜ r ≤ end + 36 ⌝ }
 {
-    let number = put_number(out, end, node);
-    let row = put_row(out, number, rows, 5 * ((node - 1) as usize));
-    put_byte(out, row, b'\n')
+    let from = 5 * ((node - 1) as usize);
+    let to = from + 5;
+    put_line(out, end, node, &rows[from..to])
 }
 
 // The line of an expression; nothing for another node.
@@ -101,7 +48,7 @@ fn put_node(out: &mut [u8], end: usize, count: u16, table: &[u16], rows: &[u16],
     if class_of(form_at(table, count, node)) != 1 {
         return end;
     }
-    put_line(out, end, rows, node)
+    put_row(out, end, rows, node)
 }
 
 fn put_lines(out: &mut [u8], end: usize, count: u16, table: &[u16], rows: &[u16]) -> usize

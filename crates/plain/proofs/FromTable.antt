@@ -5,13 +5,13 @@ use mathlib.Core.List.{List, [], _∷_}
 use mathlib.Core.Logic.{_⊎_, inl, inr}
 use Prim.Native.Nat.{ℕ, zero, suc, _-_, _+_, _≤_, _<_}
 use native.Mathlib.Omega.{arith}
-use lib.Dec.{T, eqb, leb, eqb→eq}
+use lib.Dec.{eqb, leb}
 use borrow.Author.Tests.{eqb-true, leb-true, ne-eqb, not-false}
 use mir.Val.{hasKey}
 use Rattle.laws.specs.Choice.{pick, lookup, isOneOf}
 use Rattle.laws.specs.Each.{some}
 use Rattle.laws.proofs.Choice.{and-true, true-not-false, pick-false}
-use Rattle.laws.proofs.Each.{some-none, all-at}
+use Rattle.laws.proofs.Each.{some-none}
 use Rattle.tree.specs.declared.place.Place.the-variants.{Nothing, Required, List as ListOf, Item, Next}
 use Rattle.tree.specs.Forms.{ExprAssign, ExprAwait, ExprBinary, ExprCall, ExprCast, ExprField, ExprIndex, ExprLit, ExprMethodCall, ExprParen, ExprPath, ExprReference, ExprTry, ExprUnary, TypeInfer, TypeNever, TypePath, TypePtr, TypeReference, Link, anExpression, aType, aLink, classOf, highestAttributes, details, highestDetail, allowed}
 use Rattle.tree.specs.Table.{formAt, attributesAt, detailAt, firstAt, secondAt, classAt}
@@ -24,6 +24,7 @@ use Rattle.grammar.specs.Tokens.{Operator, number, Assign}
 use Rattle.grammar.specs.Codes.{operatorOf}
 use Rattle.grammar.specs.Types.{one, list, items, TypePrefix, constPtr, mutPtr, sharedRef, mutRef, TypeSign, infer, never, Ty, named, applied, pointing, sign, noTypes, types, lastType, moreTypes}
 use Rattle.grammar.specs.Expressions.{Atom, path, literal, Prefix, neg, deref, invert, ref, refMut, Member, byName, byNumber, awaited, Expr, atom, paren, prefix, binary, cast, member, try, index, call, method, noArguments, arguments, lastArgument, moreArguments}
+use Rattle.grammar.proofs.Tokens.{number-operator}
 use Rattle.plain.specs.Plain.{plainExpressions, plainTypes, isPlain, plainTable}
 use Rattle.plain.specs.Trees.{label, operatorLabel, treeOf, treeOfType}
 
@@ -40,10 +41,6 @@ one-of P (k ∷ ks) x h e = go (eqb k x) refl e (λ m. one-of P ks x (h .1) m)
     go : (b : Bool) → eqb k x ≡ b → b || hasKey ks x ≡ true → (hasKey ks x ≡ true → P x) → P x
     go true q e more = subst P (eqb-true k x q) (h .0)
     go false q e more = more e
-
-number-operator : (n : ℕ) → n < 29 → number (operatorOf n) ≡ n
-unfolding operatorOf
-number-operator n h = eqb→eq (number (operatorOf n)) n (all-at (λ m. eqb (number (operatorOf m)) m) 29 tt n h)
 
 up-to-one : (d : ℕ) → d ≤ 1 → (0 ≡ d) ⊎ (1 ≡ d)
 up-to-one zero h = inl refl

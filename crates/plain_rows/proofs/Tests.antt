@@ -8,7 +8,7 @@ use lib.Dec.{T, eqb, leb, ltb, eqb→eq}
 use native.Mathlib.Decide.{decLe}
 use borrow.Author.Tests.{lt-ltb, le-ltb, ltb-true, ltb-false}
 use Rattle.laws.specs.Choice.{pick, lookup, isOneOf}
-use Rattle.laws.proofs.Choice.{true-not-false}
+use Rattle.laws.proofs.Choice.{true-not-false, alike, alike-same}
 use Rattle.tree.specs.Trees.{Tree}
 use Rattle.tree.specs.Walks.{atRoot}
 use Rattle.precedence.specs.declared.Precedence.{Precedence}
@@ -83,16 +83,6 @@ but-assign p h o k = go (eqb (number o) 28) refl (each-operator (λ q. eqb (numb
     go true e t = absurd (omega (arith, eqb→eq (number o) 28 (rw e tt)))
     go false e t = t
 
-abbrev alike : Bool → Bool → Bool
-alike true b = b
-alike false b = not b
-
-alike-is : (a b : Bool) → T (alike a b) → a ≡ b
-alike-is true true t = refl
-alike-is true false t = absurd t
-alike-is false true t = absurd t
-alike-is false false t = refl
-
 implied : (a b : Bool) → a ≡ true → T (not a || not b) → b ≡ false
 implied a true h t = absurd (rw h at t)
 implied a false h t = refl
@@ -105,7 +95,7 @@ equal-unless a m n h t = eqb→eq m n (rw h at t)
 
 pub generics-is : (o : Operator) → number o < 28 → canBeginGenerics (number o) ≡ opensArguments o
 unfolding canBeginGenerics genericsBeginners lookup pick opensArguments
-generics-is o h = alike-is _ _ (but-assign (λ q. alike (canBeginGenerics (number q)) (opensArguments q)) tt o h)
+generics-is o h = alike-same _ _ (but-assign (λ q. alike (canBeginGenerics (number q)) (opensArguments q)) tt o h)
 
 -- `<` and `<<` can begin an expression, and are neither a range nor `||` nor `&&`
 pub operator-settled : (x : FixupContext) (o : Operator) → number o < 28 → Settled (withOperator x (canBeginExpr (number o)) (canBeginGenerics (number o)) (ofBinop (number o)))

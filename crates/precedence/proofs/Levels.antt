@@ -7,21 +7,10 @@ use lib.Dec.{T, ltb}
 use lib.ListN.{length}
 use Rattle.laws.specs.Choice.{pick, lookup}
 use Rattle.laws.specs.Each.{all}
-use Rattle.laws.proofs.Choice.{true-not-false}
+use Rattle.laws.proofs.Choice.{alike, alike-same}
 use Rattle.laws.proofs.Each.{all-at}
 use Rattle.precedence.specs.Precedences.{below, operators, ofBinop}
 use Rattle.precedence.specs.Reference.{strongFirst, placeIn, weaker}
-
-abbrev alike : Bool → Bool → Bool
-alike true b = b
-alike false true = false
-alike false false = true
-
-alike-same : (a b : Bool) → T (alike a b) → a ≡ b
-alike-same true true t = refl
-alike-same true false t = absurd t
-alike-same false true t = absurd t
-alike-same false false t = refl
 
 -- ten levels
 pub ten-levels : length strongFirst ≡ 10

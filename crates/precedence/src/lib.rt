@@ -1,7 +1,7 @@
 // prettyplease's precedence.rs: the precedences of expressions, loosest first.
 use tree::forms;
+use tree::shape::first_at;
 use tree::shape::form_at;
-use tree::shape::shape_at;
 use tree::table::Operand;
 use tree::table::cell;
 ghost use mathlib.Core.Path.{_≡_};
@@ -112,11 +112,10 @@ fn closed_of(table: &[u16], count: u16, node: u16) -> Precedence
 fn level_at(table: &[u16], count: u16, node: u16) -> Level
     ensures { λ r. ⌜ r ≡ levelBy (stepAt ofAsks Unambiguous (now (table .entry)) count node) ⌝ }
 {
-    let shape = shape_at(table, count, node);
     match form_at(table, count, node) {
         forms::EXPR_CLOSURE => Level::Of(closure_of(cell(table, node, 2), cell(table, node, 1))),
         forms::EXPR_BREAK | forms::EXPR_RETURN | forms::EXPR_YIELD => {
-            Level::Of(jump_of(shape.first()))
+            Level::Of(jump_of(first_at(table, count, node)))
         }
         forms::EXPR_ASSIGN => Level::Of(Precedence::Assign),
         forms::EXPR_RANGE => Level::Of(Precedence::Range),
@@ -125,7 +124,7 @@ fn level_at(table: &[u16], count: u16, node: u16) -> Level
         forms::EXPR_CAST => Level::Of(Precedence::Cast),
         forms::EXPR_RAW_ADDR | forms::EXPR_UNARY => Level::Of(Precedence::Prefix),
         forms::EXPR_REFERENCE => Level::Of(Precedence::Prefix),
-        forms::EXPR_GROUP => content_of(shape.first()),
+        forms::EXPR_GROUP => content_of(first_at(table, count, node)),
         _ => Level::Of(closed_of(table, count, node)),
     }
 }

@@ -1,10 +1,14 @@
-// Goes through the recorded files and replies in the file `files`, loads each file with
-// `tree_file`, and prints how many replies agree with the recorded ones. Then the same with the
-// file `rows`, and the rows that `walk` decides of each file.
+// Goes through the recorded files and replies in the file `files`, loads each file with `tree_file`, and prints how
+// many replies agree with the recorded ones. Then the same with the file `rows` and the rows that `walk` decides,
+// with `readings` and what `token_reader` reads, and with `tokens` and what `token_writer` writes.
+mod cells;
 mod judge;
+mod lists;
 mod record;
 mod report;
+mod trees;
 
+use judge::Kind;
 use judge::Step;
 
 // The most records: data that has more counts as damaged.
@@ -20,14 +24,14 @@ fn bump(counts: &mut [u64; 17], reply: usize) {
     }
 }
 
-// Goes through all records and prints what came of them. With `decides` they record rows.
-fn run(fd: i32, decides: bool) {
+// Goes through all records and prints what came of them.
+fn run(fd: i32, kind: Kind) {
     let mut met = [0u64; 17];
     let mut agreed = [0u64; 17];
     let mut files: u64 = 0;
     let mut different: u64 = 0;
     while files <= MOST {
-        match judge::next(fd, decides) {
+        match judge::next(fd, kind) {
             Step::End => {
                 report::all(&met, &agreed, files, different);
                 return;
@@ -51,18 +55,25 @@ fn run(fd: i32, decides: bool) {
 }
 
 // Opens a file of records and goes through them, or says why it cannot be opened.
-fn open(path: &[u8], decides: bool) {
+fn open(path: &[u8], kind: Kind) {
     let fd = os::open_read(path);
     if fd < 0 {
         os::fail(path);
         return;
     }
-    run(fd, decides);
+    run(fd, kind);
     libc::close(fd);
 }
 
+// The same below a line with the file's name.
+fn open_named(name: &[u8], kind: Kind) {
+    report::title(name);
+    open(name, kind);
+}
+
 fn main() {
-    open(b"files", false);
-    report::rows();
-    open(b"rows", true);
+    open(b"files", Kind::Files);
+    open_named(b"rows", Kind::Rows);
+    open_named(b"readings", Kind::Readings);
+    open_named(b"tokens", Kind::Tokens);
 }

@@ -1,4 +1,8 @@
-// The parts of a record: a header of 12 bytes, the file's bytes, and the cells of the table or the rows.
+// The parts of a record: a header of 12 bytes, the bytes of a tree file or a token list, and the cells that are written.
+ghost use Prim.Native.Nat.{_≤_};
+
+// The bytes of the longest file.
+pub const FILE: usize = 70_000;
 
 // What a header says, with its numbers as they stand there.
 pub struct Header {
@@ -7,6 +11,16 @@ pub struct Header {
     pub reply: u16,
     pub context: u16,
     pub count: u16,
+}
+
+// Whether a refusal is the recorded reply.
+pub fn refuses(h: Header, why: u16) -> bool {
+    why != 0 && why == h.reply
+}
+
+// Whether a count is the recorded one, of a record that is not refused.
+pub fn counts(h: Header, count: u16) -> bool {
+    h.reply == 0 && count == h.count
 }
 
 // What stands at the start of a record: nothing where the data ends.
@@ -22,7 +36,9 @@ pub fn pair(low: u8, high: u8) -> u16 {
 }
 
 // A number of 16 bits as one to count with.
-pub fn wide(x: u16) -> usize {
+pub fn wide(x: u16) -> usize
+    ensures { λ r. ⌜ r ≤ 65_535 ⌝ }
+{
     x as usize
 }
 

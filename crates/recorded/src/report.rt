@@ -44,9 +44,10 @@ pub fn all(met: &[u64; 17], agreed: &[u64; 17], files: u64, different: u64) {
     text(b"\n");
 }
 
-// The line between the two files of records.
-pub fn rows() {
-    text(b"rows\n");
+// The line between two files of records.
+pub fn title(name: &[u8]) {
+    text(name);
+    text(b"\n");
 }
 
 // The line for data that is no run of records.

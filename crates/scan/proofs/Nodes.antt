@@ -1,6 +1,6 @@
 -- scan_right at a node of a table, by what its operand answers. Assumes nothing.
 use mathlib.Core.Path.{_≡_, refl, sym, ap, _∙_}
-use mathlib.Core.Bool.{Bool, true, false, not, _&&_}
+use mathlib.Core.Bool.{true, false, _&&_}
 use mathlib.Core.List.{List}
 use Prim.Native.Nat.{ℕ, _≤_, _<_}
 use native.Mathlib.Omega.{arith}
@@ -8,9 +8,9 @@ use native.Mathlib.Decide.{decLe}
 use Rattle.laws.specs.Choice.{pick}
 use Rattle.laws.proofs.Choice.{pick-true, pick-false}
 use Rattle.tree.specs.declared.table.Operand.the-variants.{Absent, Present}
-use Rattle.tree.specs.Trees.{Tree, none, node, labelAt, operandAt, treeAt}
+use Rattle.tree.specs.Trees.{Tree, none, operandAt, treeAt}
 use Rattle.tree.specs.Shapes.{presence}
-use Rattle.tree.specs.Walks.{isThere, atRoot}
+use Rattle.tree.specs.Walks.{atRoot}
 use Rattle.tree.proofs.Unfold.{tree-zero, tree-past, unfolds}
 use Rattle.tree.proofs.Walks.{present-above, absent-zero}
 use Rattle.precedence.specs.declared.Precedence.{Precedence}
@@ -24,8 +24,10 @@ use Rattle.scan.specs.declared.answer.Leave.the-variants.{Answer, Ask}
 use Rattle.scan.specs.declared.arm.Arm.{Arm}
 use Rattle.scan.specs.declared.arm.Arm.the-variants.{Assign, Binary, Prefix, Range, Break, Return, Closure, Let, Group, Closed}
 use Rattle.scan.specs.declared.visit.Visit.{Visit}
-use Rattle.scan.specs.Scans.{consumes, consumeBy, armOf, armRows, operandBy, leafScan, early, visitBy, leaveBy, settleBy, finish, notConsume, loose, scanned, rightBy, scanBy, nowhere, scanRight, rightmostPrecedence}
+use Rattle.scan.specs.Scans.{consumes, consumeBy, armOf, operandBy, leafScan, early, visitBy, leaveBy, settleBy, finish, notConsume, loose, scanned, rightBy, scanBy, nowhere, scanRight, rightmostPrecedence}
 use Rattle.scan.specs.Steps.{operandNumber}
+use Rattle.scan.specs.Linear.{asksAgain, rightGiven}
+use Rattle.scan.proofs.Again.{first-serves}
 
 module _ (cells : List ℕ) (count : ℕ) where
   -- an arm's operand: its number's tree, and that tree's scans
@@ -125,18 +127,39 @@ module _ (cells : List ℕ) (count : ℕ) where
           pub scan-settles : l ≡ Ask → (r : Precedence) → r ≡ rightmostPrecedence (treeAt cells count n) (w .context) → scanRight here x p f b ≡ settleBy arm p next r
           scan-settles e r q = left-by ∙ rw (e, ← q)
 
+          -- the answer that the operand gave serves where it is not scanned again
+          pub scan-serves : l ≡ Ask → asksAgain arm next ≡ false → (r : Precedence) → r ≡ rightGiven (treeAt cells count n) s (w .context) → scanRight here x p f b ≡ settleBy arm p next r
+          scan-serves e k r q =
+              let serves = rw (← visits, ← scans) at (first-serves (treeAt cells count n) x p f b arm) in
+              left-by ∙ rw e (ap (settleBy arm p next) (sym (serves (sym leaves ∙ e) k) ∙ sym q))
+
 -- ---- the precedences that ask the scan, by the outcomes of their tests
+
+module _ (t : Tree) (s : Scan) (x : FixupContext) (d : Precedence) (is : d ≡ effective x t) where
+  pub given-unscanned : loose x d && scanned x ≡ false → d ≡ rightGiven t s x
+  unfolding rightGiven
+  given-unscanned e = is ∙ sym (pick-false _ _ (rw (← is, e)))
+
+  module _ (asks : loose x d && scanned x ≡ true) where
+    pub given-grouped : notConsume s && scanLeft t x ≡ true → level.Prefix ≡ rightGiven t s x
+    unfolding rightGiven
+    given-grouped e = sym (pick-true _ _ (rw (← is, asks) e))
+
+    pub given-consumed : notConsume s && scanLeft t x ≡ false → d ≡ rightGiven t s x
+    unfolding rightGiven
+    given-consumed e = is ∙ sym (pick-false _ _ (rw (← is, asks) e))
+
+right-is : (t : Tree) (s : Scan) (x : FixupContext) → s ≡ scanRight t x (x .«previous_operator») 1 0 → rightGiven t s x ≡ rightmostPrecedence t x
+unfolding rightGiven rightmostPrecedence rightBy
+right-is t s x e = rw e
 
 module _ (t : Tree) (x : FixupContext) (d : Precedence) (is : d ≡ effective x t) where
   pub right-unscanned : loose x d && scanned x ≡ false → d ≡ rightmostPrecedence t x
-  unfolding rightmostPrecedence rightBy
-  right-unscanned e = is ∙ sym (pick-false _ _ (rw (← is, e)))
+  right-unscanned e = given-unscanned t _ x d is e ∙ right-is t _ x refl
 
   module _ (asks : loose x d && scanned x ≡ true) (s : Scan) (scans : s ≡ scanRight t x (x .«previous_operator») 1 0) where
     pub right-grouped : notConsume s && scanLeft t x ≡ true → level.Prefix ≡ rightmostPrecedence t x
-    unfolding rightmostPrecedence rightBy
-    right-grouped e = sym (pick-true _ _ (rw (← is, asks, ← scans) e))
+    right-grouped e = given-grouped t s x d is asks e ∙ right-is t s x scans
 
     pub right-consumed : notConsume s && scanLeft t x ≡ false → d ≡ rightmostPrecedence t x
-    unfolding rightmostPrecedence rightBy
-    right-consumed e = is ∙ sym (pick-false _ _ (rw (← is, asks, ← scans) e))
+    right-consumed e = given-consumed t s x d is asks e ∙ right-is t s x scans

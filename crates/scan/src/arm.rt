@@ -2,8 +2,8 @@
 use bools::both;
 use precedence::Precedence;
 use tree::forms;
+use tree::shape::first_at;
 use tree::shape::form_at;
-use tree::shape::shape_at;
 use tree::table::Operand;
 use tree::table::cell;
 use tree::table::operand_at;
@@ -53,7 +53,6 @@ fn leading_label(table: &[u16], count: u16, value: Operand) -> bool
 pub fn arm_at(table: &[u16], count: u16, node: u16) -> Arm
     ensures { λ r. ⌜ r ≡ armOf (treeAt (now (table .entry)) count node) ⌝ }
 {
-    let shape = shape_at(table, count, node);
     match form_at(table, count, node) {
         forms::EXPR_ASSIGN => plain(cell(table, node, 1), Arm::Assign),
         forms::EXPR_BINARY => plain(
@@ -65,7 +64,7 @@ pub fn arm_at(table: &[u16], count: u16, node: u16) -> Arm
         forms::EXPR_RANGE => plain(cell(table, node, 1), Arm::Range),
         forms::EXPR_BREAK => Arm::Break(both(
             cell(table, node, 2) == 0,
-            leading_label(table, count, shape.first()),
+            leading_label(table, count, first_at(table, count, node)),
         )),
         forms::EXPR_RETURN | forms::EXPR_YIELD => Arm::Return,
         forms::EXPR_CLOSURE => Arm::Closure,

@@ -11,6 +11,7 @@ use precedence::Precedence;
 ghost use mathlib.Core.Path.{_≡_};
 ghost use Rattle.laws.specs.Choice.{pick};
 ghost use Rattle.scan.specs.declared.answer.Leave.the-variants.{Answer, Ask};
+ghost use Rattle.scan.specs.Linear.{asksAgain};
 ghost use Rattle.scan.specs.Scans.{closedScan, bareScan, leafScan, failOr, leaveFail, leaveBailout, leaveBy, settleBy};
 
 fn choose(test: bool, yes: Scan, no: Scan) -> Scan
@@ -134,6 +135,24 @@ pub fn leave_by(arm: Arm, precedence: Precedence, next: Precedence, scan: Scan) 
         Scan::Fail => leave_fail(arm, next),
         Scan::Bailout => leave_bailout(arm, precedence, next),
         Scan::Consume => Leave::Answer(Scan::Consume),
+    }
+}
+
+// Whether the operand is scanned again for its right precedence: elsewhere its first answer serves.
+pub fn asks_again(arm: Arm, next: Precedence) -> bool
+    ensures { λ r. ⌜ r ≡ asksAgain arm next ⌝ }
+{
+    match arm {
+        Arm::Assign => false,
+        Arm::Binary(_) => false,
+        Arm::Prefix => is(next, Precedence::MIN),
+        Arm::Range => false,
+        Arm::Break(_) => false,
+        Arm::Return => false,
+        Arm::Closure => false,
+        Arm::Let => false,
+        Arm::Group => false,
+        Arm::Closed => false,
     }
 }
 

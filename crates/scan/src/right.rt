@@ -8,6 +8,7 @@ use super::answer::is_bailout;
 use super::answer::is_not_consume;
 use super::arm::arm_at;
 use super::arm::operand_of;
+use super::leave::asks_again;
 use super::leave::leaf_scan;
 use super::leave::leave_by;
 use super::leave::settle_by;
@@ -22,6 +23,7 @@ use precedence::Precedence;
 use tree::table::Operand;
 ghost use mathlib.Core.Path.{_≡_};
 ghost use Rattle.tree.specs.Trees.{treeAt};
+ghost use Rattle.scan.specs.Linear.{rightGiven};
 ghost use Rattle.scan.specs.Scans.{loose, scanned, scanRight, rightmostPrecedence, bailsOut, leftmostPrecedence};
 
 // Whether the operator before would group an operand of this precedence.
@@ -55,7 +57,21 @@ fn is_scanned(fixup: FixupContext) -> bool
     either(ends_operand, !fixup.next_operator_can_begin_expr)
 }
 
-// How the next operator meets the right end of an expression.
+// The precedence of a right operand in its context, given how it is scanned there.
+fn right_given(fixup: FixupContext, table: &[u16], count: u16, node: u16, scan: Scan) -> Precedence
+    ensures { λ r. ⌜ r ≡ rightGiven (treeAt (now (table .entry)) count node) scan fixup ⌝ }
+{
+    let default = fixup.precedence(table, count, node);
+    if both(is_loose(fixup, default), is_scanned(fixup)) {
+        if both(is_not_consume(scan), scan_left(table, count, node, fixup)) {
+            return Precedence::Prefix;
+        }
+    }
+    default
+}
+
+// How the next operator meets the right end of an expression. An operand that was scanned is not
+// scanned again for its right precedence, so that a nest takes no more visits than twice its levels.
 pub fn scan_right(
     table: &[u16],
     count: u16,
@@ -100,7 +116,11 @@ pub fn scan_right(
     match leave {
         Leave::Answer(answer) => answer,
         Leave::Ask => {
-            let right = rightmost_subexpression_precedence(context, table, count, operand);
+            if asks_again(arm, next) {
+                let right = rightmost_subexpression_precedence(context, table, count, operand);
+                return settle_by(arm, precedence, next, right);
+            }
+            let right = right_given(context, table, count, operand, scan);
             settle_by(arm, precedence, next, right)
         }
     }

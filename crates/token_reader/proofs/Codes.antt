@@ -1,6 +1,6 @@
 -- A code above the highest, looked for from a place on. Assumes nothing.
 use mathlib.Core.Path.{_≡_, refl, sym, ap, _∙_}
-use mathlib.Core.Bool.{Bool, true, false, _||_}
+use mathlib.Core.Bool.{true, false}
 use mathlib.Core.List.{List, [], _∷_}
 use Prim.Native.Nat.{ℕ, zero, suc, _+_, _≤_, _<_}
 use native.Mathlib.Omega.{arith}
@@ -8,7 +8,7 @@ use native.Mathlib.Numerals.{add-one}
 use lib.Dec.{T, ltb}
 use lib.ListN.{length, drop, getD}
 use borrow.Author.Tests.{lt-ltb, le-ltb, ltb-false}
-use Rattle.laws.proofs.Choice.{or-false, of-true}
+use Rattle.laws.proofs.Choice.{or-false}
 use Rattle.laws.proofs.Keys.{allBelow}
 use Rattle.token_reader.specs.Reading.{anyAbove}
 

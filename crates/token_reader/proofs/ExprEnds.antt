@@ -2,16 +2,17 @@
 use mathlib.Core.Path.{_≡_, refl, sym, subst, ap, ap₂, _∙_}
 use mathlib.Core.Bool.{Bool, true, false, _&&_}
 use mathlib.Core.List.{List, [], _∷_}
-use Prim.Native.Nat.{ℕ, zero, suc, _+_, _*_, _≤_, _<_}
+use Prim.Native.Nat.{ℕ, zero, suc, _+_, _-_, _≤_, _<_}
 use native.Mathlib.Omega.{arith}
+use native.Mathlib.Decide.{decLe}
 use lib.ListN.{length, getD}
-use Rattle.laws.specs.Choice.{pick, lookup, isOneOf}
+use Rattle.laws.specs.Choice.{isOneOf}
 use Rattle.tree.specs.Forms.{ExprCall, ExprCast, ExprIndex, ExprMethodCall, ExprTry, Link}
 use Rattle.tree.specs.Trees.{Tree, none, node}
-use Rattle.grammar.specs.Tokens.{Token, operator, code, LeftParen, RightParen, RightBracket, Comma}
+use Rattle.grammar.specs.Tokens.{Token, code, LeftParen, RightParen, RightBracket, Comma}
 use Rattle.grammar.specs.Codes.{operatorOf, tokenOf}
-use Rattle.grammar.specs.Levels.{prefixes, kind, level, after}
-use Rattle.grammar.specs.Types.{one, list, items, Ty}
+use Rattle.grammar.specs.Levels.{kind, level, after}
+use Rattle.grammar.specs.Types.{one, list, items}
 use Rattle.grammar.specs.Expressions.{Atom, Prefix, Member, byName, byNumber, awaited, Expr, atom, paren, prefix, binary, cast, member, try, index, call, method, noArguments, arguments, lastArgument, moreArguments, kindOf, endsInTypeName, endsInDotName}
 use Rattle.grammar.specs.Grammar.{NONE, bare}
 use Rattle.grammar.specs.Parser.{Out, fail, ok, then, tail, isFirst, Start, noStart, anAtom, aPrefix, aGroup, start, startBy, AfterDot, noMember, aMember, afterDot, afterDotBy, isByName, Next, stops, operates, castsTo, dots, calls, indexes, tries, nextOf, next, goesOn, typeBy, exprBy, onBy, argumentsBy, someArgumentsBy}
@@ -21,12 +22,18 @@ use Rattle.token_reader.specs.declared.piece.Piece.{Piece}
 use Rattle.token_reader.specs.declared.piece.Parsed.{Parsed}
 use Rattle.token_reader.specs.Reading.{anyAbove}
 use Rattle.token_reader.specs.Tables.{levelOf, afterOf, goesOnBy, operatorForm, operatorDetail}
-use Rattle.token_reader.specs.Pieces.{Placed, Stored, Ready, Grew, Tells, from, Enough, IsType, TypeAt, IsExpr, IsArguments, Postfix, ExprAt, ArgumentsAt, AtomAt, prefixBy, PrefixedAt, closeBy, groupBy, GroupAt, operandBy, OperandAt, OnAt, binaryBy, castBy, callBy, indexBy, memberBy, dotBy, stepBy, StepAt, BinaryAt, CastAt, IndexAt, TryAt, MemberAt, DotAt, NamedAt, Called, CallAt}
+use Rattle.token_reader.specs.Pieces.{Placed, Stored, Ready, Grew, Tells, from, Enough, IsType, TypeAt, IsExpr, IsArguments, Postfix, ExprAt, ArgumentsAt, AtomAt, PrefixedAt, closeBy, GroupAt, operandBy, OperandAt, callBy, memberBy, dotBy, stepBy, StepAt, BinaryAt, CastAt, IndexAt, TryAt, MemberAt, DotAt, NamedAt, Called, CallAt}
+use Rattle.token_reader.proofs.Cells.{past-list}
 use Rattle.token_reader.proofs.First.{there, code-most, tail-from, tail-from-next, first-there, first-other, start-at, after-dot-at, next-at}
 use Rattle.token_reader.proofs.Nodes.{carried, lower, placed, grew-none, grew-wider, grew-on, grew-node}
-use Rattle.token_reader.proofs.Tables.{operator-token, operator-level, operator-after, operator-labelled, goes-on-at, others-stop}
-use Rattle.token_reader.proofs.Tells.{tells-none, tells-some, tells-then}
+use Rattle.token_reader.proofs.Tables.{operator-token, operator-level, operator-after, operator-labelled, goes-on-at, past-goes, others-stop}
+use Rattle.token_reader.proofs.Tells.{tells-none, tells-some, tells-then, ready-grew}
 use Rattle.token_reader.proofs.Steps.{expr-step, on-by}
+
+-- what is answered where an expression goes on; `left` is what was read of it
+pub record OnAt (codes own now : List ℕ) (left : Parsed) (least : ℕ) (r : Parsed) : Type 0 where
+  pub grew : r .at ≤ length codes → Grew own now (left .at) (left .free) (r .at) (r .free)
+  pub tells : (e : Expr one) → IsExpr own left e → (f : ℕ) → Enough codes (left .at) 1 f → Tells (IsExpr now r) codes (r .at) (onBy f NONE least e (from codes (left .at)))
 
 -- ---- what binds most strongly
 
@@ -273,6 +280,80 @@ module _ {codes own : List ℕ} (left : Parsed) (ready : Ready codes own (left .
         tells = λ a y g q.
             followed (Tells (IsExpr now r) codes (r .at)) g a stops (others-stop (getD codes (left .at) 46) (code-most codes (left .at) (ready .known)) h e) (omega arith);
       }
+
+-- ---- one form after the other
+
+-- no token goes on past the end
+pub goes-inside : (codes : List ℕ) (at least strength : ℕ) (t d : Bool) → 1 ≤ least → goesOnBy least strength t d (getD codes at 46) ≡ true → at < length codes
+goes-inside codes at least strength t d h e = go (decLe (length codes) at)
+  where
+    go : Dec (length codes ≤ at) → at < length codes
+    go (no q) = omega arith
+    go (yes q) = absurd (past-goes least strength t d h (subst (λ n. goesOnBy least strength t d n ≡ true) (past-list codes at 46 q) e))
+
+-- what was read from `first` up to `left`; where `first` is not there, nothing
+pub record Under (codes own now : List ℕ) (least : ℕ) (first left : Parsed) : Type 0 where
+  pub none : length codes < first .at → (left ≡ first) × (now ≡ own)
+  pub grew : first .at ≤ length codes → left .at ≤ length codes → Grew own now (first .at) (first .free) (left .at) (left .free)
+  pub goal : first .at ≤ length codes → left .at ≤ length codes → (end : List ℕ) (r : Parsed) → OnAt codes now end left least r → OnAt codes own end first least r
+  pub lost : first .at ≤ length codes → length codes < left .at → OnAt codes own now first least left
+
+pub under-start : (codes own : List ℕ) (least : ℕ) (first : Parsed) → Under codes own own least first first
+under-start codes own least first =
+    record {
+      none = λ h. (refl, refl);
+      grew = λ h k. grew-none own (first .at) (first .free) (first .at) (omega arith);
+      goal = λ h k end r o. o;
+      lost = λ h k. absurd (omega arith);
+    }
+
+module _ {codes own mid now : List ℕ} {at free least : ℕ} (ready : Ready codes own at free) (first left : Parsed) (i : OperandAt codes own mid at free first) (u : Under codes mid now least first left) where
+  -- what goes on was there
+  pub under-there : left .at ≤ length codes → first .at ≤ length codes
+  under-there h = go (decLe (first .at) (length codes))
+    where
+      go : Dec (first .at ≤ length codes) → first .at ≤ length codes
+      go (yes q) = q
+      go (no q) = absurd (let e = ap (λ p. p .at) (u .none (omega arith) .0) in omega (arith, e))
+
+  pub under-ready : left .at ≤ length codes → Ready codes now (left .at) (left .free)
+  under-ready h =
+      let k = under-there h in
+      ready-grew (left .at) (omega arith) h (ready-grew (first .at) (omega arith) k ready (i .grew k)) (u .grew k h)
+
+  pub under-past : left .at ≤ length codes → at < left .at
+  under-past h = let k = under-there h in omega (arith, i .past k, u .grew k h .upto)
+
+  pub under-step : {next : List ℕ} (more : Parsed) → 1 ≤ least → goesOnBy least (left .level) (left .named) (left .dotted) (getD codes (left .at) 46) ≡ true → left .at ≤ length codes →
+      StepAt codes now next left more → Under codes mid next least first more
+  under-step {next} more l p h s =
+      let k = under-there h in
+      let ready₂ = under-ready h in
+      record {
+        none = λ q. absurd (omega arith);
+        grew = λ a b. grew-on (first .at) (omega arith) (u .grew k h) (s .grew b);
+        goal = λ a b end r o. u .goal k h end r (on-more left ready₂ more l p b s o);
+        lost = λ a b. u .goal k h next more (on-none left ready₂ l p b s);
+      }
+
+  pub under-end : goesOnBy least (left .level) (left .named) (left .dotted) (getD codes (left .at) 46) ≡ false → ExprAt codes own now at free least left
+  under-end n = go (decLe (first .at) (length codes)) (decLe (left .at) (length codes))
+    where
+      go : Dec (first .at ≤ length codes) → Dec (left .at ≤ length codes) → ExprAt codes own now at free least left
+      go (yes q) (yes h) = expr-on ready first q i (u .goal q h now left (on-stops left (under-ready h) n))
+      go (yes q) (no h) = expr-on ready first q i (u .lost q (omega arith))
+      go (no q) h =
+          let e = u .none (omega arith) in
+          subst (λ z. ExprAt codes own z at free least left) (sym (e .1))
+          (subst (λ z. ExprAt codes own mid at free least z) (sym (e .0)) (expr-none ready (omega arith) i))
+
+-- with each form there are fewer tokens left
+pub step-less : {codes own now : List ℕ} (left more : Parsed) → left .at < length codes → StepAt codes own now left more → length codes + 1 - more .at < length codes + 1 - left .at
+step-less {codes} left more h i = go (decLe (more .at) (length codes))
+  where
+    go : Dec (more .at ≤ length codes) → length codes + 1 - more .at < length codes + 1 - left .at
+    go (yes q) = omega (arith, i .past q)
+    go (no q) = omega arith
 
 -- ---- the forms
 

@@ -1,18 +1,18 @@
 -- What the parser sees of the tokens from a place on, by the code that stands there. Assumes nothing.
-use mathlib.Core.Path.{_≡_, refl, sym, subst, ap, _∙_}
-use mathlib.Core.Bool.{Bool, true, false, _||_}
+use mathlib.Core.Path.{_≡_, refl, sym, ap, _∙_}
+use mathlib.Core.Bool.{true, false}
 use mathlib.Core.List.{List, [], _∷_}
-use Prim.Native.Nat.{ℕ, zero, suc, _+_, _≤_, _<_}
+use Prim.Native.Nat.{ℕ, zero, suc, _+_, _<_}
 use native.Mathlib.Omega.{arith}
 use native.Mathlib.Numerals.{add-one}
 use lib.Dec.{eqb, ltb}
-use lib.ListN.{length, drop, getD}
+use lib.ListN.{length, getD}
 use borrow.Author.Tests.{ltb-false, eq-eqb, ne-eqb}
 use Rattle.laws.specs.Choice.{pick, lookup}
 use Rattle.laws.proofs.Choice.{or-false}
 use Rattle.grammar.specs.Tokens.{Token, code}
-use Rattle.grammar.specs.Codes.{tokenOf, tokensOf}
-use Rattle.grammar.specs.Parser.{tail, isFirst, firstBy, noStart, startBy, startOf, start, noType, typeStartBy, typeStartOf, typeStart, noMember, afterDotBy, afterDotOf, afterDot, stops, nextOf, next}
+use Rattle.grammar.specs.Codes.{tokenOf}
+use Rattle.grammar.specs.Parser.{tail, isFirst, firstBy, noStart, startBy, startOf, start, noType, typeStartBy, typeStartOf, typeStart, noMember, afterDotBy, afterDotOf, afterDot, nextOf, next}
 use Rattle.grammar.proofs.Tokens.{code-token, code-below}
 use Rattle.token_reader.specs.Reading.{anyAbove}
 use Rattle.token_reader.specs.Pieces.{from}

@@ -1,16 +1,15 @@
 -- The reader's own table: a node is taken, those above it stay, and a tree that is placed there is what the table stands for. Assumes nothing.
-use mathlib.Core.Path.{_≡_, refl, sym, subst, ap, ap₂, _∙_}
+use mathlib.Core.Path.{_≡_, refl, sym, subst, _∙_}
 use mathlib.Core.List.{List}
 use Prim.Native.Nat.{ℕ, zero, suc, _+_, _*_, _-_, _≤_, _<_}
 use native.Mathlib.Omega.{arith}
-use native.Mathlib.Numerals.{add-one}
 use lib.ListN.{length, getD, set, length-set}
 use lib.Seq.{getD-set-same, getD-set-other}
 use Rattle.tree.specs.Table.{cellAt, firstAt, secondAt}
-use Rattle.tree.specs.Trees.{Label, Tree, none, node, labelAt, operandOf, operandAt, treeAt}
+use Rattle.tree.specs.Trees.{Label, Tree, none, node, labelAt, operandOf, treeAt}
 use Rattle.tree.proofs.Unfold.{operand-in, operand-zero, tree-zero, unfolds}
 use Rattle.plain.specs.Trees.{label}
-use Rattle.token_reader.specs.Pieces.{Kept, Placed, Stored, Ready, Grew}
+use Rattle.token_reader.specs.Pieces.{Kept, Placed, Stored, Grew}
 
 -- ---- a node is stored
 

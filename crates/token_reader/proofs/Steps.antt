@@ -1,17 +1,16 @@
 -- The parser of expressions as the reader goes: what one begins with, and then one form after the other. Assumes nothing.
-use mathlib.Core.Path.{_≡_, refl, sym, subst, ap, _∙_}
+use mathlib.Core.Path.{_≡_, refl, subst, _∙_}
 use mathlib.Core.Bool.{Bool, true, false, _&&_}
 use mathlib.Core.List.{List}
-use Prim.Native.Nat.{ℕ, zero, suc, _+_, _*_, _≤_, _<_}
-use native.Mathlib.Omega.{arith}
+use Prim.Native.Nat.{ℕ, suc, _≤_}
 use Rattle.grammar.specs.Tokens.{Token, LeftParen, RightParen, RightBracket}
 use Rattle.grammar.specs.Levels.{prefixes, kind, after}
-use Rattle.grammar.specs.Types.{one, list}
-use Rattle.grammar.specs.Expressions.{Expr, Member, atom, paren, prefix, binary, cast, member, try, index, call, method}
+use Rattle.grammar.specs.Types.{one}
+use Rattle.grammar.specs.Expressions.{Expr, Member, atom, paren, prefix, binary, cast, member, index, call, method}
 use Rattle.grammar.specs.Grammar.{NONE}
 use Rattle.grammar.specs.Parser.{Out, fail, ok, then, tail, isFirst, Start, noStart, anAtom, aPrefix, aGroup, start, AfterDot, noMember, aMember, afterDot, isByName, Next, stops, operates, castsTo, dots, calls, indexes, tries, next, goesOn, typeBy, exprBy, onBy, argumentsBy}
 use Rattle.grammar.proofs.Complete.{dotStep, onStep, on-step}
-use Rattle.token_reader.specs.Pieces.{prefixBy, closeBy, groupBy, operandBy, binaryBy, castBy, callBy, indexBy, memberBy, dotBy, stepBy}
+use Rattle.token_reader.specs.Pieces.{closeBy, operandBy, memberBy, dotBy, stepBy}
 use Rattle.token_reader.proofs.Tables.{stops-not}
 
 then-then : {A B C : Type 0} (o : Out A) (k : A → List Token → Out B) (j : B → List Token → Out C) → then o (λ a r. then (k a r) j) ≡ then (then o k) j

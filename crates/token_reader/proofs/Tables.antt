@@ -1,33 +1,27 @@
 -- The reader's tables give what the parser asks of the token that a code stands for. Assumes nothing.
 use mathlib.Core.Path.{_≡_, refl, sym, ap, ap₂, _∙_}
 use mathlib.Core.Bool.{Bool, true, false, not, _&&_, _||_}
-use mathlib.Core.List.{List, [], _∷_}
-use Prim.Native.Nat.{ℕ, _+_, _≤_, _<_}
+use mathlib.Core.List.{[], _∷_}
+use Prim.Native.Nat.{ℕ, _≤_, _<_}
 use native.Mathlib.Omega.{arith}
 use lib.Dec.{T, eqb, leb, ltb, eqb→eq, leb→le}
-use lib.ListN.{length, getD}
-use borrow.Author.Tests.{le-leb, ne-eqb, lt-ltb, le-ltb}
+use borrow.Author.Tests.{le-leb, ne-eqb, le-ltb}
 use Rattle.laws.specs.Choice.{pick, lookup, isOneOf}
-use Rattle.laws.specs.Each.{all}
+use Rattle.laws.proofs.Choice.{of-true, and-true, alike, alike-same}
 use Rattle.laws.proofs.Each.{all-at}
-use Rattle.tree.specs.Trees.{Label}
 use Rattle.tree.specs.Forms.{ExprAssign, ExprBinary}
-use Rattle.grammar.specs.Tokens.{Operator, number, Token, operator, code}
+use Rattle.grammar.specs.Tokens.{number, operator}
 use Rattle.grammar.specs.Codes.{operatorOf, tokenOf}
 use Rattle.grammar.specs.Levels.{casts, postfixes, kind, level, before, after}
 use Rattle.grammar.specs.Types.{one}
 use Rattle.grammar.specs.Expressions.{Expr, kindOf, endsInTypeName, endsInDotName}
 use Rattle.grammar.specs.Grammar.{opensArguments}
 use Rattle.grammar.specs.Parser.{Next, stops, operates, castsTo, dots, calls, indexes, tries, nextOf, levelAt, follows, goesOn}
-use Rattle.grammar.proofs.Tokens.{code-same, code-token}
+use Rattle.grammar.proofs.Tokens.{number-operator, code-same, code-token}
 use Rattle.plain.specs.Trees.{label, operatorLabel}
 use Rattle.token_reader.specs.Tables.{levelRows, pastRows, levelPast, levelOf, beforeOf, afterOf, barred, goesOnBy, operatorForm, operatorDetail}
 
 -- ---- operators
-
-number-operator : (n : ℕ) → n < 29 → number (operatorOf n) ≡ n
-unfolding operatorOf
-number-operator n h = eqb→eq (number (operatorOf n)) n (all-at (λ m. eqb (number (operatorOf m)) m) 29 tt n h)
 
 pub operator-token : (n : ℕ) → n < 29 → tokenOf n ≡ operator (operatorOf n)
 operator-token n h = code-same (tokenOf n) (operator (operatorOf n)) (code-token n (omega arith) ∙ sym (number-operator n h))
@@ -60,16 +54,6 @@ operator-labelled n h = go (number (operatorOf n)) (number-operator n h)
     go m e = by (eqb n 28) ∙ ap (λ k. pick (eqb k 28) (label ExprAssign 0) (label ExprBinary k)) (sym e)
 
 -- ---- what may follow
-
-abbrev alike : Bool → Bool → Bool
-alike true b = b
-alike false b = not b
-
-alike-same : (a b : Bool) → T (alike a b) → a ≡ b
-alike-same true true t = refl
-alike-same true false t = absurd t
-alike-same false true t = absurd t
-alike-same false false t = refl
 
 -- the level that must stand before, and whether a special rule forbids it
 abbrev beforeAt : Next → ℕ
@@ -133,6 +117,11 @@ stops-not least e h q = go (leb least 0) refl q
     go : (b : Bool) → leb least 0 ≡ b → (b && true) ≡ true → ⊥
     go true k r = absurd (omega (arith, leb→le least 0 (rw k tt)))
     go false k r = let z : _≡_ {A = ℕ} 0 1 = cc in omega arith
+
+-- nor with the code that stands for the end
+pub past-goes : (least strength : ℕ) (t d : Bool) → 1 ≤ least → goesOnBy least strength t d 46 ≡ true → ⊥
+unfolding goesOnBy levelOf levelPast levelRows pastRows lookup pick
+past-goes least strength t d h q = absurd (omega (arith, leb→le least 0 (of-true (and-true (leb least 0) _ q .0))))
 
 -- a token that is no operator and makes no other form
 abbrev isStop : Next → Bool

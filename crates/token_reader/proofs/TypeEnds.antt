@@ -2,19 +2,17 @@
 use mathlib.Core.Path.{_≡_, refl, sym, subst, ap, _∙_}
 use mathlib.Core.Bool.{Bool, true, false}
 use mathlib.Core.List.{List}
-use Prim.Native.Nat.{ℕ, zero, suc, _+_, _*_, _≤_, _<_}
+use Prim.Native.Nat.{ℕ, zero, suc, _+_, _≤_, _<_}
 use native.Mathlib.Omega.{arith}
 use lib.ListN.{length, getD}
-use Rattle.laws.specs.Choice.{pick, lookup}
 use Rattle.tree.specs.Forms.{TypePath, Link}
-use Rattle.tree.specs.Trees.{Tree, none}
-use Rattle.grammar.specs.Tokens.{Token, operator, code, Lt, Gt, Comma}
+use Rattle.tree.specs.Trees.{none}
+use Rattle.grammar.specs.Tokens.{Token, operator, Lt, Gt, Comma}
 use Rattle.grammar.specs.Types.{one, list, items, TypePrefix, TypeSign, Ty, named, applied, pointing, sign, noTypes, types, lastType, moreTypes}
 use Rattle.grammar.specs.Parser.{Out, fail, ok, then, tail, isFirst, TypeStart, noType, aName, aTypePrefix, aSign, typeStart, typeStartBy, typeBy, typesBy, someTypesBy}
 use Rattle.plain.specs.Trees.{label, treeOfType, typePrefixLabel, typeSignLabel}
 use Rattle.token_reader.specs.declared.piece.Piece.{Piece}
-use Rattle.token_reader.specs.Reading.{anyAbove}
-use Rattle.token_reader.specs.Pieces.{Placed, Stored, Ready, Grew, Tells, from, Enough, IsType, IsTypes, TypeAt, TypesAt, SignAt, PointingAt, pathBy, PathAt}
+use Rattle.token_reader.specs.Pieces.{Placed, Stored, Ready, Tells, from, Enough, IsType, IsTypes, TypeAt, TypesAt, SignAt, PointingAt, pathBy, PathAt}
 use Rattle.token_reader.proofs.First.{there, tail-from, tail-from-next, first-there, first-other, type-start-at}
 use Rattle.token_reader.proofs.Nodes.{carried, lower, placed, grew-none, grew-on, grew-node}
 use Rattle.token_reader.proofs.Tells.{tells-none, tells-some, tells-then}

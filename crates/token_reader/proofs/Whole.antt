@@ -1,18 +1,16 @@
 -- What is read of the whole list is its reading, and a list of which something else is read has none. Assumes nothing.
 use mathlib.Core.Path.{_≡_, refl, sym, subst, ap, _∙_}
-use mathlib.Core.Bool.{Bool, true, false, _||_}
+use mathlib.Core.Bool.{Bool, true, false}
 use mathlib.Core.List.{List, [], _∷_}
-use Prim.Native.Nat.{ℕ, zero, suc, _+_, _*_, _≤_, _<_}
+use Prim.Native.Nat.{ℕ, suc, _+_, _*_, _≤_, _<_}
 use native.Mathlib.Omega.{arith}
-use lib.Dec.{ltb}
 use lib.ListN.{length, drop, length-drop}
 use borrow.Author.Tests.{ltb-false, lt-ltb, le-ltb}
 use Rattle.laws.specs.Choice.{pick}
-use Rattle.laws.specs.Lists.{over}
 use Rattle.laws.proofs.Choice.{true-not-false, or-false, or-here, or-next}
 use Rattle.tree.specs.Trees.{Tree, treeAt}
 use Rattle.grammar.specs.Tokens.{Token}
-use Rattle.grammar.specs.Codes.{tokensOf, codesOf}
+use Rattle.grammar.specs.Codes.{tokensOf}
 use Rattle.grammar.specs.Types.{one}
 use Rattle.grammar.specs.Expressions.{Expr}
 use Rattle.grammar.specs.Grammar.{NONE, bare, Reading}
@@ -21,9 +19,9 @@ use Rattle.grammar.proofs.Tokens.{tokens-codes, codes-tokens}
 use Rattle.grammar.proofs.Theorems.{one-reading, found, finds}
 use Rattle.plain.specs.Trees.{treeOf}
 use Rattle.plain.specs.Reads.{Reads}
-use Rattle.numbering.specs.Numbered.{size, numbered, tooLarge, tooShort, renumbered, renumberedAfter}
+use Rattle.numbering.specs.Numbered.{size, tooLarge, tooShort, renumbered, renumberedAfter}
 use Rattle.token_reader.specs.declared.Reply.{Reply}
-use Rattle.token_reader.specs.declared.Reply.the-variants.{Refused, Nodes}
+use Rattle.token_reader.specs.declared.Reply.the-variants.{Refused}
 use Rattle.token_reader.specs.declared.piece.Parsed.{Parsed}
 use Rattle.token_reader.specs.Reading.{refusal12, anyAbove, refusal14, countOrLarge, stored, Answers}
 use Rattle.token_reader.specs.Pieces.{Tells, IsExpr, ExprAt, replyOf}

@@ -1,19 +1,18 @@
 -- What the reader's private functions answer, by the parser. Nothing here is to be believed: proofs/Whole says what it comes to.
 use mathlib.Core.Path.{_≡_}
 use mathlib.Core.Bool.{Bool, true, false, _&&_}
-use mathlib.Core.List.{List, [], _∷_}
-use Prim.Native.Nat.{ℕ, suc, _+_, _*_, _≤_, _<_}
+use mathlib.Core.List.{List}
+use Prim.Native.Nat.{ℕ, _+_, _*_, _≤_, _<_}
 use lib.ListN.{length, drop, getD}
-use Rattle.tree.specs.Forms.{Link}
 use Rattle.tree.specs.Table.{firstAt, secondAt}
-use Rattle.tree.specs.Trees.{Label, Tree, none, node, labelAt}
+use Rattle.tree.specs.Trees.{Tree, none, node, labelAt}
 use Rattle.grammar.specs.Tokens.{Token, Operator, operator, Lt, LeftParen, RightBracket, RightParen}
 use Rattle.grammar.specs.Codes.{operatorOf, tokensOf}
 use Rattle.grammar.specs.Levels.{kind, level, prefixes, after}
-use Rattle.grammar.specs.Types.{Sort, one, list, items, TypePrefix, TypeSign, Ty, named, applied, pointing, sign, typeEndsInName}
+use Rattle.grammar.specs.Types.{one, list, items, TypePrefix, TypeSign, Ty, named, applied, pointing, sign, typeEndsInName}
 use Rattle.grammar.specs.Expressions.{Atom, Prefix, Member, byName, Expr, atom, paren, prefix, binary, cast, member, try, index, call, method, kindOf, endsInTypeName, endsInDotName}
 use Rattle.grammar.specs.Grammar.{NONE, bare}
-use Rattle.grammar.specs.Parser.{Out, fail, ok, then, tail, isFirst, Start, noStart, anAtom, aPrefix, aGroup, start, AfterDot, noMember, aMember, afterDot, isByName, Next, stops, operates, castsTo, dots, calls, indexes, tries, next, typeBy, typesBy, someTypesBy, exprBy, onBy, argumentsBy, someArgumentsBy}
+use Rattle.grammar.specs.Parser.{Out, fail, ok, then, tail, isFirst, Start, noStart, anAtom, aPrefix, aGroup, start, AfterDot, noMember, aMember, afterDot, isByName, Next, stops, operates, castsTo, dots, calls, indexes, tries, next, typeBy, typesBy, someTypesBy, exprBy, argumentsBy, someArgumentsBy}
 use Rattle.plain.specs.Trees.{label, treeOf, treeOfType, atomLabel, prefixLabel, memberLabel, typePrefixLabel, typeSignLabel}
 use Rattle.token_reader.specs.Reading.{anyAbove}
 use Rattle.numbering.specs.declared.Renumbered.{Renumbered}
@@ -177,10 +176,6 @@ pub record OperandAt (codes own now : List ℕ) (at free : ℕ) (r : Parsed) : T
   pub tells : (g : ℕ) → Enough codes (at + 1) 0 g → Tells (IsExpr now r) codes (r .at) (operandBy g (tail (from codes at)) (start (from codes at)))
 
 -- ---- what an expression goes on with; `left` is what was read of it
-
-pub record OnAt (codes own now : List ℕ) (left : Parsed) (least : ℕ) (r : Parsed) : Type 0 where
-  pub grew : r .at ≤ length codes → Grew own now (left .at) (left .free) (r .at) (r .free)
-  pub tells : (e : Expr one) → IsExpr own left e → (f : ℕ) → Enough codes (left .at) 1 f → Tells (IsExpr now r) codes (r .at) (onBy f NONE least e (from codes (left .at)))
 
 abbrev pub binaryBy : ℕ → Operator → Expr one → List Token → Out (Expr one)
 binaryBy g o e ts = then (exprBy g NONE (after (kind o)) ts) (λ b r. ok (binary o e b) r)

@@ -12,11 +12,9 @@ use crate::token::operator_detail;
 use crate::token::operator_form;
 use crate::types::ty;
 use tree::forms;
-ghost use mathlib.Core.Path.{_≡_};
-ghost use mathlib.Core.Bool.{false};
 ghost use Prim.Native.Nat.{_+_, _≤_, _<_};
 ghost use lib.ListN.{length};
-ghost use Rattle.token_reader.specs.Pieces.{Ready, Postfix, AtomAt, ExprAt, OperandAt, PrefixedAt, GroupAt, OnAt, StepAt, BinaryAt, CastAt, DotAt, NamedAt, MemberAt, TryAt, IndexAt, CallAt, ArgumentsAt};
+ghost use Rattle.token_reader.specs.Pieces.{Ready, Postfix, AtomAt, ExprAt, OperandAt, PrefixedAt, GroupAt, StepAt, BinaryAt, CastAt, DotAt, NamedAt, MemberAt, TryAt, IndexAt, CallAt, ArgumentsAt};
 
 // What binds as strongly as the postfix forms, and ends in no name that matters.
 fn strongest(at: usize, free: u16) -> Parsed
@@ -101,11 +99,12 @@ pub fn expr(tokens: &[u16], own: &mut [u16], at: usize, free: u16, min: u16) -> 
     requires { ⌜ Ready (now tokens) (now own) at free × (1 ≤ min) ⌝ }
     ensures { λ r. ⌜ ExprAt (now (tokens .entry)) (now (own .entry)) (now (own .exit)) at free min r ⌝ }
 {
-    let left = operand(tokens, own, at, free);
-    if left.at > tokens.len() {
-        return left;
+    let mut left = operand(tokens, own, at, free);
+    // Where nothing was read, `left` ends past the end, and no token goes on there.
+    while goes_on(min, left, code_at(tokens, left.at)) {
+        left = step(tokens, own, left);
     }
-    on(tokens, own, left, min)
+    left
 }
 
 // What an expression begins with.
@@ -155,21 +154,6 @@ fn group(tokens: &[u16], own: &mut [u16], at: usize, free: u16) -> Parsed
         return no_expr(tokens);
     }
     strongest(inner.at + 1, inner.free)
-}
-
-// An expression of level `min` or more that begins with `left`, which was read.
-fn on(tokens: &[u16], own: &mut [u16], left: Parsed, min: u16) -> Parsed
-    requires { ⌜ Ready (now tokens) (now own) (left .at) (left .free) × (1 ≤ min) ⌝ }
-    ensures { λ r. ⌜ OnAt (now (tokens .entry)) (now (own .entry)) (now (own .exit)) left min r ⌝ }
-{
-    if !goes_on(min, left, code_at(tokens, left.at)) {
-        return left;
-    }
-    let more = step(tokens, own, left);
-    if more.at > tokens.len() {
-        return more;
-    }
-    on(tokens, own, more, min)
 }
 
 // `left` with the one form that follows it.

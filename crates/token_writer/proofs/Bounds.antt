@@ -1,7 +1,7 @@
 -- A node writes at most six tokens, its pair included: tokens written never pass 24,576. Assumes nothing.
-use mathlib.Core.Path.{_≡_, refl, sym, ap, _∙_}
+use mathlib.Core.Path.{_≡_, refl}
 use mathlib.Core.Bool.{Bool, true, false}
-use mathlib.Core.List.{List, [], _∷_, _++_}
+use mathlib.Core.List.{List, [], _∷_}
 use Prim.Native.Nat.{ℕ, _+_, _*_, _≤_}
 use native.Mathlib.Omega.{arith}
 use lib.Dec.{eqb}
@@ -9,14 +9,14 @@ use lib.ListN.{length, length-append}
 use borrow.Author.Tests.{eqb-true}
 use Rattle.laws.specs.Choice.{pick, Row, row, lookup, isOneOf}
 use Rattle.tree.specs.Trees.{Label, Tree, none, node, operandAt, treeAt}
-use Rattle.tree.specs.Refusals.{refuse, firstOf, refusal, Accepted}
+use Rattle.tree.specs.Refusals.{refusal, Accepted}
 use Rattle.tree.specs.Walks.{isThere}
 use Rattle.tree.proofs.Accepted.{count-bounds}
 use Rattle.grammar.specs.Tokens.{Token, LeftParen, RightParen, Comma}
 use Rattle.numbering.specs.Numbered.{size}
 use Rattle.numbering.proofs.Sizes.{size-accepted}
 use Rattle.plain.specs.Written.{Signs, signs, comma, signRows, signsOf, tokensAt, hasPair}
-use Rattle.token_writer.specs.Writes.{rowsFor, written, refusal12, refusal13, writeRefusal}
+use Rattle.token_writer.specs.Writes.{rowsFor, written, writeRefusal}
 use Rattle.token_writer.proofs.Tokens.{oneOf, in-row}
 
 -- ---- what holds of all that a table gives
@@ -73,11 +73,11 @@ module _ (cells : List ℕ) (count : ℕ) (pair : ℕ → Bool) where
 
 pub accepted-first : (context count : ℕ) (cells : List ℕ) (lent : ℕ) → writeRefusal context count cells lent ≡ 0 → Accepted context count cells
 unfolding writeRefusal pick
-accepted-first context count cells lent e = go (eqb (refusal context count cells) 0) refl e
+accepted-first context count cells lent e = go (eqb (refusal context count cells) 0) refl _ e
   where
-    go : (b : Bool) → eqb (refusal context count cells) 0 ≡ b → pick b (firstOf (refuse 12 (refusal12 count lent) ∷ refuse 13 (refusal13 context count cells) ∷ [])) (refusal context count cells) ≡ 0 → Accepted context count cells
-    go true p q = eqb-true _ 0 p
-    go false p q = q
+    go : (b : Bool) → eqb (refusal context count cells) 0 ≡ b → (n : ℕ) → pick b n (refusal context count cells) ≡ 0 → Accepted context count cells
+    go true p n q = eqb-true _ 0 p
+    go false p n q = q
 
 written-most : (count : ℕ) (cells : List ℕ) → size (treeAt cells count 1) ≤ count → length (written count cells) ≤ 6 * count
 unfolding written

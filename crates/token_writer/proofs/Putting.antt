@@ -1,16 +1,12 @@
 -- Laws of codes put into a buffer. Assumes nothing.
-use mathlib.Core.Path.{_≡_, refl, sym, ap, _∙_}
+use mathlib.Core.Path.{_≡_, refl, sym, _∙_}
 use mathlib.Core.List.{List, [], _∷_, _++_}
-use Prim.Native.Nat.{ℕ, suc, _+_, _≤_}
+use Prim.Native.Nat.{ℕ, _+_, _≤_}
 use native.Mathlib.Omega.{arith}
-use lib.ListN.{length, take, drop, set, length-append, length-set}
-use lib.Seq.{sets, length-sets, sets-eq}
+use lib.ListN.{length, set, length-append, length-set}
 use Rattle.laws.specs.Lists.{over}
+use Rattle.laws.proofs.Lists.{sets-append, sets-over}
 use Rattle.token_writer.specs.Puts.{Put}
-
-sets-append : (l : List ℕ) (i : ℕ) (a b : List ℕ) → sets l i (a ++ b) ≡ sets (sets l i a) (i + length a) b
-sets-append l i [] b = let e : i + 0 ≡ i = omega arith in rw e
-sets-append l i (n ∷ a) b = let e : i + suc (length a) ≡ suc i + length a = omega arith in rw e (sets-append (set l i n) (suc i) a b)
 
 pub put-none : (before : List ℕ) (at : ℕ) → Put before at [] before at
 put-none before at = record { cells = refl; ends = omega arith; room = refl }
@@ -22,15 +18,10 @@ put-one before at a = record { cells = refl; ends = refl; room = length-set befo
 pub put-more : {before after last : List ℕ} {at mid next : ℕ} {first second : List ℕ} → Put before at first after mid → Put after mid second last next → Put before at (first ++ second) last next
 put-more {before} {after} {last} {at} {mid} {next} {first} {second} p q =
     record {
-      cells = q .cells ∙ rw (p .cells, p .ends) (sym (sets-append before at first second));
+      cells = q .cells ∙ rw (p .cells) (sym (sets-append first second before at mid (p .ends)));
       ends = rw length-append (omega (arith, p .ends, q .ends));
       room = q .room ∙ p .room;
     }
-
--- from the first cell on
-pub put-over : (before codes after : List ℕ) (next : ℕ) → length codes ≤ length before → Put before 0 codes after next → after ≡ over codes before
-unfolding over
-put-over before codes after next h p = let e : 0 + length codes ≡ length codes = omega arith in p .cells ∙ rw e at (sets-eq codes before 0 (omega arith))
 
 pub put-two : (before : List ℕ) (at a b : ℕ) → Put before at (a ∷ b ∷ []) (set (set before at a) (at + 1) b) (at + 2)
 put-two before at a b =
@@ -41,3 +32,7 @@ pub put-three : (before : List ℕ) (at a b c : ℕ) → Put before at (a ∷ b 
 put-three before at a b c =
     let e : at + 2 + 1 ≡ at + 3 = omega arith in
     rw e at (put-more (put-two before at a b) (put-one (set (set before at a) (at + 1) b) (at + 2) c))
+
+-- from the first cell on
+pub put-over : (before codes after : List ℕ) (next : ℕ) → length codes ≤ length before → Put before 0 codes after next → after ≡ over codes before
+put-over before codes after next h p = p .cells ∙ sets-over codes before h

@@ -1,29 +1,27 @@
 -- A node's signs as codes: what each arm of the `match` on its form answers. Assumes nothing.
-use mathlib.Core.Path.{_≡_, refl, sym, ap, _∙_}
+use mathlib.Core.Path.{_≡_, refl, sym, ap}
 use mathlib.Core.Bool.{Bool, true, false, not}
 use mathlib.Core.List.{List, [], _∷_}
 use Prim.Native.Nat.{ℕ, zero, suc, _+_, _*_, _-_, _<_, _≤_}
 use native.Mathlib.Omega.{arith}
 use native.Mathlib.Decide.{ℕ-discrete}
 use lib.ListN.{getD, List·getD-eq-default}
-use lib.Dec.{T, eqb, ltb, eqb→eq}
+use lib.Dec.{T, eqb}
 use types.Run.{OneOf}
-use borrow.Author.Tests.{eq-eqb, ne-eqb}
+use borrow.Author.Tests.{ne-eqb}
 use Rattle.laws.specs.Choice.{pick, lookup}
-use Rattle.laws.proofs.Choice.{pick-true, pick-false}
-use Rattle.laws.proofs.Each.{all-at}
+use Rattle.grammar.proofs.Tokens.{number-operator}
 use Rattle.laws.proofs.Keys.{numbersAt, givenAt, apartBefore, arm, Missed, rest}
 use Rattle.tree.specs.Table.{cellAt}
 use Rattle.tree.specs.Shapes.{presence}
-use Rattle.tree.specs.Trees.{labelAt, operandOf, operandAt, treeAt}
-use Rattle.tree.specs.Walks.{isThere, isPresent}
+use Rattle.tree.specs.Trees.{labelAt, operandAt, treeAt}
+use Rattle.tree.specs.Walks.{isPresent}
 use Rattle.tree.proofs.Walks.{there}
 use Rattle.grammar.specs.Tokens.{Token, operator, Assign, Lt, Gt, Name, code, number}
 use Rattle.grammar.specs.Codes.{operators, operatorOf, codesOf}
 use Rattle.plain.specs.Written.{signs, signRows, signsOf}
-use Rattle.plain.specs.Written as plain
 use Rattle.token_writer.specs.declared.signs.Few.{Few}
-use Rattle.token_writer.specs.declared.signs.Few.the-variants.{Nothing, One, Two, Three}
+use Rattle.token_writer.specs.declared.signs.Few.the-variants.{Nothing, One, Two}
 use Rattle.token_writer.specs.declared.signs.Signs.{Signs}
 use Rattle.token_writer.specs.Puts.{spelled, Spells, onlyBefore, onlyBetween, enclosing, made, pathType, oneIf}
 
@@ -50,8 +48,7 @@ pair-cell rows (suc i) h = let e : 5 * i + 0 ≡ 5 * (suc i - 1) = omega arith i
 -- ---- operators
 
 pub operator-low : (n : ℕ) → n < 28 → number (operatorOf n) ≡ n
-unfolding operatorOf
-operator-low n h = eqb→eq (number (operatorOf n)) n (all-at (λ m. eqb (number (operatorOf m)) m) 28 tt n h)
+operator-low n h = number-operator n (omega arith)
 
 pub operator-high : (n : ℕ) → 28 ≤ n → number (operatorOf n) ≡ 28
 unfolding operatorOf
@@ -96,12 +93,12 @@ path-signs s detail e = rw e (go (eqb detail 2))
 
 -- ---- the signs of a node of a table
 
-module _ (cells : List ℕ) (count i : ℕ) where
-  there-by : (p : ℕ) → isPresent (presence p) ≡ not (eqb p 0)
-  unfolding presence
-  there-by zero = refl
-  there-by (suc p) = sym (ap not (ne-eqb (suc p) 0 (λ e. omega arith)))
+there-by : (p : ℕ) → isPresent (presence p) ≡ not (eqb p 0)
+unfolding presence
+there-by zero = refl
+there-by (suc p) = sym (ap not (ne-eqb (suc p) 0 (λ e. omega arith)))
 
+module _ (cells : List ℕ) (count i : ℕ) where
   pub spells-at : (s : Signs) (form detail second : ℕ) → form ≡ cellAt cells i 0 → detail ≡ cellAt cells i 2 → second ≡ operandAt cells count i 4
       → Spells s (lookup (signRows detail (not (eqb second 0))) (signs [] [] []) form)
       → Spells s (signsOf (labelAt cells i) (treeAt cells count (operandAt cells count i 4)))

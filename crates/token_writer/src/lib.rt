@@ -11,15 +11,13 @@ use tree::refusal::check;
 use tree::table::cell;
 use tree::table::operand_number;
 ghost use mathlib.Core.Path.{_≡_};
-ghost use mathlib.Core.List.{[]};
 ghost use Prim.Native.Nat.{_+_, _*_, _≤_};
 ghost use lib.ListN.{length, replicate};
-ghost use Rattle.tree.specs.Trees.{treeAt};
 ghost use Rattle.tree.specs.Refusals.{refusal};
-ghost use Rattle.plain.specs.Written.{tokensAt, hasPair};
+ghost use Rattle.plain.specs.Written.{hasPair};
 ghost use Rattle.grammar.specs.Codes.{codesOf};
 ghost use Rattle.token_writer.specs.Puts.{spelled, Put, codesAt};
-ghost use Rattle.token_writer.specs.Writes.{rowsFor, written, answered, tokensAfter};
+ghost use Rattle.token_writer.specs.Writes.{written, answered, tokensAfter};
 
 // What writing answers.
 pub enum Written {

@@ -7,3 +7,4 @@ pub mod Owned
 pub mod Accepted
 pub mod Walks
 pub mod Shapes
+pub mod Fine

@@ -6,3 +6,4 @@ pub mod Places
 pub mod Refusals
 pub mod Passes
 pub mod Walks
+pub mod Marks

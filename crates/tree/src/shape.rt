@@ -83,3 +83,19 @@ pub fn shape_at(table: &[u16], count: u16, node: u16) -> Shape
         _ => Shape::Closed,
     }
 }
+
+// The operand at the first place of a node's form.
+pub fn first_at(table: &[u16], count: u16, node: u16) -> Operand
+    ensures { λ r. ⌜ r ≡ firstOf (shapeAt (now (table .entry)) count node) ⌝ }
+{
+    let shape = shape_at(table, count, node);
+    shape.first()
+}
+
+// The operand at the second place of a node's form.
+pub fn second_at(table: &[u16], count: u16, node: u16) -> Operand
+    ensures { λ r. ⌜ r ≡ secondOf (shapeAt (now (table .entry)) count node) ⌝ }
+{
+    let shape = shape_at(table, count, node);
+    shape.second()
+}

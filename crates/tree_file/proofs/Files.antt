@@ -13,7 +13,7 @@ use Rattle.tree.specs.Refusals.{refusal3, refusal4, refuse, firstOf, nodeRefusa
 use Rattle.tree.proofs.First.{stop, skip, passed}
 use Rattle.tree.proofs.Count.{count-fits, fits-count}
 use Rattle.tree_file.specs.declared.Loaded.the-variants.{Refused, Accepted}
-use Rattle.tree_file.specs.Numbers.{Numbers, broken, numbers, numbersOf, isBroken, valuesIn, bytesAfter}
+use Rattle.tree_file.specs.Several.{Numbers, broken, numbers, numbersOf, isBroken, valuesIn, bytesAfter}
 use Rattle.tree_file.specs.Files.{header, contextIn, countIn, body, cellsIn, refusal1, refusal2, refusal5, fileRefusal, loaded, stored}
 use Rattle.tree_file.specs.Reads.{Begun}
 use Rattle.tree_file.proofs.Several.{numbers-length}

@@ -1,3 +1,3 @@
-pub mod Groups
 pub mod Several
 pub mod Files
+pub mod Loading

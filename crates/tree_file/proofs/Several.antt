@@ -8,9 +8,9 @@ use lib.ListN.{length, drop}
 use lib.Seq.{drop-drop}
 use Rattle.laws.specs.Choice.{pick}
 use Rattle.laws.proofs.Choice.{pick-true, pick-false}
-use Rattle.tree_file.specs.declared.Number.the-variants.{Malformed, Value}
-use Rattle.tree_file.specs.Numbers.{followed, valueOf, restOf, malformed, Numbers, broken, numbers, prepend, numbersOf}
-use Rattle.tree_file.specs.Reads.{numberAt}
+use Rattle.numbers.specs.declared.Number.the-variants.{Malformed, Value}
+use Rattle.numbers.specs.Numbers.{followed, valueOf, restOf, malformed, numberAt}
+use Rattle.tree_file.specs.Several.{Numbers, broken, numbers, prepend, numbersOf}
 
 -- ---- what stands at a place
 

@@ -9,7 +9,7 @@ use Rattle.laws.specs.Lists.{over}
 use Rattle.tree.specs.Refusals.{refusal3, refusal4, Refusal, refuse, firstOf, nodeRefusals}
 use Rattle.tree_file.specs.declared.Loaded.{Loaded}
 use Rattle.tree_file.specs.declared.Loaded.the-variants.{Refused, Accepted}
-use Rattle.tree_file.specs.Numbers.{Numbers, numbersOf, isBroken, valuesIn, bytesAfter}
+use Rattle.tree_file.specs.Several.{Numbers, numbersOf, isBroken, valuesIn, bytesAfter}
 
 -- ---- "The header is context and count; then five numbers a node: form, attributes, detail, first, second."
 

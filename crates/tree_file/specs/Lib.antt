@@ -1,3 +1,3 @@
-pub mod Numbers
+pub mod Several
 pub mod Files
 pub mod Reads

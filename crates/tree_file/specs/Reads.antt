@@ -2,21 +2,14 @@
 use mathlib.Core.Bool.{false}
 use mathlib.Core.List.{List, [], _∷_}
 use mathlib.Core.Path.{_≡_}
-use Prim.Native.Nat.{ℕ, suc, _+_, _*_}
+use Prim.Native.Nat.{ℕ, _*_}
 use lib.ListN.{take, drop}
-use Rattle.laws.specs.Choice.{pick}
-use Rattle.tree_file.specs.declared.Number.{Number}
-use Rattle.tree_file.specs.declared.Number.the-variants.{Malformed, Value}
 use Rattle.tree_file.specs.declared.Header.{Header}
 use Rattle.tree_file.specs.declared.Header.the-variants.{Malformed as NoHeader, Read}
 use Rattle.tree_file.specs.declared.Body.{Body}
 use Rattle.tree_file.specs.declared.Body.the-variants.{Malformed as NoBody, End}
-use Rattle.tree_file.specs.Numbers.{followed, valueOf, malformed, broken, numbers, numbersOf}
+use Rattle.tree_file.specs.Several.{broken, numbers, numbersOf}
 use Rattle.tree_file.specs.Files.{header, contextIn, countIn, body, refusal1, refusal2}
-
--- the number that starts at a place, with the place after it
-unfoldable pub numberAt : List ℕ → ℕ → Number
-numberAt file at = pick (malformed (drop at file)) Malformed (Value (valueOf (drop at file)) (at + suc (followed (drop at file))))
 
 -- the header: malformed, or two numbers with the body behind them
 abbrev pub HeaderRead : List ℕ → Header → Type 0

@@ -1,61 +1,14 @@
-// Tree files: the seven-bit numbers, and the loader of a file into a lent node table.
+// Tree files: the loader of a file into a lent node table.
+use numbers::Number;
+use numbers::number_at;
 ghost use mathlib.Core.Path.{_≡_};
-ghost use Prim.Native.Nat.{_≤_, _<_};
+ghost use Prim.Native.Nat.{_≤_};
 ghost use lib.ListN.{length, take};
 ghost use Rattle.laws.specs.Lists.{over};
 ghost use Rattle.tree_file.specs.Files.{loaded, stored};
-ghost use Rattle.tree_file.specs.Reads.{numberAt, HeaderRead, BodyRead, Begun};
+ghost use Rattle.tree_file.specs.Reads.{HeaderRead, BodyRead, Begun};
 
-// ---- numbers
-
-// What stands at a place of the file.
-enum Number {
-    // Nothing that is well formed.
-    Malformed,
-    // A value, and the place after it.
-    Value(u16, usize),
-}
-
-fn wide(byte: u8) -> u16
-    ensures { λ r. ⌜ (r ≡ byte) × (r < 256) ⌝ }
-{
-    byte as u16
-}
-
-// The number that starts at a place. Three groups are the most that a number up to 65,535 has.
-fn number_at(file: &[u8], at: usize) -> Number
-    ensures { λ r. ⌜ r ≡ numberAt (now (file .entry)) at ⌝ }
-{
-    if file.len() <= at {
-        return Number::Malformed;
-    }
-    let left = file.len() - at;
-    let low = wide(file[at]);
-    if low < 128 {
-        return Number::Value(low, at + 1);
-    }
-    if left < 2 {
-        return Number::Malformed;
-    }
-    let middle = wide(file[at + 1]);
-    if middle == 0 {
-        return Number::Malformed;
-    }
-    if middle < 128 {
-        return Number::Value((low - 128) + 128 * middle, at + 2);
-    }
-    if left < 3 {
-        return Number::Malformed;
-    }
-    let high = wide(file[at + 2]);
-    if high == 0 {
-        return Number::Malformed;
-    }
-    if high > 3 {
-        return Number::Malformed;
-    }
-    Number::Value((low - 128) + 128 * (middle - 128) + 16384 * high, at + 3)
-}
+// ---- several numbers
 
 // What the header holds.
 enum Header {

@@ -3,15 +3,18 @@ use mathlib.Core.Path.{_≡_, refl, sym, ap, _∙_}
 use mathlib.Core.List.{List}
 use Prim.Native.Nat.{ℕ, _≤_}
 use lib.ListN.{length, length-set}
-use Rattle.tree.specs.Trees.{none, operandAt, treeAt}
-use Rattle.tree.proofs.Unfold.{unfolds}
+use mathlib.Core.Bool.{false}
+use Rattle.tree.specs.Trees.{none, labelAt, operandAt, treeAt}
+use Rattle.tree.proofs.Unfold.{unfolds, tree-zero}
+use Rattle.fixup.specs.declared.context.FixupContext.{FixupContext}
+use Rattle.fixup.specs.Contexts.{NONE}
 use Rattle.expr.specs.declared.Handed.{Handed}
 use Rattle.expr.specs.Expr.{handsFirst, handsSecond}
 use Rattle.walk.specs.declared.decision.Row.{Row}
-use Rattle.walk.specs.declared.decision.Decision.{Decision}
-use Rattle.walk.specs.Rows.{Rows, rowOf, ownContext, rowsOf}
+use Rattle.walk.specs.Rows.{Rows, zeros, isExpression, rowOf, ownContext, rowsOf}
 use Rattle.walk.specs.Rows as rows
-use Rattle.walk.specs.Steps.{decisionOf}
+use Rattle.walk.specs.Steps.{alone, placedFirst, placedBelow, placedAlone}
+use Rattle.walk.proofs.Decisions.{row-other, own-other, first-other, second-other}
 use Rattle.walk.specs.Walk.{stored, placed}
 
 -- ---- lengths
@@ -28,6 +31,9 @@ length-placed cells count i (rows.present r a b) into =
     ∙ length-placed cells count (operandAt cells count i 3) a _
     ∙ length-stored i r into
 
+pub length-below : (x : FixupContext) (cells : List ℕ) (count i : ℕ) (into : List ℕ) → length (placedBelow x cells count i into) ≡ length into
+length-below x cells count i into = length-placed cells count _ _ _ ∙ length-placed cells count _ _ into
+
 -- ---- one node
 
 module _ (cells : List ℕ) (count i : ℕ) (h : Handed) (into : List ℕ) where
@@ -43,12 +49,19 @@ module _ (cells : List ℕ) (count i : ℕ) (h : Handed) (into : List ℕ) where
   placed-node low high = rw (unfolds cells count i low high)
 
   -- the same by steps: the node's own row, then its operands'
-  pub placed-by : 1 ≤ i → i ≤ count → (d : Decision) → d ≡ decisionOf h (treeAt cells count i)
-      → (own : List ℕ) → own ≡ stored i (d .row) into
-      → (g : Handed) → g ≡ handsFirst (d .own) (treeAt cells count i) → (o : ℕ) → o ≡ operandAt cells count i 3
-      → (first : List ℕ) → first ≡ placed cells count o (rowsOf g (treeAt cells count o)) own
-      → (k : Handed) → k ≡ handsSecond (d .own) (treeAt cells count i) → (p : ℕ) → p ≡ operandAt cells count i 4
-      → (second : List ℕ) → second ≡ placed cells count p (rowsOf k (treeAt cells count p)) first
-      → second ≡ placed cells count i (rowsOf h (treeAt cells count i)) into
-  placed-by low high d ed own eown g eg o eo first ef k ek p ep second es =
-      es ∙ rw (ep, ek, ef, eo, eg, eown, ed) (sym (placed-node low high))
+  pub placed-by : 1 ≤ i → i ≤ count → (x : FixupContext) → x ≡ ownContext h (treeAt cells count i) → (r : Row) → r ≡ rowOf h (treeAt cells count i)
+      → (own : List ℕ) → own ≡ stored i r into → (out : List ℕ) → out ≡ placedBelow x cells count i own
+      → out ≡ placed cells count i (rowsOf h (treeAt cells count i)) into
+  placed-by low high x ex r er own eown out eout = eout ∙ rw (eown, er, ex) (sym (placed-node low high))
+
+  -- an operand that is absent
+  pub placed-absent : i ≡ 0 → placed cells count i (rowsOf h (treeAt cells count i)) into ≡ into
+  placed-absent e = placed-none (rw e (tree-zero cells count))
+
+-- a type or a link: what is left is its second operand's
+pub placed-other : (cells : List ℕ) (count i : ℕ) (into : List ℕ) → 1 ≤ i → i ≤ count → isExpression (treeAt cells count i) ≡ false
+    → (own : List ℕ) → own ≡ stored i zeros into → (o : ℕ) → o ≡ operandAt cells count i 3 → (first : List ℕ) → first ≡ placedAlone cells count o own → (p : ℕ) → p ≡ operandAt cells count i 4
+    → placedAlone cells count p first ≡ placedAlone cells count i into
+placed-other cells count i into low high e own eown o eo first ef p ep =
+    placed-by cells count i alone into low high NONE (own-other alone (treeAt cells count i) e) zeros (row-other alone (treeAt cells count i) e) own eown _
+    (rw (ep, ef, eo, ← first-other NONE (treeAt cells count i) e, ← second-other NONE (treeAt cells count i) e))

@@ -1,4 +1,4 @@
-// What is decided of a node: its row, and the context in which it is printed.
+// What is decided of a node: its row, and whether it has an outer pair.
 use bools::either;
 use expr::Handed;
 use expr::Side;
@@ -6,7 +6,6 @@ use fixup::context::FixupContext;
 use precedence::Precedence;
 use scan::right::leftmost_subexpression_precedence;
 use scan::right::rightmost_subexpression_precedence;
-use tree::form::class_of;
 use tree::forms;
 use tree::shape::form_at;
 use tree::table::cell;
@@ -16,8 +15,8 @@ ghost use lib.Dec.{ltb};
 ghost use Rattle.tree.specs.Trees.{treeAt};
 ghost use Rattle.precedence.specs.Precedences.{rankOf};
 ghost use Rattle.fixup.specs.Fixup.{parenthesize};
-ghost use Rattle.walk.specs.Rows.{precedenceBy, innerPair, pairBy, rowBy};
-ghost use Rattle.walk.specs.Steps.{ownBy, expressionDecision, noDecision, decisionOf};
+ghost use Rattle.walk.specs.Rows.{precedenceBy, innerPair, pairBy, rowBy, expressionRow, zeros};
+ghost use Rattle.walk.specs.Steps.{decisionOf, alone};
 
 pub struct Row {
     pub pair: u16,
@@ -29,8 +28,7 @@ pub struct Row {
 
 pub struct Decision {
     pub row: Row,
-    // The context handed down, or NONE inside an outer pair.
-    pub own: FixupContext,
+    pub outer: bool,
 }
 
 fn precedence_by(
@@ -100,14 +98,9 @@ fn row_of(pair: u16, precedence: Precedence, fixup: FixupContext) -> Row
     }
 }
 
-fn own_context(outer: bool, fixup: FixupContext) -> FixupContext
-    ensures { λ r. ⌜ r ≡ ownBy outer fixup ⌝ }
-{
-    if outer { FixupContext::none() } else { fixup }
-}
-
-fn expression_decision(handed: Handed, table: &[u16], count: u16, node: u16) -> Decision
-    ensures { λ r. ⌜ r ≡ expressionDecision handed (treeAt (now (table .entry)) count node) ⌝ }
+// What is decided of an expression.
+pub fn decision_of(handed: Handed, table: &[u16], count: u16, node: u16) -> Decision
+    ensures { λ r. ⌜ r ≡ decisionOf handed (treeAt (now (table .entry)) count node) ⌝ }
 {
     let fixup = handed.fixup;
     let side = handed.side;
@@ -116,32 +109,35 @@ fn expression_decision(handed: Handed, table: &[u16], count: u16, node: u16) -> 
     let inner = has_inner_pair(table, count, node);
     Decision {
         row: row_of(pair(outer, inner), precedence, fixup),
-        own: own_context(outer, fixup),
+        outer: outer,
+    }
+}
+
+// The row of an expression that no owner tests, in NONE: it has no outer pair.
+pub fn lone_row(table: &[u16], count: u16, node: u16) -> Row
+    ensures { λ r. ⌜ r ≡ expressionRow alone (treeAt (now (table .entry)) count node) ⌝ }
+{
+    let none = FixupContext::none();
+    let precedence = none.precedence(table, count, node);
+    let inner = has_inner_pair(table, count, node);
+    Row {
+        pair: pair(false, inner),
+        precedence: precedence.rank(),
+        previous: 0,
+        next: 0,
+        flags: 0,
     }
 }
 
 // The row of a type or a link.
-fn no_decision() -> Decision
-    ensures { λ r. ⌜ r ≡ noDecision ⌝ }
+pub fn no_row() -> Row
+    ensures { λ r. ⌜ r ≡ zeros ⌝ }
 {
-    let zeros = Row {
+    Row {
         pair: 0,
         precedence: 0,
         previous: 0,
         next: 0,
         flags: 0,
-    };
-    Decision {
-        row: zeros,
-        own: FixupContext::none(),
     }
-}
-
-pub fn decision_at(handed: Handed, table: &[u16], count: u16, node: u16) -> Decision
-    ensures { λ r. ⌜ r ≡ decisionOf handed (treeAt (now (table .entry)) count node) ⌝ }
-{
-    if class_of(form_at(table, count, node)) == 1 {
-        return expression_decision(handed, table, count, node);
-    }
-    no_decision()
 }

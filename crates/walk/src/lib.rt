@@ -2,13 +2,17 @@
 mod decision; // decision.rt: what is decided of a node
 
 use decision::Row;
-use decision::decision_at;
+use decision::decision_of;
+use decision::lone_row;
+use decision::no_row;
 use expr::Handed;
 use expr::Side;
 use expr::first_operand;
 use expr::second_operand;
 use fixup::context::FixupContext;
+use tree::form::class_of;
 use tree::refusal::check;
+use tree::shape::form_at;
 use tree::table::operand_number;
 ghost use mathlib.Core.Path.{_≡_};
 ghost use Prim.Native.Nat.{_*_, _≤_};
@@ -16,6 +20,7 @@ ghost use lib.ListN.{length, replicate};
 ghost use Rattle.laws.specs.Lists.{over};
 ghost use Rattle.tree.specs.Trees.{treeAt};
 ghost use Rattle.walk.specs.Rows.{rowsOf};
+ghost use Rattle.walk.specs.Steps.{placedFirst, placedBelow, placedAlone};
 ghost use Rattle.walk.specs.Walk.{contextNumbered, rootHanded, stored, placed, decided, rowsAfter, scratchAfter};
 
 // A row into the five cells of its node.
@@ -36,30 +41,77 @@ fn walk_from(handed: Handed, table: &[u16], count: u16, node: u16, rows: &mut [u
     requires { ⌜ 5 * count ≤ length (now rows) ⌝ }
     ensures { λ _. ⌜ now (rows .exit) ≡ placed (now (table .entry)) count node (rowsOf handed (treeAt (now (table .entry)) count node)) (now (rows .entry)) ⌝ }
 {
-    if node == 0 {
+    if class_of(form_at(table, count, node)) != 1 {
+        walk_alone(table, count, node, rows);
         return;
     }
-    if count < node {
-        return;
-    }
-    let decision = decision_at(handed, table, count, node);
+    let decision = decision_of(handed, table, count, node);
     let row = decision.row;
-    let own = decision.own;
     store(rows, node, row);
-    walk_from(
-        first_operand(own, table, count, node),
-        table,
-        count,
-        operand_number(table, count, node, 3),
-        rows,
-    );
+    if decision.outer {
+        walk_operands(FixupContext::none(), table, count, node, rows);
+        return;
+    }
+    let own = handed.fixup;
+    walk_operands(own, table, count, node, rows);
+}
+
+// The rows below a node that is there, printed in a context of its own.
+fn walk_operands(own: FixupContext, table: &[u16], count: u16, node: u16, rows: &mut [u16])
+    requires { ⌜ (1 ≤ node) × (node ≤ count) × (5 * count ≤ length (now rows)) ⌝ }
+    ensures { λ _. ⌜ now (rows .exit) ≡ placedBelow own (now (table .entry)) count node (now (rows .entry)) ⌝ }
+{
+    walk_first(own, table, count, node, rows);
+    let operand = operand_number(table, count, node, 4);
+    if operand == 0 {
+        return;
+    }
     walk_from(
         second_operand(own, table, count, node),
         table,
         count,
-        operand_number(table, count, node, 4),
+        operand,
         rows,
     );
+}
+
+// The rows of its first operand and below. What an absent operand would get is not worked out.
+fn walk_first(own: FixupContext, table: &[u16], count: u16, node: u16, rows: &mut [u16])
+    requires { ⌜ (1 ≤ node) × (node ≤ count) × (5 * count ≤ length (now rows)) ⌝ }
+    ensures { λ _. ⌜ now (rows .exit) ≡ placedFirst own (now (table .entry)) count node (now (rows .entry)) ⌝ }
+{
+    let operand = operand_number(table, count, node, 3);
+    if operand == 0 {
+        return;
+    }
+    walk_from(
+        first_operand(own, table, count, node),
+        table,
+        count,
+        operand,
+        rows,
+    );
+}
+
+// The same as `walk_from` for what no owner tests, in NONE: items, types and links, a list in a loop.
+fn walk_alone(table: &[u16], count: u16, node: u16, rows: &mut [u16])
+    requires { ⌜ 5 * count ≤ length (now rows) ⌝ }
+    ensures { λ _. ⌜ now (rows .exit) ≡ placedAlone (now (table .entry)) count node (now (rows .entry)) ⌝ }
+{
+    let mut at = node;
+    while 0 < at {
+        if count < at {
+            return;
+        }
+        if class_of(form_at(table, count, at)) == 1 {
+            store(rows, at, lone_row(table, count, at));
+            walk_operands(FixupContext::none(), table, count, at, rows);
+            return;
+        }
+        store(rows, at, no_row());
+        walk_alone(table, count, operand_number(table, count, at, 3), rows);
+        at = operand_number(table, count, at, 4);
+    }
 }
 
 // Document 01's contexts; NONE for every other number.

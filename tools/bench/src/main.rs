@@ -4,6 +4,8 @@
 //!     cargo run --release                         nanoseconds a node
 //!     cargo run --release -- turns                the same, with cold trees
 //!     cargo run --release -- instructions         instructions a node, with valgrind
+//!     cargo run --release -- nests [FOLDER]       nests of 4 to 126 levels
+//!     cargo run --release -- slowest [FOLDER]     the slowest trees that a search finds
 //!     cargo run --release -- run SET SIDE TIMES   what valgrind and perf look at
 //!
 //! Inside the timing of each side, for one tree:
@@ -38,6 +40,7 @@
 //! the rounds' ratios count.
 
 mod clock;
+mod nests;
 mod sets;
 mod sides;
 
@@ -57,6 +60,10 @@ fn main() -> ExitCode {
         [] => time_all(GROUP_NODES),
         ["turns"] => time_all(u64::MAX),
         ["instructions"] => count_all(),
+        ["nests"] => nests::time_nests(None),
+        ["nests", folder] => nests::time_nests(Some(folder)),
+        ["slowest"] => nests::search_slowest(None),
+        ["slowest", folder] => nests::search_slowest(Some(folder)),
         ["run", set, side, times] => match (SETS.get(number(set)), Side::ALL.get(number(side))) {
             (Some(set), Some(&side)) => {
                 for group in &mut prepare(set, GROUP_NODES) {
@@ -71,7 +78,7 @@ fn main() -> ExitCode {
 }
 
 fn usage() -> ExitCode {
-    eprintln!("usage: bench [turns | instructions | run SET SIDE TIMES], sets and sides from 0 on");
+    eprintln!("usage: bench [turns | instructions | nests [FOLDER] | slowest [FOLDER] | run SET SIDE TIMES], sets and sides from 0 on");
     ExitCode::FAILURE
 }
 

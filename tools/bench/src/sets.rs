@@ -54,15 +54,15 @@ pub const SETS: [Set; 10] = [
 ];
 
 const SEED: u64 = 1;
-const LARGEST: u16 = 4_096;
-const LONGEST_PATH: usize = 128;
+pub const LARGEST: u16 = 4_096;
+pub const LONGEST_PATH: usize = 128;
 
 /// One that leans left, one that is loose, and one that takes no chains.
 const OPERATORS: [u16; 3] = [SUB, AND, EQ];
 
-const NAME: Stem = Stem::leaf(PATH, 0, 0);
-const BARE: Stem = Stem::leaf(RANGE, 0, 0);
-const RANGE_TO: Stem = Stem::new(RANGE, 0, 0, [Fill::Nothing, Fill::Hole]);
+pub const NAME: Stem = Stem::leaf(PATH, 0, 0);
+pub const BARE: Stem = Stem::leaf(RANGE, 0, 0);
+pub const RANGE_TO: Stem = Stem::new(RANGE, 0, 0, [Fill::Nothing, Fill::Hole]);
 
 /// Twelve trees of as many nodes as there may be, of some families by turns.
 fn largest(families: &[Family]) -> Vec<NodeTable> {
@@ -95,7 +95,7 @@ fn nest(above: Stem, end: Stem) -> NodeTable {
     numbered(&draft.expect("longer nests double more"))
 }
 
-fn planted<'a>(stems: impl Iterator<Item = &'a Stem>) -> Draft {
+pub fn planted<'a>(stems: impl Iterator<Item = &'a Stem>) -> Draft {
     let mut draft = Draft::default();
     let mut slot = None;
     for stem in stems {
@@ -122,6 +122,6 @@ fn call(form: u16, argument: &[Label]) -> NodeTable {
 }
 
 /// Numbered as the token reader numbers.
-fn numbered(draft: &Draft) -> NodeTable {
+pub fn numbered(draft: &Draft) -> NodeTable {
     draft.number(0, Order::Printing, &mut Dice::new(SEED, 0))
 }

@@ -5,6 +5,7 @@ mod changes;
 mod chart;
 mod codes;
 mod lists;
+mod long;
 mod makers;
 mod ours;
 mod plain;
@@ -21,6 +22,7 @@ use std::process::ExitCode;
 const USAGE: &str = "usage:
   readings trees [OURS [SEED]]   what is written for plain trees, beside its readings
   readings lists [OURS [SEED]]   token lists and their verdicts
+  readings long library [NAME]   the longest lists: our reader's answer, time and stack
   readings rustc TREES PAIRS [SEED]   rustc beside the readings, so many random trees and pairs
   readings changes               each rule changed: how many trees and lists tell
   readings record                writes crates/recorded/data/readings and tokens
@@ -51,6 +53,8 @@ fn run(arguments: &[&str]) -> Option<u64> {
             record::record();
             Some(0)
         }
+        ["long", "library"] => long::all(),
+        ["long", library, name] => long::one(&mut Ours::named(library)?, name),
         ["rustc", trees, pairs, rest @ ..] => {
             let seed = rest.first().map_or(Some(1), number)?;
             Some(rustc::compare(number(trees)?, number(pairs)?, seed))

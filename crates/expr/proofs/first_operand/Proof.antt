@@ -18,9 +18,6 @@ use Rattle.expr.proofs.first_operand.Tie as tie
 none-requires : tie.Need-none-requires
 none-requires c κs = search needs
 
-shape-at-requires : tie.Need-shape-at-requires
-shape-at-requires c κs = search needs
-
 form-at-requires : tie.Need-form-at-requires
 form-at-requires c κs = search needs
 
@@ -45,8 +42,8 @@ binary-left-requires c κs = search needs
 cell-requires-2 : tie.Need-cell-requires-2
 cell-requires-2 c κs = search needs
 
-first-requires : tie.Need-first-requires
-first-requires c κs = search needs
+first-at-requires : tie.Need-first-at-requires
+first-at-requires c κs = search needs
 
 break-test-requires : tie.Need-break-test-requires
 break-test-requires c κs = search needs
@@ -54,8 +51,8 @@ break-test-requires c κs = search needs
 at-end-requires : tie.Need-at-end-requires
 at-end-requires c κs = search needs
 
-first-requires-2 : tie.Need-first-requires-2
-first-requires-2 c κs = search needs
+first-at-requires-2 : tie.Need-first-at-requires-2
+first-at-requires-2 c κs = search needs
 
 call-test-requires : tie.Need-call-test-requires
 call-test-requires c κs = search needs
@@ -107,80 +104,79 @@ neither-requires-3 c κs = search needs
 
 returns : tie.Need-returns
 unfolding handsFirst firstRows
-returns c = c .before-operator .ensures ∙ ap (beforeOperator (c .before .before .before .before .before .before .before .args .fixup) false false Assign) (c .before .up-to .ensures) ∙ root-arm _ _ _ (firstRows (c .before .before .before .before .before .before .before .args .fixup)) (neither NONE) _ (c .before .before .before .form-at .ensures) tt 0 tt (c .before .before .match .keys1)
+returns c = c .before-operator .ensures ∙ ap (beforeOperator (c .before .before .before .before .before .before .args .fixup) false false Assign) (c .before .up-to .ensures) ∙ root-arm _ _ _ (firstRows (c .before .before .before .before .before .before .args .fixup)) (neither NONE) _ (c .before .before .before .form-at .ensures) tt 0 tt (c .before .before .match .keys1)
 
 returns-2 : tie.Need-returns-2
 unfolding handsFirst firstRows
-returns-2 c = c .before-dot .ensures ∙ ap (beforeDot (c .before .before .before .before .before .before .before .args .fixup)) (c .before .rank .ensures) ∙ root-arm _ _ _ (firstRows (c .before .before .before .before .before .before .before .args .fixup)) (neither NONE) _ (c .before .before .before .form-at .ensures) tt 1 tt (c .before .before .match .keys2)
+returns-2 c = c .before-dot .ensures ∙ ap (beforeDot (c .before .before .before .before .before .before .args .fixup)) (c .before .rank .ensures) ∙ root-arm _ _ _ (firstRows (c .before .before .before .before .before .before .args .fixup)) (neither NONE) _ (c .before .before .before .form-at .ensures) tt 1 tt (c .before .before .match .keys2)
 
 returns-3 : tie.Need-returns-3
 unfolding handsFirst firstRows labelAt
-returns-3 c = c .binary-left .ensures ∙ ap (binaryLeft (c .before .before .before .before .before .before .before .args .fixup)) (c .before .cell .ensures) ∙ root-arm _ _ _ (firstRows (c .before .before .before .before .before .before .before .args .fixup)) (neither NONE) _ (c .before .before .before .form-at .ensures) tt 2 tt (c .before .before .match .keys3)
+returns-3 c = c .binary-left .ensures ∙ ap (binaryLeft (c .before .before .before .before .before .before .args .fixup)) (c .before .cell .ensures) ∙ root-arm _ _ _ (firstRows (c .before .before .before .before .before .before .args .fixup)) (neither NONE) _ (c .before .before .before .form-at .ensures) tt 2 tt (c .before .before .match .keys3)
 
 returns-4 : tie.Need-returns-4
 unfolding handsFirst firstRows labelAt shapeRows firstOf
 returns-4 c =
     c .at-end .ensures
-    ∙ ap (atEnd (c .before .before .before .before .before .before .before .before .before .args .fixup) true true Jump) (c .before .break-test .ensures ∙ ap₂ breakTest (c .before .before .before .cell2 .ensures) (ap (treeOf (c .before .before .before .before .before .before .before .before .before .args .table .now) (c .before .before .before .before .before .before .before .before .before .args .count)) (c .before .before .first .ensures ∙ ap firstOf (c .before .before .before .before .before .before .shape-at .ensures ∙ shape-is _ _ _ _ (c .before .before .before .before .before .form-at .ensures) (7 ∷ []) (c .before .before .before .before .match .keys4) 2 tt tt)) ∙ tree-of _ _ _))
-    ∙ root-arm _ _ _ (firstRows (c .before .before .before .before .before .before .before .before .before .args .fixup)) (neither NONE) _ (c .before .before .before .before .before .form-at .ensures) tt 3 tt (c .before .before .before .before .match .keys4)
+    ∙ ap (atEnd (c .before .before .before .before .before .before .before .before .args .fixup) true true Jump) (c .before .break-test .ensures ∙ ap₂ breakTest (c .before .before .before .cell2 .ensures) (ap (treeOf (c .before .before .before .before .before .before .before .before .args .table .now) (c .before .before .before .before .before .before .before .before .args .count)) (c .before .before .first-at .ensures ∙ ap firstOf (shape-is _ _ _ _ (c .before .before .before .before .before .form-at .ensures) (7 ∷ []) (c .before .before .before .before .match .keys4) 2 tt tt)) ∙ tree-of _ _ _))
+    ∙ root-arm _ _ _ (firstRows (c .before .before .before .before .before .before .before .before .args .fixup)) (neither NONE) _ (c .before .before .before .before .before .form-at .ensures) tt 3 tt (c .before .before .before .before .match .keys4)
 
 returns-5 : tie.Need-returns-5
 unfolding handsFirst firstRows shapeRows firstOf
 returns-5 c =
     c .before-operator2 .ensures
-    ∙ ap (beforeOperator (c .before .before .before .before .before .before .before .before .args .fixup) true false Unambiguous) (c .before .call-test .ensures ∙ ap callTest (ap (treeOf (c .before .before .before .before .before .before .before .before .args .table .now) (c .before .before .before .before .before .before .before .before .args .count)) (c .before .before .first2 .ensures ∙ ap firstOf (c .before .before .before .before .before .shape-at .ensures ∙ shape-is _ _ _ _ (c .before .before .before .before .form-at .ensures) (8 ∷ []) (c .before .before .before .match .keys5) 0 tt tt)) ∙ tree-of _ _ _))
-    ∙ root-arm _ _ _ (firstRows (c .before .before .before .before .before .before .before .before .args .fixup)) (neither NONE) _ (c .before .before .before .before .form-at .ensures) tt 4 tt (c .before .before .before .match .keys5)
+    ∙ ap (beforeOperator (c .before .before .before .before .before .before .before .args .fixup) true false Unambiguous) (c .before .call-test .ensures ∙ ap callTest (ap (treeOf (c .before .before .before .before .before .before .before .args .table .now) (c .before .before .before .before .before .before .before .args .count)) (c .before .before .first-at2 .ensures ∙ ap firstOf (shape-is _ _ _ _ (c .before .before .before .before .form-at .ensures) (8 ∷ []) (c .before .before .before .match .keys5) 0 tt tt)) ∙ tree-of _ _ _))
+    ∙ root-arm _ _ _ (firstRows (c .before .before .before .before .before .before .before .args .fixup)) (neither NONE) _ (c .before .before .before .before .form-at .ensures) tt 4 tt (c .before .before .before .match .keys5)
 
 returns-6 : tie.Need-returns-6
 unfolding handsFirst firstRows
-returns-6 c = c .before-operator3 .ensures ∙ ap (beforeOperator (c .before .before .before .before .before .before .before .args .fixup) false false Cast) (c .before .rank2 .ensures) ∙ root-arm _ _ _ (firstRows (c .before .before .before .before .before .before .before .args .fixup)) (neither NONE) _ (c .before .before .before .form-at .ensures) tt 5 tt (c .before .before .match .keys6)
+returns-6 c = c .before-operator3 .ensures ∙ ap (beforeOperator (c .before .before .before .before .before .before .args .fixup) false false Cast) (c .before .rank2 .ensures) ∙ root-arm _ _ _ (firstRows (c .before .before .before .before .before .before .args .fixup)) (neither NONE) _ (c .before .before .before .form-at .ensures) tt 5 tt (c .before .before .match .keys6)
 
 returns-7 : tie.Need-returns-7
 unfolding handsFirst firstRows
-returns-7 c = c .at-end2 .ensures ∙ root-arm _ _ _ (firstRows (c .before .before .before .before .before .before .args .fixup)) (neither NONE) _ (c .before .before .form-at .ensures) tt 6 tt (c .before .match .keys7)
+returns-7 c = c .at-end2 .ensures ∙ root-arm _ _ _ (firstRows (c .before .before .before .before .before .args .fixup)) (neither NONE) _ (c .before .before .form-at .ensures) tt 6 tt (c .before .match .keys7)
 
 returns-8 : tie.Need-returns-8
 unfolding handsFirst firstRows
-returns-8 c = c .neither .ensures ∙ root-arm _ _ _ (firstRows (c .before .before .before .before .before .before .args .fixup)) (neither NONE) _ (c .before .before .form-at .ensures) tt 7 tt (c .before .match .keys8)
+returns-8 c = c .neither .ensures ∙ root-arm _ _ _ (firstRows (c .before .before .before .before .before .args .fixup)) (neither NONE) _ (c .before .before .form-at .ensures) tt 7 tt (c .before .match .keys8)
 
 returns-9 : tie.Need-returns-9
 unfolding handsFirst firstRows
-returns-9 c = c .before-operator4 .ensures ∙ ap (beforeOperator (c .before .before .before .before .before .before .before .args .fixup) true false Unambiguous) (c .before .rank3 .ensures) ∙ root-arm _ _ _ (firstRows (c .before .before .before .before .before .before .before .args .fixup)) (neither NONE) _ (c .before .before .before .form-at .ensures) tt 8 tt (c .before .before .match .keys9)
+returns-9 c = c .before-operator4 .ensures ∙ ap (beforeOperator (c .before .before .before .before .before .before .args .fixup) true false Unambiguous) (c .before .rank3 .ensures) ∙ root-arm _ _ _ (firstRows (c .before .before .before .before .before .before .args .fixup)) (neither NONE) _ (c .before .before .before .form-at .ensures) tt 8 tt (c .before .before .match .keys9)
 
 returns-10 : tie.Need-returns-10
 unfolding handsFirst firstRows
-returns-10 c = c .after-prefix .ensures ∙ root-arm _ _ _ (firstRows (c .before .before .before .before .before .before .args .fixup)) (neither NONE) _ (c .before .before .form-at .ensures) tt 9 tt (c .before .match .keys10)
+returns-10 c = c .after-prefix .ensures ∙ root-arm _ _ _ (firstRows (c .before .before .before .before .before .args .fixup)) (neither NONE) _ (c .before .before .form-at .ensures) tt 9 tt (c .before .match .keys10)
 
 returns-11 : tie.Need-returns-11
 unfolding handsFirst firstRows
-returns-11 c = c .neither2 .ensures ∙ ap neither (c .before .before .before .before .none .ensures) ∙ root-arm _ _ _ (firstRows (c .before .before .before .before .before .before .args .fixup)) (neither NONE) _ (c .before .before .form-at .ensures) tt 10 tt (c .before .match .keys11)
+returns-11 c = c .neither2 .ensures ∙ ap neither (c .before .before .before .none .ensures) ∙ root-arm _ _ _ (firstRows (c .before .before .before .before .before .args .fixup)) (neither NONE) _ (c .before .before .form-at .ensures) tt 10 tt (c .before .match .keys11)
 
 returns-12 : tie.Need-returns-12
 unfolding handsFirst firstRows
-returns-12 c = c .before-operator5 .ensures ∙ ap (beforeOperator (c .before .before .before .before .before .before .before .args .fixup) true false Range) (c .before .up-to2 .ensures) ∙ root-arm _ _ _ (firstRows (c .before .before .before .before .before .before .before .args .fixup)) (neither NONE) _ (c .before .before .before .form-at .ensures) tt 11 tt (c .before .before .match .keys12)
+returns-12 c = c .before-operator5 .ensures ∙ ap (beforeOperator (c .before .before .before .before .before .before .args .fixup) true false Range) (c .before .up-to2 .ensures) ∙ root-arm _ _ _ (firstRows (c .before .before .before .before .before .before .args .fixup)) (neither NONE) _ (c .before .before .before .form-at .ensures) tt 11 tt (c .before .before .match .keys12)
 
 returns-13 : tie.Need-returns-13
 unfolding handsFirst firstRows
-returns-13 c = c .after-prefix2 .ensures ∙ root-arm _ _ _ (firstRows (c .before .before .before .before .before .before .args .fixup)) (neither NONE) _ (c .before .before .form-at .ensures) tt 12 tt (c .before .match .keys13)
+returns-13 c = c .after-prefix2 .ensures ∙ root-arm _ _ _ (firstRows (c .before .before .before .before .before .args .fixup)) (neither NONE) _ (c .before .before .form-at .ensures) tt 12 tt (c .before .match .keys13)
 
 returns-14 : tie.Need-returns-14
 unfolding handsFirst firstRows
-returns-14 c = c .after-prefix3 .ensures ∙ root-arm _ _ _ (firstRows (c .before .before .before .before .before .before .args .fixup)) (neither NONE) _ (c .before .before .form-at .ensures) tt 13 tt (c .before .match .keys14)
+returns-14 c = c .after-prefix3 .ensures ∙ root-arm _ _ _ (firstRows (c .before .before .before .before .before .args .fixup)) (neither NONE) _ (c .before .before .form-at .ensures) tt 13 tt (c .before .match .keys14)
 
 returns-15 : tie.Need-returns-15
 unfolding handsFirst firstRows
-returns-15 c = c .at-end3 .ensures ∙ root-arm _ _ _ (firstRows (c .before .before .before .before .before .before .args .fixup)) (neither NONE) _ (c .before .before .form-at .ensures) tt 14 tt (c .before .match .keys15)
+returns-15 c = c .at-end3 .ensures ∙ root-arm _ _ _ (firstRows (c .before .before .before .before .before .args .fixup)) (neither NONE) _ (c .before .before .form-at .ensures) tt 14 tt (c .before .match .keys15)
 
 returns-16 : tie.Need-returns-16
 unfolding handsFirst firstRows
-returns-16 c = c .neither3 .ensures ∙ ap neither (c .before .before .before .before .none .ensures) ∙ root-rest _ _ _ (firstRows (c .before .before .before .before .before .before .args .fixup)) (neither NONE) _ (c .before .before .form-at .ensures) (c .before .match .rest)
+returns-16 c = c .neither3 .ensures ∙ ap neither (c .before .before .before .none .ensures) ∙ root-rest _ _ _ (firstRows (c .before .before .before .before .before .args .fixup)) (neither NONE) _ (c .before .before .form-at .ensures) (c .before .match .rest)
 
 pub first-operand-spec : {M : Type 1} → statement M
 first-operand-spec =
     tie.close
     (tie.spec
     none-requires
-    shape-at-requires
     form-at-requires
     up-to-requires
     before-operator-requires
@@ -189,10 +185,10 @@ first-operand-spec =
     cell-requires
     binary-left-requires
     cell-requires-2
-    first-requires
+    first-at-requires
     break-test-requires
     at-end-requires
-    first-requires-2
+    first-at-requires-2
     call-test-requires
     before-operator-requires-2
     rank-requires-2

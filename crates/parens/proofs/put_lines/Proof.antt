@@ -3,8 +3,8 @@ use mathlib.Core.Path.{_≡_}
 use Prim.Native.Nat.{_+_, _*_, _-_, _≤_}
 use native.Mathlib.Omega.{arith}
 use Rattle.parens.specs.Text.{linesOf}
-use Rattle.parens.specs.Growth.{Added}
-use Rattle.parens.proofs.Growing.{added-none}
+use Rattle.text.specs.Growth.{Added}
+use Rattle.text.proofs.Growing.{added-none}
 use Rattle.parens.proofs.Lines.{lines-more}
 use Rattle.parens.proofs.put_lines.Statement.{statement}
 use Rattle.parens.proofs.put_lines.Tie as tie

@@ -1,80 +1,65 @@
 -- `parens::put_row` meets its contract. Assumes nothing.
 use mathlib.Core.Path.{_≡_}
-use Prim.Native.Nat.{_+_, _*_, _-_, _≤_}
+use Prim.Native.Nat.{_+_, _*_, _-_}
 use native.Mathlib.Omega.{arith}
-use lib.ListN.{take, drop, getD}
-use Rattle.parens.specs.Text.{spaced}
-use Rattle.parens.specs.Growth.{Added}
-use Rattle.parens.proofs.Digits.{length-decimal}
-use Rattle.parens.proofs.Growing.{added-none, added-more}
-use Rattle.parens.proofs.Lines.{spaced-next}
+use Rattle.text.proofs.Growing.{fits}
+use Rattle.text.proofs.Spaces.{line-most}
+use Rattle.parens.specs.Text.{lineOf}
+use borrow.Author.Needs.{needs}
 use Rattle.parens.proofs.put_row.Statement.{statement}
 use Rattle.parens.proofs.put_row.Tie as tie
 
-abbrev Inv-loop : tie.InvT-loop
-Inv-loop out₀ end rows from at₀ done₀ out at done = (done ≤ 5) × (at ≤ end + 6 * done) × Added out₀ end (spaced (take done (drop from rows))) out at
+sub-from : tie.Need-sub-from
+sub-from c = search needs
 
-abbrev μ-loop : tie.MeasureT-loop
-μ-loop out₀ end rows from at₀ done₀ out at done = 5 - done
+cast-from : tie.Need-cast-from
+cast-from c = search needs
 
-loop-holds : tie.Need-loop-holds Inv-loop μ-loop
-unfolding spaced
-loop-holds c = (omega arith, omega arith, added-none _ _)
+mul-from : tie.Need-mul-from
+mul-from c = search needs
 
-put-byte-requires : tie.Need-put-byte-requires Inv-loop μ-loop
-put-byte-requires c κs = omega arith
+add-to : tie.Need-add-to
+add-to c = search needs
 
-add-put-number : tie.Need-add-put-number Inv-loop μ-loop
-add-put-number c = omega arith
+mul-put-line : tie.Need-mul-put-line
+mul-put-line c = search needs
 
-mul-put-number : tie.Need-mul-put-number Inv-loop μ-loop
-mul-put-number c = omega arith
+sub-put-line : tie.Need-sub-put-line
+sub-put-line c = search needs
 
-shared-slice-read-put-number : tie.Need-shared-slice-read-put-number Inv-loop μ-loop
-shared-slice-read-put-number c = omega arith
+part-put-line-start : tie.Need-part-put-line-start
+part-put-line-start c = search needs
 
-put-number-requires : tie.Need-put-number-requires Inv-loop μ-loop
-put-number-requires c κs =
-    let i = c .before .before .before .before .before .before .before .before .before .before .args .from + c .before .before .before .before .before .before .before .loop .done in
-    let fits = c .shared-slice-known2 .given i in
-    omega (arith, length-decimal (getD (c .before .before .before .before .before .before .before .before .before .before .args .rows .now) i 0) (omega (arith, fits)))
+part-put-line-end : tie.Need-part-put-line-end
+part-put-line-end c = search needs
 
-add-done : tie.Need-add-done Inv-loop μ-loop
-add-done c = omega arith
+put-line-requires : tie.Need-put-line-requires
+put-line-requires c κs = search needs
 
-loop-less : tie.Need-loop-less Inv-loop μ-loop
-loop-less c = omega arith
+same-length : tie.Need-same-length
+same-length c = search needs
 
-loop-again : tie.Need-loop-again Inv-loop μ-loop
-loop-again c =
-    let i = c .before .before .before .before .before .before .before .before .before .before .before .before .before .args .from + c .before .before .before .before .before .before .before .before .before .before .loop .done in
-    let fits = c .before .before .before .shared-slice-known2 .given i in
-    let digits = length-decimal (getD (c .before .before .before .before .before .before .before .before .before .before .before .before .before .args .rows .now) i 0) (omega (arith, fits)) in
-    let next = spaced-next (c .before .before .before .before .before .before .before .before .before .before .before .before .before .args .rows .now) (c .before .before .before .before .before .before .before .before .before .before .before .before .before .args .from) (c .before .before .before .before .before .before .before .before .before .before .loop .done) (omega arith) in
-    (omega arith, omega arith, rw next (added-more (c .before .before .before .before .before .before .before .before .before .before .loop .inv .2) (added-more (c .before .before .before .before .before .before .before .put-byte .ensures) (c .before .before .put-number .ensures))))
-
-same-length : tie.Need-same-length Inv-loop μ-loop
-same-length c = c .before .loop .inv .2 .room
-
-returns : tie.Need-returns Inv-loop μ-loop
+returns : tie.Need-returns
+unfolding lineOf
 returns c =
-    let e : c .before .loop .done ≡ 5 = omega arith in
-    (rw e at (c .before .loop .inv .2), omega arith)
+    let a = c .before .before .before .before .before .before .before .args in
+    let e : 5 * (a .node - 1) + 5 - 5 * (a .node - 1) ≡ 5 = omega arith in
+    let most = line-most (a .node) (a .rows .now) (5 * (a .node - 1)) (omega arith) (λ i. omega (arith, c .before .before .before .before .before .shared-slice-known .given i)) in
+    let row = fits (omega arith) (rw e at (c .before .before .put-line .ensures)) in
+    (row, omega (arith, row .ends))
 
 pub put-row-spec : {M : Type 1} → statement M
 put-row-spec =
     tie.close
     (tie.spec
-    Inv-loop
-    μ-loop
-    loop-holds
-    put-byte-requires
-    add-put-number
-    mul-put-number
-    shared-slice-read-put-number
-    put-number-requires
-    add-done
-    loop-less
-    loop-again
+    sub-from
+    cast-from
+    mul-from
+    add-to
+    mul-put-line
+    sub-put-line
+    part-put-line-start
+    part-put-line-end
+    put-line-requires
     same-length
     returns)

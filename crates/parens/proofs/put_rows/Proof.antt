@@ -4,7 +4,8 @@ use Prim.Native.Nat.{ℕ}
 use native.Mathlib.Omega.{arith}
 use lib.ListN.{length-replicate}
 use Rattle.parens.specs.Text.{acceptedText}
-use Rattle.parens.proofs.Growing.{added-more}
+use Rattle.text.proofs.Growing.{fits, added-more}
+use Rattle.text.proofs.Spaces.{headed-most}
 use Rattle.parens.proofs.Files.{rows-placed}
 use borrow.Author.Needs.{needs}
 use Rattle.parens.proofs.put_rows.Statement.{statement}
@@ -26,7 +27,9 @@ slice-aggregate-put-lines : tie.Need-slice-aggregate-put-lines
 slice-aggregate-put-lines c = search needs
 
 put-lines-requires : tie.Need-put-lines-requires
-put-lines-requires c κs = (omega arith, omega arith)
+put-lines-requires c κs =
+    let head = headed-most 111 107 (c .before .before .before .before .before .before .before .before .before .before .before .before .before .args .count) (omega arith) in
+    (omega arith, omega arith)
 
 same-length : tie.Need-same-length
 same-length c = search needs
@@ -36,7 +39,9 @@ unfolding acceptedText
 returns c =
     let s = c .before .before .before .before .before .before .before .before .before .before .before .before .before .before .before .before in
     let e = rows-placed (s .args .context) (s .args .count) (s .args .table .now) _ _ _ (s .pre .0) (s .pre .1) refl (length-replicate {A = ℕ} 12288 0) (c .before .before .before .before .before .before .before .before .before .before .before .decide .ensures .1 .0) in
-    (rw (← e) (added-more (c .before .before .before .before .before .before .before .put-head .ensures .0) (c .before .before .put-lines .ensures .0)), omega arith)
+    let head = headed-most 111 107 (s .args .count) (omega arith) in
+    let first = fits (omega arith) (c .before .before .before .before .before .before .before .put-head .ensures) in
+    (rw (← e) (added-more first (c .before .before .put-lines .ensures .0)), omega (arith, first .ends))
 
 pub put-rows-spec : {M : Type 1} → statement M
 put-rows-spec =

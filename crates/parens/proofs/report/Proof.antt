@@ -5,7 +5,10 @@ use Prim.Native.Nat.{ℕ, _≤_}
 use native.Mathlib.Omega.{arith}
 use lib.ListN.{length, replicate, length-replicate}
 use lib.Seq.{length-take-le}
-use Rattle.parens.proofs.Files.{printed-refusal, count-most, stored-room, not-refused, printed-rows}
+use Rattle.tree_file.proofs.Loading.{count-most, stored-room, not-refused}
+use Rattle.text.proofs.Growing.{fits}
+use Rattle.text.proofs.Spaces.{headed-most}
+use Rattle.parens.proofs.Files.{printed-refusal, printed-rows}
 use borrow.Author.Needs.{needs}
 use Rattle.parens.proofs.report.Statement.{statement}
 use Rattle.parens.proofs.report.Tie as tie
@@ -16,6 +19,9 @@ zeros = replicate 20480 0
 
 room : length zeros ≡ 20480
 room = length-replicate {A = ℕ} 20480 0
+
+enough : 20480 ≤ length zeros
+enough = rw room (omega arith)
 
 slice-aggregate-load : tie.Need-slice-aggregate-load
 slice-aggregate-load c = search needs
@@ -41,31 +47,32 @@ mul-cells c = search needs
 array-share-prefix-table : tie.Need-array-share-prefix-table
 array-share-prefix-table c =
     let e = sym (c .before .before .context .given .1) ∙ c .before .before .before .before .before .load .ensures .0 in
-    rw (c .before .before .before .before .before .load .ensures .1) (stored-room _ zeros room _ _ e)
+    rw (c .before .before .before .before .before .load .ensures .1) (stored-room _ zeros _ _ e enough)
 
 slice-aggregate-put-rows : tie.Need-slice-aggregate-put-rows
 slice-aggregate-put-rows c =
     let e = sym (c .before .before .before .context .given .1) ∙ c .before .before .before .before .before .before .load .ensures .0 in
-    sym (length-take-le _ _ (rw (c .before .before .before .before .before .before .load .ensures .1) (stored-room _ zeros room _ _ e)))
+    sym (length-take-le _ _ (rw (c .before .before .before .before .before .before .load .ensures .1) (stored-room _ zeros _ _ e enough)))
 
 put-rows-requires : tie.Need-put-rows-requires
 put-rows-requires c κs =
     let e = sym (c .before .before .before .context .given .1) ∙ c .before .before .before .before .before .before .load .ensures .0 in
-    (rw (c .before .before .before .before .before .before .load .ensures .1) (not-refused _ zeros room _ _ e), count-most _ zeros room _ _ e, search needs)
+    (rw (c .before .before .before .before .before .before .load .ensures .1) (not-refused _ zeros _ _ e enough), count-most _ zeros _ _ e enough, search needs)
 
 returns : tie.Need-returns
 returns c =
     let e = sym (c .before .before .before .why .given .1) ∙ c .before .before .before .before .before .before .load .ensures .0 in
-    let a = c .put-head .ensures .0 in
-    let fits : c .put-head .result ≤ length (c .put-head .last .0) = omega arith in
-    ((fits, sym (length-take-le _ _ fits)), a .text ∙ printed-refusal _ zeros room _ e)
+    let head = headed-most 110 111 (c .before .before .before .why .given .0 .0) (omega arith) in
+    let a = fits (omega arith) (c .put-head .ensures) in
+    let within : c .put-head .result ≤ length (c .put-head .last .0) = omega (arith, a .ends, a .room) in
+    ((within, sym (length-take-le _ _ within)), a .text ∙ printed-refusal _ zeros room _ e)
 
 returns-2 : tie.Need-returns-2
 returns-2 c =
     let e = sym (c .before .before .before .before .context .given .1) ∙ c .before .before .before .before .before .before .before .load .ensures .0 in
     let a = c .put-rows .ensures .0 in
-    let fits : c .put-rows .result ≤ length (c .put-rows .last .0) = omega arith in
-    ((fits, sym (length-take-le _ _ fits)), a .text ∙ rw (c .before .before .before .before .before .before .before .load .ensures .1) (printed-rows _ zeros room _ _ e))
+    let within : c .put-rows .result ≤ length (c .put-rows .last .0) = omega arith in
+    ((within, sym (length-take-le _ _ within)), a .text ∙ rw (c .before .before .before .before .before .before .before .load .ensures .1) (printed-rows _ zeros room _ _ e))
 
 pub report-spec : {M : Type 1} → statement M
 report-spec =

@@ -20,9 +20,6 @@ use borrow.Author.Needs.{needs}
 use Rattle.precedence.proofs.level_at.Statement.{statement}
 use Rattle.precedence.proofs.level_at.Tie as tie
 
-shape-at-requires : tie.Need-shape-at-requires
-shape-at-requires c κs = search needs
-
 form-at-requires : tie.Need-form-at-requires
 form-at-requires c κs = search needs
 
@@ -35,8 +32,8 @@ cell-requires-2 c κs = search needs
 closure-of-requires : tie.Need-closure-of-requires
 closure-of-requires c κs = search needs
 
-first-requires : tie.Need-first-requires
-first-requires c κs = search needs
+first-at-requires : tie.Need-first-at-requires
+first-at-requires c κs = search needs
 
 jump-of-requires : tie.Need-jump-of-requires
 jump-of-requires c κs = search needs
@@ -47,8 +44,8 @@ cell-requires-3 c κs = search needs
 of-binop-requires : tie.Need-of-binop-requires
 of-binop-requires c κs = search needs
 
-first-requires-2 : tie.Need-first-requires-2
-first-requires-2 c κs = search needs
+first-at-requires-2 : tie.Need-first-at-requires-2
+first-at-requires-2 c κs = search needs
 
 content-of-requires : tie.Need-content-of-requires
 content-of-requires c κs = search needs
@@ -63,7 +60,7 @@ returns c = ap Of (c .closure-of .ensures ∙ rw (c .before .before .cell .ensur
 returns-2 : tie.Need-returns-2
 unfolding ofAsks ofRows shapeRows firstOf
 returns-2 c =
-    ap Of (c .jump-of .ensures ∙ ap (λ (p : Operand). jumpBy (isPresent p)) (c .before .first .ensures ∙ ap firstOf (c .before .before .before .before .shape-at .ensures ∙ shape-is _ _ _ _ (c .before .before .before .form-at .ensures) (7 ∷ 31 ∷ 40 ∷ []) (c .before .before .match .keys2) 2 tt tt)) ∙ ap jumpBy (sym (there (c .before .before .before .before .before .before .args .table .now) (c .before .before .before .before .before .before .args .count) (c .before .before .before .before .before .before .args .node) _)))
+    ap Of (c .jump-of .ensures ∙ ap (λ (p : Operand). jumpBy (isPresent p)) (c .before .first-at .ensures ∙ ap firstOf (shape-is _ _ _ _ (c .before .before .before .form-at .ensures) (7 ∷ 31 ∷ 40 ∷ []) (c .before .before .match .keys2) 2 tt tt)) ∙ ap jumpBy (sym (there (c .before .before .before .before .before .args .table .now) (c .before .before .before .before .before .args .count) (c .before .before .before .before .before .args .node) _)))
     ∙ ap levelBy (form-arm _ _ _ ofRows (λ (l : Label). answer (closedBy (l .form) (l .attributes))) Unambiguous _ (c .before .before .before .form-at .ensures) tt 1 tt (c .before .before .match .keys2) _ refl)
 
 returns-3 : tie.Need-returns-3
@@ -96,29 +93,28 @@ returns-9 c = ap levelBy (form-arm _ _ _ ofRows (λ (l : Label). answer (closedB
 
 returns-10 : tie.Need-returns-10
 unfolding ofAsks ofRows shapeRows firstOf
-returns-10 c = c .content-of .ensures ∙ ap levelBy (ap (into Unambiguous) (c .before .first2 .ensures ∙ ap firstOf (c .before .before .before .before .shape-at .ensures ∙ shape-is _ _ _ _ (c .before .before .before .form-at .ensures) (15 ∷ []) (c .before .before .match .keys10) 2 tt tt)) ∙ form-arm _ _ _ ofRows (λ (l : Label). answer (closedBy (l .form) (l .attributes))) Unambiguous _ (c .before .before .before .form-at .ensures) tt 9 tt (c .before .before .match .keys10) _ refl)
+returns-10 c = c .content-of .ensures ∙ ap levelBy (ap (into Unambiguous) (c .before .first-at2 .ensures ∙ ap firstOf (shape-is _ _ _ _ (c .before .before .before .form-at .ensures) (15 ∷ []) (c .before .before .match .keys10) 2 tt tt)) ∙ form-arm _ _ _ ofRows (λ (l : Label). answer (closedBy (l .form) (l .attributes))) Unambiguous _ (c .before .before .before .form-at .ensures) tt 9 tt (c .before .before .match .keys10) _ refl)
 
 returns-11 : tie.Need-returns-11
 unfolding ofAsks ofRows labelAt
 returns-11 c =
     ap Of (c .closed-of .ensures)
     ∙ ap levelBy
-    (form-rest _ _ _ ofRows (λ (l : Label). answer (closedBy (l .form) (l .attributes))) Unambiguous _ (c .before .before .form-at .ensures) (c .before .match .rest) (ends (closedBy (formIn (c .before .before .before .before .before .args .table .now) (c .before .before .before .before .before .args .count) (c .before .before .before .before .before .args .node)) (attributesAt (c .before .before .before .before .before .args .table .now) (c .before .before .before .before .before .args .node)))) (λ h k. rw (form-in (c .before .before .before .before .before .args .table .now) (c .before .before .before .before .before .args .count) (c .before .before .before .before .before .args .node) h k)) (λ n. rw (form-none (c .before .before .before .before .before .args .table .now) (c .before .before .before .before .before .args .count) (c .before .before .before .before .before .args .node) n, closed-none _)))
+    (form-rest _ _ _ ofRows (λ (l : Label). answer (closedBy (l .form) (l .attributes))) Unambiguous _ (c .before .before .form-at .ensures) (c .before .match .rest) (ends (closedBy (formIn (c .before .before .before .before .args .table .now) (c .before .before .before .before .args .count) (c .before .before .before .before .args .node)) (attributesAt (c .before .before .before .before .args .table .now) (c .before .before .before .before .args .node)))) (λ h k. rw (form-in (c .before .before .before .before .args .table .now) (c .before .before .before .before .args .count) (c .before .before .before .before .args .node) h k)) (λ n. rw (form-none (c .before .before .before .before .args .table .now) (c .before .before .before .before .args .count) (c .before .before .before .before .args .node) n, closed-none _)))
 
 pub level-at-spec : {M : Type 1} → statement M
 level-at-spec =
     tie.close
     (tie.spec
-    shape-at-requires
     form-at-requires
     cell-requires
     cell-requires-2
     closure-of-requires
-    first-requires
+    first-at-requires
     jump-of-requires
     cell-requires-3
     of-binop-requires
-    first-requires-2
+    first-at-requires-2
     content-of-requires
     closed-of-requires
     returns

@@ -7,10 +7,10 @@ use Rattle.recorded.proofs.run.Statement.{statement}
 use Rattle.recorded.proofs.run.Tie as tie
 
 abbrev Inv-loop : tie.InvT-loop
-Inv-loop fd decides met₀ agreed₀ files₀ different₀ met agreed files different = different ≤ files
+Inv-loop fd kind met₀ agreed₀ files₀ different₀ met agreed files different = different ≤ files
 
 abbrev μ-loop : tie.MeasureT-loop
-μ-loop fd decides met₀ agreed₀ files₀ different₀ met agreed files different = 100_001 - files
+μ-loop fd kind met₀ agreed₀ files₀ different₀ met agreed files different = 100_001 - files
 
 loop-holds : tie.Need-loop-holds Inv-loop μ-loop
 loop-holds c = omega arith

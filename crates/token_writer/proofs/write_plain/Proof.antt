@@ -1,5 +1,4 @@
 -- `token_writer::write_plain` meets its contract. Assumes nothing.
-use mathlib.Core.Path.{_≡_}
 use native.Mathlib.Omega.{arith}
 use borrow.Author.Needs.{needs}
 use Rattle.token_writer.proofs.Replies.{codes-written}

@@ -6,7 +6,7 @@ use native.Mathlib.Omega.{arith}
 use borrow.Author.Needs.{needs}
 use lib.ListN.{length, take, drop, length-set}
 use lib.Seq.{take-suc-set}
-use Rattle.tree_file.specs.Numbers.{numbers, numbersOf}
+use Rattle.tree_file.specs.Several.{numbers, numbersOf}
 use Rattle.tree_file.proofs.Several.{number-bad, numbers-next, numbers-stop}
 use Rattle.tree_file.proofs.read_body.Statement.{statement}
 use Rattle.tree_file.proofs.read_body.Tie as tie

@@ -2,7 +2,7 @@
 use mathlib.Core.Path.{_≡_, refl, sym, _∙_}
 use mathlib.Core.List.{[]}
 use native.Mathlib.Omega.{arith}
-use Rattle.tree_file.specs.Numbers.{numbersOf}
+use Rattle.tree_file.specs.Several.{numbersOf}
 use Rattle.tree_file.specs.Files.{header}
 use Rattle.tree_file.proofs.Several.{number-bad, numbers-next, numbers-stop}
 use borrow.Author.Needs.{needs}

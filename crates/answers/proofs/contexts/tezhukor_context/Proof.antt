@@ -2,7 +2,8 @@
 use mathlib.Core.Path.{ap₂, _∙_}
 use Rattle.precedence.specs.declared.Precedence.{Precedence}
 use Rattle.fixup.specs.declared.context.FixupContext.{FixupContext}
-use Rattle.answers.specs.Questions.{isYes, contextAnswered}
+use Rattle.cells.specs.CellQuestions.{contextAnswered}
+use Rattle.answers.specs.Answers.{isYes}
 use borrow.Author.Needs.{needs}
 use Rattle.answers.proofs.contexts.tezhukor_context.Statement.{statement}
 use Rattle.answers.proofs.contexts.tezhukor_context.Tie as tie

@@ -1,7 +1,7 @@
 -- `answers::handed::tezhukor_handed` meets its contract. Assumes nothing.
 use mathlib.Core.Path.{ap, _∙_}
 use Rattle.fixup.specs.declared.context.FixupContext.{FixupContext}
-use Rattle.answers.specs.Questions.{handedAnswered}
+use Rattle.cells.specs.CellQuestions.{handedAnswered}
 use Rattle.tree.specs.Trees.{treeAt}
 use borrow.Author.Needs.{needs}
 use Rattle.answers.proofs.handed.tezhukor_handed.Statement.{statement}

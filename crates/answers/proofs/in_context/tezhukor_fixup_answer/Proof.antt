@@ -1,7 +1,7 @@
 -- `answers::in_context::tezhukor_fixup_answer` meets its contract. Assumes nothing.
 use mathlib.Core.Path.{ap, _∙_}
 use Rattle.fixup.specs.declared.context.FixupContext.{FixupContext}
-use Rattle.answers.specs.Questions.{fixupAnswered}
+use Rattle.questions.specs.Questions.{fixupAnswered}
 use Rattle.tree.specs.Trees.{treeAt}
 use borrow.Author.Needs.{needs}
 use Rattle.answers.proofs.in_context.tezhukor_fixup_answer.Statement.{statement}

@@ -4,7 +4,7 @@ use Rattle.tree.specs.Trees.{treeAt}
 use Rattle.precedence.specs.declared.Precedence.{Precedence}
 use Rattle.fixup.specs.declared.context.FixupContext.{FixupContext}
 use Rattle.scan.specs.Scans.{scanNumber}
-use Rattle.answers.specs.Questions.{scanAnswered}
+use Rattle.answers.specs.Answers.{scanAnswered}
 use borrow.Author.Needs.{needs}
 use Rattle.answers.proofs.in_context.tezhukor_scan_right.Statement.{statement}
 use Rattle.answers.proofs.in_context.tezhukor_scan_right.Tie as tie

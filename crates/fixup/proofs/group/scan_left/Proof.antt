@@ -14,9 +14,6 @@ use borrow.Author.Needs.{needs}
 use Rattle.fixup.proofs.group.scan_left.Statement.{statement}
 use Rattle.fixup.proofs.group.scan_left.Tie as tie
 
-shape-at-requires : tie.Need-shape-at-requires
-shape-at-requires c κs = search needs
-
 form-at-requires : tie.Need-form-at-requires
 form-at-requires c κs = search needs
 
@@ -35,8 +32,8 @@ left-of-binary-requires c κs = search needs
 is-below-requires : tie.Need-is-below-requires
 is-below-requires c κs = search needs
 
-first-requires : tie.Need-first-requires
-first-requires c κs = search needs
+first-at-requires : tie.Need-first-at-requires
+first-at-requires c κs = search needs
 
 is-absent-requires : tie.Need-is-absent-requires
 is-absent-requires c κs = search needs
@@ -49,39 +46,38 @@ either-requires c κs = search needs
 
 returns : tie.Need-returns
 unfolding scanLeft scanLeftRows
-returns c = c .is-at-most .ensures ∙ root-arm _ _ _ (scanLeftRows (c .before .before .before .before .before .args .fixup)) true _ (c .before .before .form-at .ensures) tt 0 tt (c .before .match .keys1)
+returns c = c .is-at-most .ensures ∙ root-arm _ _ _ (scanLeftRows (c .before .before .before .before .args .fixup)) true _ (c .before .before .form-at .ensures) tt 0 tt (c .before .match .keys1)
 
 returns-2 : tie.Need-returns-2
 unfolding scanLeft scanLeftRows labelAt
-returns-2 c = c .left-of-binary .ensures ∙ ap (leftOfBinary (c .before .before .before .before .before .before .before .args .fixup .«previous_operator»)) (c .before .of-binop .ensures ∙ ap ofBinop (c .before .before .cell .ensures)) ∙ root-arm _ _ _ (scanLeftRows (c .before .before .before .before .before .before .before .args .fixup)) true _ (c .before .before .before .before .form-at .ensures) tt 1 tt (c .before .before .before .match .keys2)
+returns-2 c = c .left-of-binary .ensures ∙ ap (leftOfBinary (c .before .before .before .before .before .before .args .fixup .«previous_operator»)) (c .before .of-binop .ensures ∙ ap ofBinop (c .before .before .cell .ensures)) ∙ root-arm _ _ _ (scanLeftRows (c .before .before .before .before .before .before .args .fixup)) true _ (c .before .before .before .before .form-at .ensures) tt 1 tt (c .before .before .before .match .keys2)
 
 returns-3 : tie.Need-returns-3
 unfolding scanLeft scanLeftRows
-returns-3 c = c .is-below .ensures ∙ root-arm _ _ _ (scanLeftRows (c .before .before .before .before .before .args .fixup)) true _ (c .before .before .form-at .ensures) tt 2 tt (c .before .match .keys3)
+returns-3 c = c .is-below .ensures ∙ root-arm _ _ _ (scanLeftRows (c .before .before .before .before .args .fixup)) true _ (c .before .before .form-at .ensures) tt 2 tt (c .before .match .keys3)
 
 returns-4 : tie.Need-returns-4
 unfolding scanLeft scanLeftRows shapeRows firstOf
 returns-4 c =
     c .either .ensures
-    ∙ ap₂ _||_ (c .before .before .is-absent .ensures ∙ ap (λ (p : Operand). not (isPresent p)) (c .before .before .before .first .ensures ∙ ap firstOf (c .before .before .before .before .before .before .shape-at .ensures ∙ shape-is _ _ _ _ (c .before .before .before .before .before .form-at .ensures) (27 ∷ []) (c .before .before .before .before .match .keys4) 0 tt tt)) ∙ ap not (sym (there (c .before .before .before .before .before .before .before .before .args .table .now) (c .before .before .before .before .before .before .before .before .args .count) (c .before .before .before .before .before .before .before .before .args .node) _))) (c .before .is-below2 .ensures)
-    ∙ root-arm _ _ _ (scanLeftRows (c .before .before .before .before .before .before .before .before .args .fixup)) true _ (c .before .before .before .before .before .form-at .ensures) tt 3 tt (c .before .before .before .before .match .keys4)
+    ∙ ap₂ _||_ (c .before .before .is-absent .ensures ∙ ap (λ (p : Operand). not (isPresent p)) (c .before .before .before .first-at .ensures ∙ ap firstOf (shape-is _ _ _ _ (c .before .before .before .before .before .form-at .ensures) (27 ∷ []) (c .before .before .before .before .match .keys4) 0 tt tt)) ∙ ap not (sym (there (c .before .before .before .before .before .before .before .args .table .now) (c .before .before .before .before .before .before .before .args .count) (c .before .before .before .before .before .before .before .args .node) _))) (c .before .is-below2 .ensures)
+    ∙ root-arm _ _ _ (scanLeftRows (c .before .before .before .before .before .before .before .args .fixup)) true _ (c .before .before .before .before .before .form-at .ensures) tt 3 tt (c .before .before .before .before .match .keys4)
 
 returns-5 : tie.Need-returns-5
 unfolding scanLeft scanLeftRows
-returns-5 c = root-rest _ _ _ (scanLeftRows (c .before .before .before .before .args .fixup)) true _ (c .before .form-at .ensures) (c .match .rest)
+returns-5 c = root-rest _ _ _ (scanLeftRows (c .before .before .before .args .fixup)) true _ (c .before .form-at .ensures) (c .match .rest)
 
 pub scan-left-spec : {M : Type 1} → statement M
 scan-left-spec =
     tie.close
     (tie.spec
-    shape-at-requires
     form-at-requires
     is-at-most-requires
     cell-requires
     of-binop-requires
     left-of-binary-requires
     is-below-requires
-    first-requires
+    first-at-requires
     is-absent-requires
     is-below-requires-2
     either-requires

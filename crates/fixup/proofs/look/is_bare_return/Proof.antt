@@ -12,21 +12,18 @@ use borrow.Author.Needs.{needs}
 use Rattle.fixup.proofs.look.is_bare_return.Statement.{statement}
 use Rattle.fixup.proofs.look.is_bare_return.Tie as tie
 
-shape-at-requires : tie.Need-shape-at-requires
-shape-at-requires c κs = search needs
-
 form-at-requires : tie.Need-form-at-requires
 form-at-requires c κs = search needs
 
-first-requires : tie.Need-first-requires
-first-requires c κs = search needs
+first-at-requires : tie.Need-first-at-requires
+first-at-requires c κs = search needs
 
 is-absent-requires : tie.Need-is-absent-requires
 is-absent-requires c κs = search needs
 
 returns : tie.Need-returns
 unfolding bareReturnRows shapeRows firstOf
-returns c = c .is-absent .ensures ∙ ap (λ (p : Operand). not (isPresent p)) (c .before .first .ensures ∙ ap firstOf (c .before .before .before .before .shape-at .ensures ∙ shape-is _ _ _ _ (c .before .before .before .form-at .ensures) (31 ∷ 40 ∷ []) (c .before .before .match .keys1) 2 tt tt)) ∙ ap not (sym (there (c .before .before .before .before .before .before .args .table .now) (c .before .before .before .before .before .before .args .count) (c .before .before .before .before .before .before .args .node) _)) ∙ root-arm _ _ _ bareReturnRows false _ (c .before .before .before .form-at .ensures) tt 0 tt (c .before .before .match .keys1)
+returns c = c .is-absent .ensures ∙ ap (λ (p : Operand). not (isPresent p)) (c .before .first-at .ensures ∙ ap firstOf (shape-is _ _ _ _ (c .before .before .before .form-at .ensures) (31 ∷ 40 ∷ []) (c .before .before .match .keys1) 2 tt tt)) ∙ ap not (sym (there (c .before .before .before .before .before .args .table .now) (c .before .before .before .before .before .args .count) (c .before .before .before .before .before .args .node) _)) ∙ root-arm _ _ _ bareReturnRows false _ (c .before .before .before .form-at .ensures) tt 0 tt (c .before .before .match .keys1)
 
 returns-2 : tie.Need-returns-2
 unfolding bareReturnRows
@@ -36,9 +33,8 @@ pub is-bare-return-spec : {M : Type 1} → statement M
 is-bare-return-spec =
     tie.close
     (tie.spec
-    shape-at-requires
     form-at-requires
-    first-requires
+    first-at-requires
     is-absent-requires
     returns
     returns-2)

@@ -13,21 +13,18 @@ use borrow.Author.Needs.{needs}
 use Rattle.fixup.proofs.look.is_cast_to_path.Statement.{statement}
 use Rattle.fixup.proofs.look.is_cast_to_path.Tie as tie
 
-shape-at-requires : tie.Need-shape-at-requires
-shape-at-requires c κs = search needs
-
 form-at-requires : tie.Need-form-at-requires
 form-at-requires c κs = search needs
 
-second-requires : tie.Need-second-requires
-second-requires c κs = search needs
+second-at-requires : tie.Need-second-at-requires
+second-at-requires c κs = search needs
 
 ends-in-path-requires : tie.Need-ends-in-path-requires
 ends-in-path-requires c κs = search needs
 
 returns : tie.Need-returns
 unfolding castToPathRows shapeRows secondOf
-returns c = c .ends-in-path .ensures ∙ ap (λ (p : Operand). trailingPath (treeOf (c .before .before .before .before .before .before .args .table .now) (c .before .before .before .before .before .before .args .count) p)) (c .before .second .ensures ∙ ap secondOf (c .before .before .before .before .shape-at .ensures ∙ shape-is _ _ _ _ (c .before .before .before .form-at .ensures) (9 ∷ []) (c .before .before .match .keys1) 1 tt tt)) ∙ ap trailingPath (tree-of _ _ _) ∙ root-arm _ _ _ castToPathRows false _ (c .before .before .before .form-at .ensures) tt 0 tt (c .before .before .match .keys1)
+returns c = c .ends-in-path .ensures ∙ ap (λ (p : Operand). trailingPath (treeOf (c .before .before .before .before .before .args .table .now) (c .before .before .before .before .before .args .count) p)) (c .before .second-at .ensures ∙ ap secondOf (shape-is _ _ _ _ (c .before .before .before .form-at .ensures) (9 ∷ []) (c .before .before .match .keys1) 1 tt tt)) ∙ ap trailingPath (tree-of _ _ _) ∙ root-arm _ _ _ castToPathRows false _ (c .before .before .before .form-at .ensures) tt 0 tt (c .before .before .match .keys1)
 
 returns-2 : tie.Need-returns-2
 unfolding castToPathRows
@@ -37,9 +34,8 @@ pub is-cast-to-path-spec : {M : Type 1} → statement M
 is-cast-to-path-spec =
     tie.close
     (tie.spec
-    shape-at-requires
     form-at-requires
-    second-requires
+    second-at-requires
     ends-in-path-requires
     returns
     returns-2)

@@ -12,14 +12,11 @@ use borrow.Author.Needs.{needs}
 use Rattle.fixup.proofs.look.is_open_ahead.Statement.{statement}
 use Rattle.fixup.proofs.look.is_open_ahead.Tie as tie
 
-shape-at-requires : tie.Need-shape-at-requires
-shape-at-requires c κs = search needs
-
 form-at-requires : tie.Need-form-at-requires
 form-at-requires c κs = search needs
 
-first-requires : tie.Need-first-requires
-first-requires c κs = search needs
+first-at-requires : tie.Need-first-at-requires
+first-at-requires c κs = search needs
 
 is-absent-requires : tie.Need-is-absent-requires
 is-absent-requires c κs = search needs
@@ -30,7 +27,7 @@ returns c = root-arm _ _ _ openAheadRows false _ (c .before .form-at .ensures) t
 
 returns-2 : tie.Need-returns-2
 unfolding openAheadRows shapeRows firstOf
-returns-2 c = c .is-absent .ensures ∙ ap (λ (p : Operand). not (isPresent p)) (c .before .first .ensures ∙ ap firstOf (c .before .before .before .before .shape-at .ensures ∙ shape-is _ _ _ _ (c .before .before .before .form-at .ensures) (27 ∷ []) (c .before .before .match .keys2) 0 tt tt)) ∙ ap not (sym (there (c .before .before .before .before .before .before .args .table .now) (c .before .before .before .before .before .before .args .count) (c .before .before .before .before .before .before .args .node) _)) ∙ root-arm _ _ _ openAheadRows false _ (c .before .before .before .form-at .ensures) tt 1 tt (c .before .before .match .keys2)
+returns-2 c = c .is-absent .ensures ∙ ap (λ (p : Operand). not (isPresent p)) (c .before .first-at .ensures ∙ ap firstOf (shape-is _ _ _ _ (c .before .before .before .form-at .ensures) (27 ∷ []) (c .before .before .match .keys2) 0 tt tt)) ∙ ap not (sym (there (c .before .before .before .before .before .args .table .now) (c .before .before .before .before .before .args .count) (c .before .before .before .before .before .args .node) _)) ∙ root-arm _ _ _ openAheadRows false _ (c .before .before .before .form-at .ensures) tt 1 tt (c .before .before .match .keys2)
 
 returns-3 : tie.Need-returns-3
 unfolding openAheadRows
@@ -40,9 +37,8 @@ pub is-open-ahead-spec : {M : Type 1} → statement M
 is-open-ahead-spec =
     tie.close
     (tie.spec
-    shape-at-requires
     form-at-requires
-    first-requires
+    first-at-requires
     is-absent-requires
     returns
     returns-2

@@ -12,27 +12,24 @@ use borrow.Author.Needs.{needs}
 use Rattle.fixup.proofs.look.is_open_ended.Statement.{statement}
 use Rattle.fixup.proofs.look.is_open_ended.Tie as tie
 
-shape-at-requires : tie.Need-shape-at-requires
-shape-at-requires c κs = search needs
-
 form-at-requires : tie.Need-form-at-requires
 form-at-requires c κs = search needs
 
-first-requires : tie.Need-first-requires
-first-requires c κs = search needs
+first-at-requires : tie.Need-first-at-requires
+first-at-requires c κs = search needs
 
 is-absent-requires : tie.Need-is-absent-requires
 is-absent-requires c κs = search needs
 
-second-requires : tie.Need-second-requires
-second-requires c κs = search needs
+second-at-requires : tie.Need-second-at-requires
+second-at-requires c κs = search needs
 
 is-absent-requires-2 : tie.Need-is-absent-requires-2
 is-absent-requires-2 c κs = search needs
 
 returns : tie.Need-returns
 unfolding openEndedRows shapeRows firstOf
-returns c = c .is-absent .ensures ∙ ap (λ (p : Operand). not (isPresent p)) (c .before .first .ensures ∙ ap firstOf (c .before .before .before .before .shape-at .ensures ∙ shape-is _ _ _ _ (c .before .before .before .form-at .ensures) (7 ∷ []) (c .before .before .match .keys1) 2 tt tt)) ∙ ap not (sym (there (c .before .before .before .before .before .before .args .table .now) (c .before .before .before .before .before .before .args .count) (c .before .before .before .before .before .before .args .node) _)) ∙ root-arm _ _ _ openEndedRows false _ (c .before .before .before .form-at .ensures) tt 0 tt (c .before .before .match .keys1)
+returns c = c .is-absent .ensures ∙ ap (λ (p : Operand). not (isPresent p)) (c .before .first-at .ensures ∙ ap firstOf (shape-is _ _ _ _ (c .before .before .before .form-at .ensures) (7 ∷ []) (c .before .before .match .keys1) 2 tt tt)) ∙ ap not (sym (there (c .before .before .before .before .before .args .table .now) (c .before .before .before .before .before .args .count) (c .before .before .before .before .before .args .node) _)) ∙ root-arm _ _ _ openEndedRows false _ (c .before .before .before .form-at .ensures) tt 0 tt (c .before .before .match .keys1)
 
 returns-2 : tie.Need-returns-2
 unfolding openEndedRows
@@ -40,7 +37,7 @@ returns-2 c = root-arm _ _ _ openEndedRows false _ (c .before .form-at .ensures)
 
 returns-3 : tie.Need-returns-3
 unfolding openEndedRows shapeRows secondOf
-returns-3 c = c .is-absent2 .ensures ∙ ap (λ (p : Operand). not (isPresent p)) (c .before .second .ensures ∙ ap secondOf (c .before .before .before .before .shape-at .ensures ∙ shape-is _ _ _ _ (c .before .before .before .form-at .ensures) (27 ∷ []) (c .before .before .match .keys3) 0 tt tt)) ∙ ap not (sym (there (c .before .before .before .before .before .before .args .table .now) (c .before .before .before .before .before .before .args .count) (c .before .before .before .before .before .before .args .node) _)) ∙ root-arm _ _ _ openEndedRows false _ (c .before .before .before .form-at .ensures) tt 2 tt (c .before .before .match .keys3)
+returns-3 c = c .is-absent2 .ensures ∙ ap (λ (p : Operand). not (isPresent p)) (c .before .second-at .ensures ∙ ap secondOf (shape-is _ _ _ _ (c .before .before .before .form-at .ensures) (27 ∷ []) (c .before .before .match .keys3) 0 tt tt)) ∙ ap not (sym (there (c .before .before .before .before .before .args .table .now) (c .before .before .before .before .before .args .count) (c .before .before .before .before .before .args .node) _)) ∙ root-arm _ _ _ openEndedRows false _ (c .before .before .before .form-at .ensures) tt 2 tt (c .before .before .match .keys3)
 
 returns-4 : tie.Need-returns-4
 unfolding openEndedRows
@@ -50,11 +47,10 @@ pub is-open-ended-spec : {M : Type 1} → statement M
 is-open-ended-spec =
     tie.close
     (tie.spec
-    shape-at-requires
     form-at-requires
-    first-requires
+    first-at-requires
     is-absent-requires
-    second-requires
+    second-at-requires
     is-absent-requires-2
     returns
     returns-2

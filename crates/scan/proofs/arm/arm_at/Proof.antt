@@ -19,9 +19,6 @@ use borrow.Author.Needs.{needs}
 use Rattle.scan.proofs.arm.arm_at.Statement.{statement}
 use Rattle.scan.proofs.arm.arm_at.Tie as tie
 
-shape-at-requires : tie.Need-shape-at-requires
-shape-at-requires c κs = search needs
-
 form-at-requires : tie.Need-form-at-requires
 form-at-requires c κs = search needs
 
@@ -52,8 +49,8 @@ plain-requires-3 c κs = search needs
 cell-requires-5 : tie.Need-cell-requires-5
 cell-requires-5 c κs = search needs
 
-first-requires : tie.Need-first-requires
-first-requires c κs = search needs
+first-at-requires : tie.Need-first-at-requires
+first-at-requires c κs = search needs
 
 leading-label-requires : tie.Need-leading-label-requires
 leading-label-requires c κs = search needs
@@ -89,7 +86,7 @@ returns-6 c =
     ∙ ap₂ (λ (d : ℕ) (b : Bool). eqb d 0 && b)
     (c .before .before .before .cell5 .ensures)
     (c .before .leading-label .ensures
-    ∙ ap (λ (p : Operand). leadingLabel (treeOf (c .before .before .before .before .before .before .before .before .args .table .now) (c .before .before .before .before .before .before .before .before .args .count) p)) (c .before .before .first .ensures ∙ ap firstOf (c .before .before .before .before .before .before .shape-at .ensures ∙ shape-is _ _ _ _ (c .before .before .before .before .before .form-at .ensures) (7 ∷ []) (c .before .before .before .before .match .keys6) 2 tt tt))
+    ∙ ap (λ (p : Operand). leadingLabel (treeOf (c .before .before .before .before .before .before .before .args .table .now) (c .before .before .before .before .before .before .before .args .count) p)) (c .before .before .first-at .ensures ∙ ap firstOf (shape-is _ _ _ _ (c .before .before .before .before .before .form-at .ensures) (7 ∷ []) (c .before .before .before .before .match .keys6) 2 tt tt))
     ∙ ap leadingLabel (tree-of _ _ _)))
     ∙ root-arm _ _ _ armRows Closed _ (c .before .before .before .before .before .form-at .ensures) tt 5 tt (c .before .before .before .before .match .keys6)
 
@@ -117,7 +114,6 @@ pub arm-at-spec : {M : Type 1} → statement M
 arm-at-spec =
     tie.close
     (tie.spec
-    shape-at-requires
     form-at-requires
     cell-requires
     plain-requires
@@ -128,7 +124,7 @@ arm-at-spec =
     cell-requires-4
     plain-requires-3
     cell-requires-5
-    first-requires
+    first-at-requires
     leading-label-requires
     both-requires
     returns

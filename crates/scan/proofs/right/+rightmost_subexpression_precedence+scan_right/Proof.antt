@@ -7,7 +7,7 @@ use borrow.Fn.Kinds.{In}
 use borrow.Fn.PlainCycle.{Measures, is, falls, and}
 use Rattle.laws.proofs.Choice.{and-by}
 use Rattle.tree.specs.Trees.{treeAt}
-use Rattle.scan.proofs.Nodes.{scan-grouped, scan-leaf, operand-after, scan-early, scan-answers, scan-settles, right-unscanned, right-grouped, right-consumed}
+use Rattle.scan.proofs.Nodes.{scan-grouped, scan-leaf, operand-after, scan-early, scan-answers, scan-settles, scan-serves, right-unscanned, right-grouped, right-consumed}
 use Rattle.scan.proofs.right.rightmost_subexpression_precedence.Reads as rightmost-subexpression-precedence
 use Rattle.scan.proofs.right.rightmost_subexpression_precedence.Kinds as rightmost-subexpression-precedence-kinds
 use Rattle.scan.proofs.right.+rightmost_subexpression_precedence+scan_right.Lts-rightmost_subexpression_precedence as rightmost-subexpression-precedence-lts
@@ -23,11 +23,13 @@ use Rattle.scan.proofs.answer.consumes.Reads as consumes-reads
 use Rattle.scan.proofs.answer.is_not_consume.Reads as is-not-consume-reads
 use Rattle.scan.proofs.arm.arm_at.Reads as arm-at-reads
 use Rattle.scan.proofs.arm.operand_of.Reads as operand-of-reads
+use Rattle.scan.proofs.leave.asks_again.Reads as asks-again-reads
 use Rattle.scan.proofs.leave.leaf_scan.Reads as leaf-scan-reads
 use Rattle.scan.proofs.leave.leave_by.Reads as leave-by-reads
 use Rattle.scan.proofs.leave.settle_by.Reads as settle-by-reads
 use Rattle.scan.proofs.right.is_loose.Reads as is-loose-reads
 use Rattle.scan.proofs.right.is_scanned.Reads as is-scanned-reads
+use Rattle.scan.proofs.right.right_given.Reads as right-given-reads
 use Rattle.scan.proofs.visit.is_early.Reads as is-early-reads
 use Rattle.scan.proofs.visit.visit_of.Reads as visit-of-reads
 use Rattle.scan.proofs.right.+rightmost_subexpression_precedence+scan_right.{statement}
@@ -118,7 +120,7 @@ rightmost-subexpression-precedence-returns-3 t c =
 
 -- what the callees of this member ask and ensure
 abbrev scan-right-claims : ℕ → scan-right-lts.Claims
-scan-right-claims t = (parenthesize-reads.Asked, parenthesize-reads.Learnt, consume-by-reads.Asked, consume-by-reads.Learnt, arm-at-reads.Asked, arm-at-reads.Learnt, operand-of-reads.Asked, operand-of-reads.Learnt, leaf-scan-reads.Asked, leaf-scan-reads.Learnt, consumes-reads.Asked, consumes-reads.Learnt, is-early-reads.Asked, is-early-reads.Learnt, visit-of-reads.Asked, visit-of-reads.Learnt, scan-right-below t, scan-right.Post, leave-by-reads.Asked, leave-by-reads.Learnt, rightmost-subexpression-precedence-below t, rightmost-subexpression-precedence.Post, settle-by-reads.Asked, settle-by-reads.Learnt)
+scan-right-claims t = (parenthesize-reads.Asked, parenthesize-reads.Learnt, consume-by-reads.Asked, consume-by-reads.Learnt, arm-at-reads.Asked, arm-at-reads.Learnt, operand-of-reads.Asked, operand-of-reads.Learnt, leaf-scan-reads.Asked, leaf-scan-reads.Learnt, consumes-reads.Asked, consumes-reads.Learnt, is-early-reads.Asked, is-early-reads.Learnt, visit-of-reads.Asked, visit-of-reads.Learnt, scan-right-below t, scan-right.Post, leave-by-reads.Asked, leave-by-reads.Learnt, asks-again-reads.Asked, asks-again-reads.Learnt, rightmost-subexpression-precedence-below t, rightmost-subexpression-precedence.Post, settle-by-reads.Asked, settle-by-reads.Learnt, right-given-reads.Asked, right-given-reads.Learnt)
 
 scan-right-parenthesize-requires : (t : ℕ) → scan-right-lts.Need-parenthesize-requires (scan-right-claims t) (scan-right-at t) scan-right.Post
 scan-right-parenthesize-requires t c κs = search needs
@@ -185,11 +187,14 @@ scan-right-enum-known-leave t c = search needs
 scan-right-enum-told-2 : (t : ℕ) → scan-right-lts.Need-enum-told-2 (scan-right-claims t) (scan-right-at t) scan-right.Post
 scan-right-enum-told-2 t c = search needs
 
+scan-right-asks-again-requires : (t : ℕ) → scan-right-lts.Need-asks-again-requires (scan-right-claims t) (scan-right-at t) scan-right.Post
+scan-right-asks-again-requires t c κs = search needs
+
 scan-right-rightmost-subexpression-precedence-requires : (t : ℕ) → scan-right-lts.Need-rightmost-subexpression-precedence-requires (scan-right-claims t) (scan-right-at t) scan-right.Post
 scan-right-rightmost-subexpression-precedence-requires t c κs =
-    let s = c .before .before .before .before .before .before .before .before .before .before .before .before .before .before .before .before .before in
+    let s = c .before .before .before .before .before .before .before .before .before .before .before .before .before .before .before .before .before .before .before in
     let a = s .args in
-    let w = operand-after (a .table .now) (a .count) (a .node) (a .fixup) (a .precedence) (a .fail-offset) (a .bailout-offset) (sym (c .before .before .before .before .before .before .before .before .before .before .before .before .before .before .before .parenthesize .ensures) ∙ c .before .before .before .before .before .before .before .before .before .before .before .before .before .before .if1 .left) _ (c .before .before .before .before .before .before .before .before .before .before .before .before .before .arm-at .ensures) _ (sym (c .before .before .before .before .before .before .before .before .before .before .before .before .operand-of .ensures) ∙ c .before .before .before .before .before .before .before .before .before .before .operand .given .1) in
+    let w = operand-after (a .table .now) (a .count) (a .node) (a .fixup) (a .precedence) (a .fail-offset) (a .bailout-offset) (sym (c .before .before .before .before .before .before .before .before .before .before .before .before .before .before .before .before .before .parenthesize .ensures) ∙ c .before .before .before .before .before .before .before .before .before .before .before .before .before .before .before .before .if1 .left) _ (c .before .before .before .before .before .before .before .before .before .before .before .before .before .before .before .arm-at .ensures) _ (sym (c .before .before .before .before .before .before .before .before .before .before .before .before .before .before .operand-of .ensures) ∙ c .before .before .before .before .before .before .before .before .before .before .before .before .operand .given .1) in
     let m = s .pre .0 in
     (omega arith, search needs)
 
@@ -198,15 +203,27 @@ scan-right-settle-by-requires t c κs = search needs
 
 scan-right-returns-4 : (t : ℕ) → scan-right-lts.Need-returns-4 (scan-right-claims t) (scan-right-at t) scan-right.Post
 scan-right-returns-4 t c =
+    let s = c .before .before .before .before .before .before .before .before .before .before .before .before .before .before .before .before .before .before .before .before .before in
+    let a = s .args in
+    c .settle-by .ensures ∙ sym (scan-settles (a .table .now) (a .count) (a .node) (a .fixup) (a .precedence) (a .fail-offset) (a .bailout-offset) (sym (c .before .before .before .before .before .before .before .before .before .before .before .before .before .before .before .before .before .before .before .parenthesize .ensures) ∙ c .before .before .before .before .before .before .before .before .before .before .before .before .before .before .before .before .before .before .if1 .left) _ (c .before .before .before .before .before .before .before .before .before .before .before .before .before .before .before .before .before .arm-at .ensures) _ (sym (c .before .before .before .before .before .before .before .before .before .before .before .before .before .before .before .before .operand-of .ensures) ∙ c .before .before .before .before .before .before .before .before .before .before .before .before .before .before .operand .given .1) (rw (← c .before .before .before .before .before .before .before .before .before .before .before .before .consumes .ensures) (sym (c .before .before .before .before .before .before .before .before .before .before .before .is-early .ensures) ∙ c .before .before .before .before .before .before .before .before .before .before .if2 .left)) _ (c .before .before .before .before .before .before .before .before .before .visit-of .ensures) _ (c .before .before .before .before .before .before .before .scan-right .ensures) _ (c .before .before .before .before .before .before .leave-by .ensures) (c .before .before .before .before .enum-told2 .given .1) _ (c .before .rightmost-subexpression-precedence .ensures))
+
+scan-right-right-given-requires : (t : ℕ) → scan-right-lts.Need-right-given-requires (scan-right-claims t) (scan-right-at t) scan-right.Post
+scan-right-right-given-requires t c κs = search needs
+
+scan-right-settle-by-requires-2 : (t : ℕ) → scan-right-lts.Need-settle-by-requires-2 (scan-right-claims t) (scan-right-at t) scan-right.Post
+scan-right-settle-by-requires-2 t c κs = search needs
+
+scan-right-returns-5 : (t : ℕ) → scan-right-lts.Need-returns-5 (scan-right-claims t) (scan-right-at t) scan-right.Post
+scan-right-returns-5 t c =
     let s = c .before .before .before .before .before .before .before .before .before .before .before .before .before .before .before .before .before .before in
     let a = s .args in
     sym (scan-answers (a .table .now) (a .count) (a .node) (a .fixup) (a .precedence) (a .fail-offset) (a .bailout-offset) (sym (c .before .before .before .before .before .before .before .before .before .before .before .before .before .before .before .before .parenthesize .ensures) ∙ c .before .before .before .before .before .before .before .before .before .before .before .before .before .before .before .if1 .left) _ (c .before .before .before .before .before .before .before .before .before .before .before .before .before .before .arm-at .ensures) _ (sym (c .before .before .before .before .before .before .before .before .before .before .before .before .before .operand-of .ensures) ∙ c .before .before .before .before .before .before .before .before .before .before .before .operand .given .1) (rw (← c .before .before .before .before .before .before .before .before .before .consumes .ensures) (sym (c .before .before .before .before .before .before .before .before .is-early .ensures) ∙ c .before .before .before .before .before .before .before .if2 .left)) _ (c .before .before .before .before .before .before .visit-of .ensures) _ (c .before .before .before .before .scan-right .ensures) _ (c .before .before .before .leave-by .ensures) _ (c .before .leave .given .1))
 
-scan-right-returns-5 : (t : ℕ) → scan-right-lts.Need-returns-5 (scan-right-claims t) (scan-right-at t) scan-right.Post
-scan-right-returns-5 t c =
-    let s = c .before .before .before .before .before .before .before .before .before .before .before .before .before .before .before .before .before .before .before in
+scan-right-returns-6 : (t : ℕ) → scan-right-lts.Need-returns-6 (scan-right-claims t) (scan-right-at t) scan-right.Post
+scan-right-returns-6 t c =
+    let s = c .before .before .before .before .before .before .before .before .before .before .before .before .before .before .before .before .before .before .before .before .before in
     let a = s .args in
-    c .settle-by .ensures ∙ sym (scan-settles (a .table .now) (a .count) (a .node) (a .fixup) (a .precedence) (a .fail-offset) (a .bailout-offset) (sym (c .before .before .before .before .before .before .before .before .before .before .before .before .before .before .before .before .before .parenthesize .ensures) ∙ c .before .before .before .before .before .before .before .before .before .before .before .before .before .before .before .before .if1 .left) _ (c .before .before .before .before .before .before .before .before .before .before .before .before .before .before .before .arm-at .ensures) _ (sym (c .before .before .before .before .before .before .before .before .before .before .before .before .before .before .operand-of .ensures) ∙ c .before .before .before .before .before .before .before .before .before .before .before .before .operand .given .1) (rw (← c .before .before .before .before .before .before .before .before .before .before .consumes .ensures) (sym (c .before .before .before .before .before .before .before .before .before .is-early .ensures) ∙ c .before .before .before .before .before .before .before .before .if2 .left)) _ (c .before .before .before .before .before .before .before .visit-of .ensures) _ (c .before .before .before .before .before .scan-right .ensures) _ (c .before .before .before .before .leave-by .ensures) (c .before .before .enum-told2 .given .1) _ (c .before .rightmost-subexpression-precedence .ensures))
+    c .settle-by2 .ensures ∙ sym (scan-serves (a .table .now) (a .count) (a .node) (a .fixup) (a .precedence) (a .fail-offset) (a .bailout-offset) (sym (c .before .before .before .before .before .before .before .before .before .before .before .before .before .before .before .before .before .before .before .parenthesize .ensures) ∙ c .before .before .before .before .before .before .before .before .before .before .before .before .before .before .before .before .before .before .if1 .left) _ (c .before .before .before .before .before .before .before .before .before .before .before .before .before .before .before .before .before .arm-at .ensures) _ (sym (c .before .before .before .before .before .before .before .before .before .before .before .before .before .before .before .before .operand-of .ensures) ∙ c .before .before .before .before .before .before .before .before .before .before .before .before .before .before .operand .given .1) (rw (← c .before .before .before .before .before .before .before .before .before .before .before .before .consumes .ensures) (sym (c .before .before .before .before .before .before .before .before .before .before .before .is-early .ensures) ∙ c .before .before .before .before .before .before .before .before .before .before .if2 .left)) _ (c .before .before .before .before .before .before .before .before .before .visit-of .ensures) _ (c .before .before .before .before .before .before .before .scan-right .ensures) _ (c .before .before .before .before .before .before .leave-by .ensures) (c .before .before .before .before .enum-told2 .given .1) (sym (c .before .before .before .asks-again .ensures) ∙ c .before .before .if3 .left) _ (c .before .right-given .ensures))
 
 pub +rightmost-subexpression-precedence+scan-right-spec : {M : Type 1} → statement M
 +rightmost-subexpression-precedence+scan-right-spec =
@@ -247,7 +264,11 @@ pub +rightmost-subexpression-precedence+scan-right-spec : {M : Type 1} → state
     (scan-right-leave-by-requires t)
     (scan-right-enum-known-leave t)
     (scan-right-enum-told-2 t)
+    (scan-right-asks-again-requires t)
     (scan-right-rightmost-subexpression-precedence-requires t)
     (scan-right-settle-by-requires t)
     (scan-right-returns-4 t)
+    (scan-right-right-given-requires t)
+    (scan-right-settle-by-requires-2 t)
     (scan-right-returns-5 t)
+    (scan-right-returns-6 t)

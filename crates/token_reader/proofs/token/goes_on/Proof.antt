@@ -1,12 +1,12 @@
 -- `token_reader::token::goes_on` meets its contract. Assumes nothing.
-use mathlib.Core.Path.{_≡_, refl, sym, ap, _∙_}
-use mathlib.Core.Bool.{Bool, true, false, not, _&&_}
+use mathlib.Core.Path.{_≡_}
+use mathlib.Core.Bool.{Bool, false, not, _&&_}
 use Prim.Native.Nat.{ℕ, _≤_, _<_}
 use native.Mathlib.Omega.{arith}
 use lib.Dec.{leb}
 use borrow.Author.Needs.{needs}
 use borrow.Author.Tests.{lt-leb, le-leb}
-use Rattle.token_reader.specs.Tables.{levelOf, beforeOf, barred, goesOnBy}
+use Rattle.token_reader.specs.Tables.{beforeOf, goesOnBy}
 use Rattle.token_reader.proofs.token.goes_on.Statement.{statement}
 use Rattle.token_reader.proofs.token.goes_on.Tie as tie
 

@@ -1,10 +1,9 @@
 -- The reader of types meets its contracts: with each call there are fewer tokens left to read. Assumes nothing.
-use mathlib.Core.Path.{_≡_, refl, sym, ap, _∙_}
-use Prim.Native.Nat.{ℕ, _+_, _*_, _-_, _≤_, _<_}
+use mathlib.Core.Path.{refl, sym, ap, _∙_}
+use Prim.Native.Nat.{ℕ, _+_, _*_, _-_, _<_}
 use native.Mathlib.Omega.{arith}
 use lib.ListN.{length}
 use borrow.Author.Needs.{needs}
-use Rattle.laws.specs.Choice.{pick, lookup}
 use Rattle.laws.proofs.Keys.{arm, rest}
 use Rattle.grammar.specs.Types.{constPtr, mutPtr, sharedRef, mutRef, infer, never}
 use Rattle.grammar.specs.Parser.{noType, typeStartRows, typeStartBy}

@@ -20,7 +20,7 @@ unfolding refusal refusal3
 returns-2 c = sym (skip _ _ (le-ltb _ _ (c .before .before .if1 .left)) ∙ stop _ _ (sym (c .before .is-bad-count .ensures) ∙ c .if2 .taken))
 
 check-nodes-requires : tie.Need-check-nodes-requires
-check-nodes-requires c κs = count-fits _ _ (sym (c .before .is-bad-count .ensures) ∙ c .if2 .left) .1
+check-nodes-requires c κs = count-fits _ _ (sym (c .before .is-bad-count .ensures) ∙ c .if2 .left)
 
 returns-3 : tie.Need-returns-3
 unfolding refusal refusal3

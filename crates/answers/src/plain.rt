@@ -1,0 +1,30 @@
+// The tokens of plain trees, and the readings of token lists. An answer is the refusal times 65,536, or the count of what was stored.
+use token_reader::Reply;
+use token_writer::Written;
+ghost use mathlib.Core.Path.{_≡_};
+ghost use lib.ListN.{length};
+ghost use Rattle.token_writer.specs.Writes.{answered, tokensAfter};
+ghost use Rattle.answers.specs.Plain.{writtenNumber, ReadNumber};
+
+// token_writer::write.
+#[no_mangle]
+pub extern "C" fn tezhukor_write(context: u16, count: u16, table: &[u16], tokens: &mut [u16]) -> u32
+    ensures reply { λ r. ⌜ r ≡ writtenNumber (answered context count (now (table .entry)) (length (now (tokens .entry)))) ⌝ }
+    ensures tokens { λ r. ⌜ now (tokens .exit) ≡ tokensAfter context count (now (table .entry)) (now (tokens .entry)) ⌝ }
+{
+    match token_writer::write(context, count, table, tokens) {
+        Written::Refused(refusal) => 65536 * (refusal as u32),
+        Written::Tokens(stored) => stored as u32,
+    }
+}
+
+// token_reader::read.
+#[no_mangle]
+pub extern "C" fn tezhukor_read(tokens: &[u16], table: &mut [u16]) -> u32
+    ensures { λ r. ⌜ ReadNumber (now (tokens .entry)) (now (table .entry)) r (now (table .exit)) ⌝ }
+{
+    match token_reader::read(tokens, table) {
+        Reply::Refused(refusal) => 65536 * (refusal as u32),
+        Reply::Nodes(stored) => stored as u32,
+    }
+}

@@ -1,0 +1,28 @@
+-- `cells::side_number` meets its contract. Assumes nothing.
+use mathlib.Core.Path.{sym, ap}
+use Rattle.cells.specs.CellQuestions.{sideNumber}
+use borrow.Author.Needs.{needs}
+use Rattle.cells.proofs.side_number.Statement.{statement}
+use Rattle.cells.proofs.side_number.Tie as tie
+
+enum-told : tie.Need-enum-told
+enum-told c = search needs
+
+enum-told-2 : tie.Need-enum-told-2
+enum-told-2 c = search needs
+
+enum-told-3 : tie.Need-enum-told-3
+enum-told-3 c = search needs
+
+returns : tie.Need-returns
+returns c = sym (ap sideNumber (c .enum-told .given .1))
+
+returns-2 : tie.Need-returns-2
+returns-2 c = sym (ap sideNumber (c .enum-told2 .given .1))
+
+returns-3 : tie.Need-returns-3
+returns-3 c = sym (ap sideNumber (c .enum-told3 .given .1))
+
+pub side-number-spec : {M : Type 1} → statement M
+side-number-spec =
+    tie.close (tie.spec enum-told enum-told-2 enum-told-3 returns returns-2 returns-3)

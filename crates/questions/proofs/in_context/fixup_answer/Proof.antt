@@ -1,0 +1,84 @@
+-- `questions::in_context::fixup_answer` meets its contract. Assumes nothing.
+use mathlib.Core.Path.{sym, ap, _∙_}
+use Rattle.laws.specs.Choice.{pick}
+use Rattle.laws.proofs.Keys.{arm, rest}
+use Rattle.precedence.specs.Precedences.{rankOf}
+use Rattle.questions.specs.Questions.{fixupQuestions, fixupAnswered}
+use borrow.Author.Needs.{needs}
+use Rattle.questions.proofs.in_context.fixup_answer.Statement.{statement}
+use Rattle.questions.proofs.in_context.fixup_answer.Tie as tie
+
+parenthesize-requires : tie.Need-parenthesize-requires
+parenthesize-requires c κs = search needs
+
+number-requires : tie.Need-number-requires
+number-requires c κs = search needs
+
+precedence-requires : tie.Need-precedence-requires
+precedence-requires c κs = search needs
+
+rank-requires : tie.Need-rank-requires
+rank-requires c κs = search needs
+
+scan-left-requires : tie.Need-scan-left-requires
+scan-left-requires c κs = search needs
+
+number-requires-2 : tie.Need-number-requires-2
+number-requires-2 c κs = search needs
+
+leftmost-subexpression-precedence-requires : tie.Need-leftmost-subexpression-precedence-requires
+leftmost-subexpression-precedence-requires c κs = search needs
+
+rank-requires-2 : tie.Need-rank-requires-2
+rank-requires-2 c κs = search needs
+
+rightmost-subexpression-precedence-requires : tie.Need-rightmost-subexpression-precedence-requires
+rightmost-subexpression-precedence-requires c κs = search needs
+
+rank-requires-3 : tie.Need-rank-requires-3
+rank-requires-3 c κs = search needs
+
+returns : tie.Need-returns
+unfolding fixupAnswered fixupQuestions
+returns c = c .number .ensures ∙ ap (λ yes. pick yes 1 0) (c .before .parenthesize .ensures) ∙ sym (arm (fixupQuestions _ _) 65535 _ 0 tt (c .before .before .match .keys1))
+
+returns-2 : tie.Need-returns-2
+unfolding fixupAnswered fixupQuestions
+returns-2 c = c .rank .ensures ∙ ap rankOf (c .before .precedence .ensures) ∙ sym (arm (fixupQuestions _ _) 65535 _ 1 tt (c .before .before .match .keys2))
+
+returns-3 : tie.Need-returns-3
+unfolding fixupAnswered fixupQuestions
+returns-3 c = c .number2 .ensures ∙ ap (λ yes. pick yes 1 0) (c .before .scan-left .ensures) ∙ sym (arm (fixupQuestions _ _) 65535 _ 2 tt (c .before .before .match .keys3))
+
+returns-4 : tie.Need-returns-4
+unfolding fixupAnswered fixupQuestions
+returns-4 c = c .rank2 .ensures ∙ ap rankOf (c .before .leftmost-subexpression-precedence .ensures) ∙ sym (arm (fixupQuestions _ _) 65535 _ 3 tt (c .before .before .match .keys4))
+
+returns-5 : tie.Need-returns-5
+unfolding fixupAnswered fixupQuestions
+returns-5 c = c .rank3 .ensures ∙ ap rankOf (c .before .rightmost-subexpression-precedence .ensures) ∙ sym (arm (fixupQuestions _ _) 65535 _ 4 tt (c .before .before .match .keys5))
+
+returns-6 : tie.Need-returns-6
+unfolding fixupAnswered fixupQuestions
+returns-6 c = sym (rest (fixupQuestions _ _) 65535 _ (c .match .rest))
+
+pub fixup-answer-spec : {M : Type 1} → statement M
+fixup-answer-spec =
+    tie.close
+    (tie.spec
+    parenthesize-requires
+    number-requires
+    precedence-requires
+    rank-requires
+    scan-left-requires
+    number-requires-2
+    leftmost-subexpression-precedence-requires
+    rank-requires-2
+    rightmost-subexpression-precedence-requires
+    rank-requires-3
+    returns
+    returns-2
+    returns-3
+    returns-4
+    returns-5
+    returns-6)

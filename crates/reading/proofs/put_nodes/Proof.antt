@@ -1,0 +1,56 @@
+-- `reading::put_nodes` meets its contract. Assumes nothing.
+use mathlib.Core.Path.{_≡_}
+use Prim.Native.Nat.{_-_, _≤_}
+use native.Mathlib.Omega.{arith}
+use Rattle.text.specs.Growth.{Grown}
+use Rattle.text.proofs.Growing.{grown-none}
+use Rattle.reading.specs.Text.{nodesText}
+use Rattle.reading.proofs.Lines.{lines-more}
+use Rattle.reading.proofs.put_nodes.Statement.{statement}
+use Rattle.reading.proofs.put_nodes.Tie as tie
+
+abbrev Inv-loop : tie.InvT-loop
+Inv-loop out₀ end count table at₀ node₀ out at node = (node ≤ count) × Grown out₀ end (nodesText table node) out at
+
+abbrev μ-loop : tie.MeasureT-loop
+μ-loop out₀ end count table at₀ node₀ out at node = count - node
+
+loop-holds : tie.Need-loop-holds Inv-loop μ-loop
+unfolding nodesText
+loop-holds c = (omega arith, grown-none _ _)
+
+add-node : tie.Need-add-node Inv-loop μ-loop
+add-node c = omega arith
+
+put-node-requires : tie.Need-put-node-requires Inv-loop μ-loop
+put-node-requires c κs = (omega arith, omega arith)
+
+loop-less : tie.Need-loop-less Inv-loop μ-loop
+loop-less c = omega arith
+
+loop-again : tie.Need-loop-again Inv-loop μ-loop
+loop-again c =
+    (omega arith, lines-more _ _ (c .before .before .before .before .before .loop .inv .1) (c .before .before .put-node .ensures))
+
+same-length : tie.Need-same-length Inv-loop μ-loop
+same-length c = c .before .loop .inv .1 .room
+
+returns : tie.Need-returns Inv-loop μ-loop
+returns c =
+    let l = c .before .loop in
+    let e : l .node ≡ c .before .before .before .before .args .count = omega arith in
+    rw e at (l .inv .1)
+
+pub put-nodes-spec : {M : Type 1} → statement M
+put-nodes-spec =
+    tie.close
+    (tie.spec
+    Inv-loop
+    μ-loop
+    loop-holds
+    add-node
+    put-node-requires
+    loop-less
+    loop-again
+    same-length
+    returns)

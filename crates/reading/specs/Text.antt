@@ -1,0 +1,34 @@
+-- What `reading` prints for a file of codes, as ASCII codes.
+use mathlib.Core.Path.{_≡_}
+use mathlib.Core.List.{List, [], _++_}
+use Prim.Native.Nat.{ℕ, zero, suc, _*_, _-_}
+use lib.ListN.{take, drop, replicate}
+use Rattle.token_reader.specs.declared.Reply.{Reply}
+use Rattle.token_reader.specs.declared.Reply.the-variants.{Refused, Nodes}
+use Rattle.token_reader.specs.Reading.{Answers}
+use Rattle.text.specs.Numbers.{line, headed}
+
+-- the number of node i and its five numbers, which stand in `cells`
+unfoldable pub nodeText : List ℕ → ℕ → List ℕ
+nodeText cells i = line i (take 5 (drop (5 * (i - 1)) cells))
+
+-- the lines of nodes 1 to n
+unfoldable pub nodesText : List ℕ → ℕ → List ℕ
+nodesText cells zero = []
+nodesText cells (suc n) = nodesText cells n ++ nodeText cells (suc n)
+
+-- "ok" and the number of nodes, then their lines; 111 107 spell `ok`
+unfoldable pub tableText : List ℕ → ℕ → List ℕ
+tableText cells n = headed 111 107 n ++ nodesText cells n
+
+-- what is printed for the reader's answer and the table afterwards: on a refusal "no" and the number; 110 111 spell `no`
+unfoldable pub answerText : Reply → List ℕ → List ℕ
+answerText (Refused n) cells = headed 110 111 n
+answerText (Nodes n) cells = tableText cells n
+
+-- the text is what is printed for the answer to the codes, with a table of 4,096 nodes lent to the reader
+pub record Printed (codes text : List ℕ) : Type 0 where
+  pub reply : Reply
+  pub after : List ℕ
+  pub answers : Answers codes (replicate 20480 0) reply after
+  pub prints : text ≡ answerText reply after

@@ -1,0 +1,103 @@
+// Reads a token list on standard input, a number of seven-bit groups for each token, and prints how many nodes its
+// reading has and the five numbers of each, or the number of the refusal.
+//
+// A code is at most 45, and so one byte. A byte above 45 begins a number above 45 or a malformed one, and both are
+// refused by 14, which is also the reader's answer to a code above 45. So each byte is handed to the reader as a code.
+use libc::STDIN_FILENO;
+use libc::STDOUT_FILENO;
+use text::put_head;
+use text::put_line;
+use token_reader::Reply;
+ghost use mathlib.Core.Path.{_≡_};
+ghost use Prim.Native.Nat.{_*_, _≤_};
+ghost use lib.ListN.{length, take};
+ghost use Rattle.io.specs.Counts.{Counts};
+ghost use Rattle.laws.specs.Lists.{over};
+ghost use Rattle.text.specs.Growth.{Grown, Added};
+ghost use Rattle.reading.specs.Text.{nodeText, nodesText, tableText, Printed};
+
+// One byte more than the longest token list, so that a longer one shows: the reader refuses it by 14.
+const FILE: usize = 24_577;
+
+// The cells of the most nodes: five each.
+const CELLS: usize = 20_480;
+
+// The most bytes that are printed: a first line of 9, and 36 for each of 4,096 nodes.
+const TEXT: usize = 147_465;
+
+// The bytes as codes, at the start of `codes`.
+fn widen(file: &[u8], codes: &mut [u16])
+    requires { ⌜ length (now file) ≤ length (now codes) ⌝ }
+    ensures { λ r. ⌜ now (codes .exit) ≡ over (now (file .entry)) (now (codes .entry)) ⌝ }
+{
+    let mut done = 0;
+    while done < file.len() {
+        codes[done] = file[done] as u16;
+        done += 1;
+    }
+}
+
+// The line of a node: its number, and its five numbers.
+fn put_node(out: &mut [u8], end: usize, table: &[u16], node: u16) -> usize
+    requires { ⌜ (1 ≤ node) × (5 * node ≤ length (now table)) ⌝ }
+    ensures { λ r. ⌜ Grown (now (out .entry)) end (nodeText (now (table .entry)) node) (now (out .exit)) r ⌝ }
+{
+    let from = 5 * ((node - 1) as usize);
+    let to = from + 5;
+    put_line(out, end, node, &table[from..to])
+}
+
+// The lines of all nodes.
+fn put_nodes(out: &mut [u8], end: usize, count: u16, table: &[u16]) -> usize
+    requires { ⌜ 5 * count ≤ length (now table) ⌝ }
+    ensures { λ r. ⌜ Grown (now (out .entry)) end (nodesText (now (table .entry)) count) (now (out .exit)) r ⌝ }
+{
+    let mut at = end;
+    let mut node = 0;
+    while node < count {
+        node += 1;
+        at = put_node(out, at, table, node);
+    }
+    at
+}
+
+// What is printed for a reading, whose nodes stand in the table.
+fn put_table(out: &mut [u8], count: u16, table: &[u16]) -> usize
+    requires { ⌜ (count ≤ 4096) × (20480 ≤ length (now table)) × (147465 ≤ length (now out)) ⌝ }
+    ensures { λ r. ⌜ Added (now (out .entry)) 0 (tableText (now (table .entry)) count) (now (out .exit)) r ⌝ }
+    ensures { λ r. ⌜ r ≤ 147465 ⌝ }
+{
+    let end = put_head(out, b'o', b'k', count);
+    put_nodes(out, end, count, table)
+}
+
+// What is printed for codes, at the start of `out`.
+fn put_reply(codes: &[u16], out: &mut [u8; TEXT]) -> usize
+    ensures { λ r. ⌜ Counts r (now (out .exit)) ⌝ }
+    ensures { λ r. ⌜ Printed (now (codes .entry)) (take r (now (out .exit))) ⌝ }
+{
+    let mut table = [0u16; CELLS];
+    match token_reader::read(codes, &mut table) {
+        Reply::Refused(why) => put_head(out, b'n', b'o', why),
+        Reply::Nodes(count) => put_table(out, count, &table),
+    }
+}
+
+// What is printed for a file, at the start of `out`.
+fn report(file: &[u8], out: &mut [u8; TEXT]) -> usize
+    requires { ⌜ length (now file) ≤ 24577 ⌝ }
+    ensures { λ r. ⌜ Counts r (now (out .exit)) ⌝ }
+    ensures { λ r. ⌜ Printed (now (file .entry)) (take r (now (out .exit))) ⌝ }
+{
+    let mut codes = [0u16; FILE];
+    widen(file, &mut codes);
+    put_reply(&codes[..file.len()], out)
+}
+
+fn main() {
+    let mut file = [0u8; FILE];
+    let n = io::read_full(STDIN_FILENO, &mut file);
+    let mut out = [0u8; TEXT];
+    let end = report(&file[..n], &mut out);
+    io::write_all(STDOUT_FILENO, &out[..end]);
+}

@@ -1,0 +1,70 @@
+// Cells that are lent, and what they hold before and after.
+use crate::record;
+ghost use Prim.Native.Nat.{_≤_};
+
+// The cells of each lent buffer.
+pub const TABLE: usize = 65_535;
+
+// The bytes of the most cells that a reply writes.
+pub const BYTES: usize = 40_960;
+
+// What cell `i` holds before: no two cells of a buffer hold the same.
+fn pattern(i: usize) -> u16 {
+    ((i % 65_536 * 7 + 3) % 65_536) as u16
+}
+
+// Fills a buffer with the pattern.
+pub fn fill(table: &mut [u16; TABLE]) {
+    let mut i = 0;
+    while i < TABLE {
+        table[i] = pattern(i);
+        i += 1;
+    }
+}
+
+// Whether all cells from `from` on keep the pattern.
+pub fn keeps(table: &[u16; TABLE], from: usize) -> bool {
+    let mut i = from;
+    while i < TABLE {
+        if table[i] != pattern(i) {
+            return false;
+        }
+        i += 1;
+    }
+    true
+}
+
+// Whether the first `n` cells are those that are recorded in `cells`.
+fn same(table: &[u16; TABLE], cells: &[u8; BYTES], n: usize) -> bool
+    requires { ⌜ n ≤ 20_480 ⌝ }
+{
+    let mut i = 0;
+    while i < n {
+        if table[i] != record::pair(cells[2 * i], cells[2 * i + 1]) {
+            return false;
+        }
+        i += 1;
+    }
+    true
+}
+
+// The same, and whether all others keep the pattern.
+pub fn written(table: &[u16; TABLE], cells: &[u8; BYTES], n: usize) -> bool
+    requires { ⌜ n ≤ 20_480 ⌝ }
+{
+    same(table, cells, n) && keeps(table, n)
+}
+
+// Whether the first `n` cells are zeros.
+pub fn zeros(table: &[u16; TABLE], n: usize) -> bool
+    requires { ⌜ n ≤ 20_480 ⌝ }
+{
+    let mut i = 0;
+    while i < n {
+        if table[i] != 0 {
+            return false;
+        }
+        i += 1;
+    }
+    true
+}

@@ -1,0 +1,71 @@
+// The token list of one record is read anew, and the answer is compared with the recorded one.
+use crate::cells;
+use crate::cells::BYTES;
+use crate::cells::TABLE;
+use crate::record;
+use crate::record::FILE;
+use crate::record::Header;
+use token_reader::Reply;
+ghost use Prim.Native.Nat.{_≤_};
+ghost use lib.ListN.{length};
+
+// The most codes: two bytes of a file each.
+const CODES: usize = 35_000;
+
+// The codes that stand in the first `2 * n` bytes.
+fn gather(file: &[u8; FILE], codes: &mut [u16], n: usize)
+    requires { ⌜ n ≤ 35_000 ⌝ }
+    requires { ⌜ n ≤ length (now codes) ⌝ }
+{
+    let mut i = 0;
+    while i < n {
+        codes[i] = record::pair(file[2 * i], file[2 * i + 1]);
+        i += 1;
+    }
+}
+
+// The answer to the first `n` codes, with the first `lent` cells of a table lent.
+fn read_parts(codes: &[u16], n: usize, table: &mut [u16], lent: usize) -> Reply
+    requires { ⌜ n ≤ length (now codes) ⌝ }
+    requires { ⌜ lent ≤ length (now table) ⌝ }
+{
+    token_reader::read(&codes[0..n], &mut table[0..lent])
+}
+
+// The answer to the codes in the first `size` bytes.
+fn read(file: &[u8; FILE], size: usize, table: &mut [u16; TABLE], lent: usize) -> Reply
+    requires { ⌜ size ≤ 70_000 ⌝ }
+    requires { ⌜ lent ≤ 65_535 ⌝ }
+{
+    let mut codes = [0u16; CODES];
+    let n = size / 2;
+    gather(file, &mut codes, n);
+    read_parts(&codes, n, table, lent)
+}
+
+// Whether the reader's answer is the recorded one, apart from the table.
+fn found(answer: Reply, h: Header) -> bool {
+    match answer {
+        Reply::Refused(why) => record::refuses(h, why),
+        Reply::Nodes(count) => record::counts(h, count),
+    }
+}
+
+// Whether a token list reads as recorded, `n` cells of the table being written.
+pub fn reads(
+    file: &[u8; FILE],
+    size: usize,
+    lent: usize,
+    h: Header,
+    cells: &[u8; BYTES],
+    n: usize,
+) -> bool
+    requires { ⌜ size ≤ 70_000 ⌝ }
+    requires { ⌜ lent ≤ 65_535 ⌝ }
+    requires { ⌜ n ≤ 20_480 ⌝ }
+{
+    let mut table = [0u16; TABLE];
+    cells::fill(&mut table);
+    let answer = read(file, size, &mut table, lent);
+    found(answer, h) && cells::written(&table, cells, n)
+}

@@ -1,0 +1,178 @@
+// The tree file of one record is loaded anew, or its rows are decided, or its tokens written, and the answer is
+// compared with the recorded one.
+use crate::cells;
+use crate::cells::BYTES;
+use crate::cells::TABLE;
+use crate::record;
+use crate::record::FILE;
+use crate::record::Header;
+use token_writer::Written;
+use tree_file::Loaded;
+ghost use Prim.Native.Nat.{_≤_};
+ghost use lib.ListN.{length};
+
+// The answer to the first `size` bytes of a file, with the first `lent` cells of a table lent.
+fn load_parts(file: &[u8], size: usize, table: &mut [u16], lent: usize) -> Loaded
+    requires { ⌜ size ≤ length (now file) ⌝ }
+    requires { ⌜ lent ≤ length (now table) ⌝ }
+{
+    tree_file::load(&file[0..size], &mut table[0..lent])
+}
+
+// The same with the arrays as they stand in what follows.
+fn load(file: &[u8; FILE], size: usize, table: &mut [u16; TABLE], lent: usize) -> Loaded
+    requires { ⌜ size ≤ 70_000 ⌝ }
+    requires { ⌜ lent ≤ 65_535 ⌝ }
+{
+    load_parts(file, size, table, lent)
+}
+
+// ---- files
+
+// Whether the loader's answer is the recorded one, apart from the table.
+fn loaded(answer: Loaded, h: Header) -> bool {
+    match answer {
+        Loaded::Refused(why) => record::refuses(h, why),
+        Loaded::Accepted(context, count) => context == h.context && record::counts(h, count),
+    }
+}
+
+// Whether a file loads as recorded, `n` cells of the table being written.
+pub fn loads(
+    file: &[u8; FILE],
+    size: usize,
+    lent: usize,
+    h: Header,
+    cells: &[u8; BYTES],
+    n: usize,
+) -> bool
+    requires { ⌜ size ≤ 70_000 ⌝ }
+    requires { ⌜ lent ≤ 65_535 ⌝ }
+    requires { ⌜ n ≤ 20_480 ⌝ }
+{
+    let mut table = [0u16; TABLE];
+    cells::fill(&mut table);
+    let answer = load(file, size, &mut table, lent);
+    loaded(answer, h) && cells::written(&table, cells, n)
+}
+
+// ---- rows
+
+// The reply to deciding the rows of a loaded table.
+fn decide_loaded(
+    loaded: Loaded,
+    table: &[u16; TABLE],
+    rows: &mut [u16],
+    scratch: &mut [u16],
+    lent: usize,
+) -> u16
+    requires { ⌜ lent ≤ length (now rows) ⌝ }
+    requires { ⌜ lent ≤ length (now scratch) ⌝ }
+{
+    match loaded {
+        Loaded::Refused(why) => why,
+        Loaded::Accepted(context, count) => {
+            walk::decide(
+                context,
+                count,
+                table,
+                &mut rows[0..lent],
+                &mut scratch[0..lent],
+            )
+        }
+    }
+}
+
+// The reply to deciding the rows of a file, with `lent` cells of rows and scratch lent.
+fn decide(
+    file: &[u8; FILE],
+    size: usize,
+    rows: &mut [u16; TABLE],
+    scratch: &mut [u16; TABLE],
+    lent: usize,
+) -> u16
+    requires { ⌜ size ≤ 70_000 ⌝ }
+    requires { ⌜ lent ≤ 65_535 ⌝ }
+{
+    let mut table = [0u16; TABLE];
+    let loaded = load(file, size, &mut table, TABLE);
+    decide_loaded(loaded, &table, rows, scratch, lent)
+}
+
+// Whether the rows of a file are as recorded, `n` cells of the rows being written, and three of the scratch for
+// each five.
+pub fn decides(
+    file: &[u8; FILE],
+    size: usize,
+    lent: usize,
+    reply: u16,
+    cells: &[u8; BYTES],
+    n: usize,
+) -> bool
+    requires { ⌜ size ≤ 70_000 ⌝ }
+    requires { ⌜ lent ≤ 65_535 ⌝ }
+    requires { ⌜ n ≤ 20_480 ⌝ }
+{
+    let mut rows = [0u16; TABLE];
+    cells::fill(&mut rows);
+    let mut scratch = [0u16; TABLE];
+    cells::fill(&mut scratch);
+    if decide(file, size, &mut rows, &mut scratch, lent) != reply {
+        return false;
+    }
+    let cleared = 3 * (n / 5);
+    cells::written(&rows, cells, n)
+        && cells::zeros(&scratch, cleared)
+        && cells::keeps(&scratch, cleared)
+}
+
+// ---- tokens
+
+// The writer's answer for a loaded table.
+fn write_loaded(loaded: Loaded, table: &[u16; TABLE], tokens: &mut [u16], lent: usize) -> Written
+    requires { ⌜ lent ≤ length (now tokens) ⌝ }
+{
+    match loaded {
+        Loaded::Refused(why) => Written::Refused(why),
+        Loaded::Accepted(context, count) => {
+            token_writer::write(context, count, table, &mut tokens[0..lent])
+        }
+    }
+}
+
+// The writer's answer for a file, with `lent` cells of tokens lent.
+fn write(file: &[u8; FILE], size: usize, tokens: &mut [u16; TABLE], lent: usize) -> Written
+    requires { ⌜ size ≤ 70_000 ⌝ }
+    requires { ⌜ lent ≤ 65_535 ⌝ }
+{
+    let mut table = [0u16; TABLE];
+    let loaded = load(file, size, &mut table, TABLE);
+    write_loaded(loaded, &table, tokens, lent)
+}
+
+// Whether the writer's answer is the recorded one, apart from the tokens.
+fn wrote(answer: Written, h: Header) -> bool {
+    match answer {
+        Written::Refused(why) => record::refuses(h, why),
+        Written::Tokens(n) => record::counts(h, n),
+    }
+}
+
+// Whether the tokens of a file are as recorded, `n` being written.
+pub fn writes(
+    file: &[u8; FILE],
+    size: usize,
+    lent: usize,
+    h: Header,
+    cells: &[u8; BYTES],
+    n: usize,
+) -> bool
+    requires { ⌜ size ≤ 70_000 ⌝ }
+    requires { ⌜ lent ≤ 65_535 ⌝ }
+    requires { ⌜ n ≤ 20_480 ⌝ }
+{
+    let mut tokens = [0u16; TABLE];
+    cells::fill(&mut tokens);
+    let answer = write(file, size, &mut tokens, lent);
+    wrote(answer, h) && cells::written(&tokens, cells, n)
+}

@@ -1,0 +1,72 @@
+-- `text::put_spaced` meets its contract. Assumes nothing.
+use Prim.Native.Nat.{_-_, _≤_}
+use native.Mathlib.Omega.{arith}
+use borrow.Author.Needs.{needs}
+use lib.ListN.{length, take}
+use lib.Seq.{take-all}
+use Rattle.text.specs.Numbers.{spaced}
+use Rattle.text.specs.Growth.{Grown}
+use Rattle.text.proofs.Growing.{grown-none, grown-more}
+use Rattle.text.proofs.Spaces.{spaced-next}
+use Rattle.text.proofs.put_spaced.Statement.{statement}
+use Rattle.text.proofs.put_spaced.Tie as tie
+
+abbrev Inv-loop : tie.InvT-loop
+Inv-loop out₀ end numbers at₀ done₀ out at done = (done ≤ length numbers) × Grown out₀ end (spaced (take done numbers)) out at
+
+abbrev μ-loop : tie.MeasureT-loop
+μ-loop out₀ end numbers at₀ done₀ out at done = length numbers - done
+
+loop-holds : tie.Need-loop-holds Inv-loop μ-loop
+unfolding spaced
+loop-holds c = (omega arith, grown-none _ _)
+
+put-byte-requires : tie.Need-put-byte-requires Inv-loop μ-loop
+put-byte-requires c κs = search needs
+
+mul-put-number : tie.Need-mul-put-number Inv-loop μ-loop
+mul-put-number c = omega arith
+
+shared-slice-read-put-number : tie.Need-shared-slice-read-put-number Inv-loop μ-loop
+shared-slice-read-put-number c = omega arith
+
+put-number-requires : tie.Need-put-number-requires Inv-loop μ-loop
+put-number-requires c κs = search needs
+
+add-done : tie.Need-add-done Inv-loop μ-loop
+add-done c = omega arith
+
+loop-less : tie.Need-loop-less Inv-loop μ-loop
+loop-less c = omega arith
+
+loop-again : tie.Need-loop-again Inv-loop μ-loop
+loop-again c =
+    let l = c .before .before .before .before .before .before .before .before .before .before .loop in
+    let next = spaced-next (c .before .before .before .before .before .before .before .before .before .before .before .before .before .args .numbers .now) (l .done) (omega arith) in
+    (omega arith, rw next (grown-more (l .inv .1) (grown-more (c .before .before .before .before .before .before .before .put-byte .ensures) (c .before .before .put-number .ensures))))
+
+same-length : tie.Need-same-length Inv-loop μ-loop
+same-length c = c .before .loop .inv .1 .room
+
+returns : tie.Need-returns Inv-loop μ-loop
+returns c =
+    let l = c .before .loop in
+    let e = take-all (l .done) (c .before .before .before .before .args .numbers .now) (omega arith) in
+    rw e at (l .inv .1)
+
+pub put-spaced-spec : {M : Type 1} → statement M
+put-spaced-spec =
+    tie.close
+    (tie.spec
+    Inv-loop
+    μ-loop
+    loop-holds
+    put-byte-requires
+    mul-put-number
+    shared-slice-read-put-number
+    put-number-requires
+    add-done
+    loop-less
+    loop-again
+    same-length
+    returns)

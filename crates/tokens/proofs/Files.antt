@@ -1,0 +1,72 @@
+-- What loading and writing leave for printing. Assumes nothing.
+use mathlib.Core.Path.{_≡_, refl, sym, _∙_}
+use mathlib.Core.Bool.{Bool, true, false}
+use mathlib.Core.List.{List}
+use Prim.Native.Nat.{ℕ, _*_, _≤_}
+use native.Mathlib.Omega.{arith}
+use lib.Dec.{eqb}
+use lib.ListN.{length, take}
+use lib.Seq.{take-at}
+use borrow.Author.Tests.{eq-eqb, eqb-true}
+use Rattle.laws.specs.Choice.{pick}
+use Rattle.laws.specs.Lists.{over}
+use Rattle.laws.proofs.Choice.{pick-true}
+use Rattle.laws.proofs.Lists.{length-over}
+use Rattle.tree_file.specs.declared.Loaded.the-variants as loader
+use Rattle.tree_file.specs.Files.{loaded, stored}
+use Rattle.tree_file.proofs.Loading.{stored-cells}
+use Rattle.grammar.specs.Codes.{codesOf}
+use Rattle.token_writer.specs.declared.Written.the-variants.{Refused, Tokens}
+use Rattle.token_writer.specs.Writes.{written, writeRefusal, answered, tokensAfter}
+use Rattle.token_writer.proofs.Bounds.{tokens-bound}
+use Rattle.token_writer.proofs.Tokens.{length-codes}
+use Rattle.tokens.specs.Text.{refused, listed, answerText, tableText, loadedText, printed}
+
+-- ---- the answers of the writer
+
+module _ (context count : ℕ) (cells tokens : List ℕ) (room : length tokens ≡ 24576) where
+  pub refused-table : (n : ℕ) → Refused n ≡ answered context count cells (length tokens) → refused n ≡ tableText context count cells
+  unfolding tableText answerText
+  refused-table n e = rw (← room, ← e)
+
+  module _ (n : ℕ) (e : Tokens n ≡ answered context count cells (length tokens)) where
+    parts : (writeRefusal context count cells (length tokens) ≡ 0) × (n ≡ length (written count cells))
+    unfolding answered pick
+    parts = go (eqb (writeRefusal context count cells (length tokens)) 0) refl e
+      where
+        go : (b : Bool) → eqb (writeRefusal context count cells (length tokens)) 0 ≡ b → Tokens n ≡ pick b (Tokens (length (written count cells))) (Refused (writeRefusal context count cells (length tokens))) → (writeRefusal context count cells (length tokens) ≡ 0) × (n ≡ length (written count cells))
+        go true p q = (eqb-true _ 0 p, cc)
+        go false p q = absurd (let z : _≡_ {A = ℕ} 0 1 = cc in omega arith)
+
+    pub tokens-most : n ≤ 24576
+    tokens-most = rw (parts .1) (tokens-bound context count cells (length tokens) (parts .0) .1)
+
+    -- the codes stand at the start of the buffer
+    codes-taken : take n (tokensAfter context count cells tokens) ≡ codesOf (written count cells)
+    unfolding tokensAfter over
+    codes-taken =
+        rw (pick-true (over (codesOf (written count cells)) tokens) tokens (eq-eqb _ 0 (parts .0)))
+        (take-at (codesOf (written count cells)) _ n (length-codes (written count cells) ∙ sym (parts .1)))
+
+    -- and so lie within it
+    pub tokens-within : n ≤ length (tokensAfter context count cells tokens)
+    unfolding tokensAfter
+    tokens-within =
+        let most = tokens-most in
+        let codes = length-codes (written count cells) ∙ sym (parts .1) in
+        rw (pick-true (over (codesOf (written count cells)) tokens) tokens (eq-eqb _ 0 (parts .0)), length-over (codesOf (written count cells)) tokens (omega arith)) (omega arith)
+
+    pub tokens-table : listed (take n (tokensAfter context count cells tokens)) ≡ tableText context count cells
+    unfolding tableText answerText
+    tokens-table = rw (codes-taken, ← room, ← e)
+
+-- ---- the answers of the loader
+
+module _ (file table : List ℕ) (room : length table ≡ 20480) where
+  pub refused-file : (n : ℕ) → loader.Refused n ≡ loaded file (length table) → refused n ≡ printed file
+  unfolding printed loadedText
+  refused-file n e = rw (← room, ← e)
+
+  pub accepted-file : (context count : ℕ) → loader.Accepted context count ≡ loaded file (length table) → tableText context count (take (5 * count) (stored file table)) ≡ printed file
+  unfolding printed loadedText
+  accepted-file context count e = rw (stored-cells file table context count e (omega arith), ← room, ← e)

@@ -1,0 +1,44 @@
+-- What `tokens` prints for a file, as ASCII codes.
+use mathlib.Core.List.{List, [], _∷_, _++_}
+use Prim.Native.Nat.{ℕ}
+use lib.ListN.{length}
+use Rattle.tree_file.specs.declared.Loaded.{Loaded}
+use Rattle.tree_file.specs.declared.Loaded.the-variants as loaded
+use Rattle.tree_file.specs.Files.{cellsIn}
+use Rattle.tree_file.specs.Files as files
+use Rattle.grammar.specs.Codes.{codesOf}
+use Rattle.token_writer.specs.declared.Written.{Written}
+use Rattle.token_writer.specs.declared.Written.the-variants.{Refused, Tokens}
+use Rattle.token_writer.specs.Writes.{written, answered}
+use Rattle.text.specs.Numbers.{newline, decimal, spaced, headed}
+
+-- numbers with a space between two
+unfoldable pub parted : List ℕ → List ℕ
+parted [] = []
+parted (n ∷ ns) = decimal n ++ spaced ns
+
+-- "ok" and the number of tokens, then a line with the codes; 111 107 spell `ok`
+unfoldable pub listed : List ℕ → List ℕ
+listed codes = headed 111 107 (length codes) ++ (parted codes ++ (newline ∷ []))
+
+-- "no" and the number of a refusal; 110 111 spell `no`
+abbrev pub refused : ℕ → List ℕ
+refused n = headed 110 111 n
+
+-- what is printed for the writer's answer
+unfoldable pub answerText : List ℕ → Written → List ℕ
+answerText codes (Refused n) = refused n
+answerText codes (Tokens n) = listed codes
+
+-- what is printed for a table, with a buffer of 24,576 cells lent to the writer
+unfoldable pub tableText : ℕ → ℕ → List ℕ → List ℕ
+tableText context count cells = answerText (codesOf (written count cells)) (answered context count cells 24576)
+
+-- what is printed for the loader's answer
+unfoldable pub loadedText : List ℕ → Loaded → List ℕ
+loadedText cells (loaded.Refused n) = refused n
+loadedText cells (loaded.Accepted context count) = tableText context count cells
+
+-- what is printed for a file, with a table of 4,096 nodes lent to the loader
+unfoldable pub printed : List ℕ → List ℕ
+printed file = loadedText (cellsIn file) (files.loaded file 20480)

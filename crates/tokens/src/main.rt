@@ -1,0 +1,88 @@
+// Reads a tree file on standard input, and prints how many tokens its tree has and their codes, or the number of
+// the refusal.
+use libc::STDIN_FILENO;
+use libc::STDOUT_FILENO;
+use text::put_byte;
+use text::put_head;
+use text::put_number;
+use text::put_spaced;
+use token_writer::Written;
+use tree_file::Loaded;
+ghost use mathlib.Core.Path.{_≡_};
+ghost use Prim.Native.Nat.{_*_, _≤_};
+ghost use lib.ListN.{length, take};
+ghost use Rattle.io.specs.Counts.{Counts};
+ghost use Rattle.text.specs.Growth.{Grown, Added};
+ghost use Rattle.tokens.specs.Text.{parted, listed, tableText, printed};
+
+// One byte more than the longest file, so that a longer one shows.
+const FILE: usize = 65_537;
+
+// The cells of the most nodes: five each in the table, and six for the tokens.
+const CELLS: usize = 20_480;
+
+const TOKENS: usize = 24_576;
+
+// The most bytes that are printed: a first line of 9, six for each token, and a line's end.
+const TEXT: usize = 147_466;
+
+// Numbers with a space between two.
+fn put_parted(out: &mut [u8], end: usize, numbers: &[u16]) -> usize
+    ensures { λ r. ⌜ Grown (now (out .entry)) end (parted (now (numbers .entry))) (now (out .exit)) r ⌝ }
+{
+    if numbers.len() == 0 {
+        return end;
+    }
+    let first = put_number(out, end, numbers[0]);
+    put_spaced(out, first, &numbers[1..])
+}
+
+// What is printed for tokens.
+fn put_tokens(out: &mut [u8], codes: &[u16]) -> usize
+    requires { ⌜ (length (now codes) ≤ 24576) × (147466 ≤ length (now out)) ⌝ }
+    ensures { λ r. ⌜ Added (now (out .entry)) 0 (listed (now (codes .entry))) (now (out .exit)) r ⌝ }
+    ensures { λ r. ⌜ r ≤ 147466 ⌝ }
+{
+    let head = put_head(out, b'o', b'k', codes.len() as u16);
+    let end = put_parted(out, head, codes);
+    put_byte(out, end, b'\n')
+}
+
+// What is printed for a table.
+fn put_table(out: &mut [u8], context: u16, count: u16, table: &[u16]) -> usize
+    requires { ⌜ 147466 ≤ length (now out) ⌝ }
+    ensures { λ r. ⌜ Added (now (out .entry)) 0 (tableText context count (now (table .entry))) (now (out .exit)) r ⌝ }
+    ensures { λ r. ⌜ r ≤ 147466 ⌝ }
+{
+    let mut tokens = [0u16; TOKENS];
+    match token_writer::write(context, count, table, &mut tokens) {
+        Written::Refused(why) => put_head(out, b'n', b'o', why),
+        Written::Tokens(n) => {
+            let end = n as usize;
+            put_tokens(out, &tokens[..end])
+        }
+    }
+}
+
+// What is printed for a file, at the start of `out`.
+fn report(file: &[u8], out: &mut [u8; TEXT]) -> usize
+    ensures { λ r. ⌜ Counts r (now (out .exit)) ⌝ }
+    ensures { λ r. ⌜ take r (now (out .exit)) ≡ printed (now (file .entry)) ⌝ }
+{
+    let mut table = [0u16; CELLS];
+    match tree_file::load(file, &mut table) {
+        Loaded::Refused(why) => put_head(out, b'n', b'o', why),
+        Loaded::Accepted(context, count) => {
+            let cells = 5 * (count as usize);
+            put_table(out, context, count, &table[..cells])
+        }
+    }
+}
+
+fn main() {
+    let mut file = [0u8; FILE];
+    let n = io::read_full(STDIN_FILENO, &mut file);
+    let mut out = [0u8; TEXT];
+    let end = report(&file[..n], &mut out);
+    io::write_all(STDOUT_FILENO, &out[..end]);
+}

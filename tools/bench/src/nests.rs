@@ -1,0 +1,226 @@
+//! Nests, which double the crate's work with each level and not ours; and the
+//! slowest trees that a search finds.
+
+use crate::clock::Clock;
+use crate::sets::{numbered, planted, BARE, LARGEST, LONGEST_PATH, NAME, RANGE_TO};
+use crate::sides::{Prepared, Side};
+use oracle::forms::{operator::*, *};
+use oracle::generate::{Dice, Draft, Label, Slot, Stem, NEXTS};
+use oracle::{accept, NodeTable};
+
+/// What stands above a nest, what its levels are by turns, and its end.
+struct Nest {
+    name: &'static str,
+    above: Stem,
+    turns: &'static [Stem],
+    end: Stem,
+}
+
+const GROUP_OF: Stem = Stem::one(GROUP, 0, 0);
+const MINUS: Stem = Stem::one(UNARY, 0, 2);
+const PLUS: Stem = Stem::right(BINARY, 0, ADD);
+
+const NESTS: [Nest; 6] = [
+    Nest {
+        name: "`..` by its end, left of `=`",
+        above: Stem::left(ASSIGN, 0, 0),
+        turns: &[RANGE_TO],
+        end: NAME,
+    },
+    Nest {
+        name: "`..` by its end, below a Field",
+        above: Stem::one(FIELD, 0, 0),
+        turns: &[RANGE_TO],
+        end: BARE,
+    },
+    Nest {
+        name: "`+`, Group by turns, below a Field",
+        above: Stem::one(FIELD, 0, 0),
+        turns: &[PLUS, GROUP_OF],
+        end: BARE,
+    },
+    Nest {
+        name: "`-`, Group, `+`, Group by turns, below a Field",
+        above: Stem::one(FIELD, 0, 0),
+        turns: &[MINUS, GROUP_OF, PLUS, GROUP_OF],
+        end: BARE,
+    },
+    Nest {
+        name: "`..`, `-` by turns, left of `+=`",
+        above: Stem::left(BINARY, 0, ADD_ASSIGN),
+        turns: &[RANGE_TO, MINUS],
+        end: NAME,
+    },
+    Nest { name: "`..` by its end, below `-`", above: MINUS, turns: &[RANGE_TO], end: BARE },
+];
+
+const LEVELS: [usize; 6] = [4, 8, 16, 32, 64, 126];
+
+/// What the crate may take for one tree, as far as the levels before tell.
+const PATIENCE: f64 = 4e9;
+
+/// A line for each nest: nanoseconds a node by its levels, ours and the crate's.
+/// Where a folder is given, the longest of each are written there as tree files.
+pub fn time_nests(folder: Option<&str>) {
+    let levels = LEVELS.map(|levels| levels.to_string()).join(" | ");
+    println!("| ns a node, by levels | side | {levels} |");
+    println!("|---|---|{}", "---:|".repeat(LEVELS.len()));
+    for (number, nest) in NESTS.iter().enumerate() {
+        if let Some(folder) = folder {
+            write(folder, &format!("nest{number}"), &nest.tree(LEVELS[5]));
+        }
+        let ours = LEVELS.map(|levels| format!("{:.0}", a_node(&nest.tree(levels), Side::Ours)));
+        println!("| {} | ours | {} |", nest.name, ours.join(" | "));
+        // A nest of more levels takes it at least as much longer as one of two levels less took.
+        let (mut last, mut growth): (Option<(usize, f64)>, f64) = (None, 1.0);
+        let theirs = LEVELS.map(|levels| {
+            let tree = nest.tree(levels);
+            if let Some((before, time)) = last {
+                if time * growth.powi((levels - before) as i32) > PATIENCE {
+                    return "-".to_string();
+                }
+            }
+            let a_node = a_node(&tree, Side::TheirRows);
+            let time = a_node * f64::from(tree.count);
+            if let Some((before, earlier)) = last {
+                growth = (time / earlier).powf(1.0 / (levels - before) as f64).max(1.0);
+            }
+            last = Some((levels, time));
+            Prepared::new(tree).check();
+            format!("{a_node:.0}")
+        });
+        println!("| | the crate | {} |", theirs.join(" | "));
+    }
+}
+
+impl Nest {
+    fn tree(&self, levels: usize) -> NodeTable {
+        let turns = self.turns.iter().cycle().take(levels);
+        accepted(&planted([&self.above].into_iter().chain(turns).chain([&self.end])))
+    }
+}
+
+fn accepted(draft: &Draft) -> NodeTable {
+    let tree = numbered(draft);
+    assert_eq!(accept::refusal(&tree), 0, "{tree:?}");
+    tree
+}
+
+/// The least of a few times, by the node.
+fn a_node(tree: &NodeTable, side: Side) -> f64 {
+    let mut prepared = Prepared::new(tree.clone());
+    let least = (0..5).map(|_| {
+        let clock = Clock::start();
+        prepared.ask(side);
+        clock.nanoseconds()
+    });
+    least.min().expect("some times") as f64 / f64::from(tree.count)
+}
+
+/// How many changes are tried of a slow nest.
+const CHANGES: usize = 150;
+
+/// What the levels of a searched nest are.
+const LEVEL: [Stem; 16] = [
+    Stem::right(ASSIGN, 0, 0),
+    Stem::right(BINARY, 0, ADD_ASSIGN),
+    Stem::right(BINARY, 0, OR),
+    Stem::right(BINARY, 0, AND),
+    Stem::right(BINARY, 0, EQ),
+    PLUS,
+    MINUS,
+    Stem::one(REFERENCE, 0, 0),
+    Stem::right(RANGE, 0, 0),
+    RANGE_TO,
+    Stem::one(BREAK, 0, 0),
+    Stem::one(RETURN, 0, 0),
+    Stem::one(LET, 0, 0),
+    GROUP_OF,
+    Stem::one(CLOSURE, 0, 0),
+    Stem::left(BINARY, 0, ADD),
+];
+
+/// Nests of as many levels as are accepted: every two levels by turns, below
+/// everything that may follow, with a few ends. The slowest by the node are then
+/// repeated as arguments of a call until there is no more room, and changed level by
+/// level. Where a folder is given, these are written there as tree files.
+pub fn search_slowest(folder: Option<&str>) {
+    let mut found: Vec<(f64, Vec<Stem>)> = Vec::new();
+    for above in NEXTS.into_iter().flatten().chain([MINUS, GROUP_OF, Stem::one(PAREN, 0, 0)]) {
+        for first in LEVEL {
+            for second in LEVEL {
+                for end in [NAME, BARE, Stem::leaf(RETURN, 0, 0)] {
+                    let turns = [first, second].into_iter().cycle().take(LONGEST_PATH - 3);
+                    let stems: Vec<Stem> = [above].into_iter().chain(turns).chain([end]).collect();
+                    let tree = numbered(&planted(stems.iter()));
+                    if accept::refusal(&tree) == 0 {
+                        found.push((a_node(&tree, Side::Ours), stems));
+                    }
+                }
+            }
+        }
+    }
+    found.sort_by(|a, b| b.0.total_cmp(&a.0));
+    println!("{} nests; the slowest, and as many of them as 4,096 nodes hold:", found.len());
+    for (number, (a_nest, stems)) in found.into_iter().take(60).step_by(10).enumerate() {
+        let (steps, stems) = climbed(number as u64, stems);
+        let full = accepted(&arguments(&stems));
+        let time = a_node(&full, Side::Ours) * f64::from(full.count);
+        let labels =
+            stems[..6].iter().map(|stem| format!("{}/{}", stem.label.form, stem.label.detail));
+        let labels: Vec<String> = labels.collect();
+        let (labels, nodes) = (labels.join(" over "), full.count);
+        println!(
+            "{labels}: {a_nest:.0} ns a node; after {steps} changes, {nodes} nodes: {:.2} ms",
+            time / 1e6
+        );
+        if let Some(folder) = folder {
+            write(folder, &format!("slow{number}"), &full);
+        }
+    }
+}
+
+/// A nest with levels changed one by one, wherever that made the call slower, and
+/// how often it did.
+fn climbed(seed: u64, mut stems: Vec<Stem>) -> (usize, Vec<Stem>) {
+    let mut dice = Dice::new(seed, 0);
+    let time = |stems: &[Stem]| {
+        let tree = numbered(&arguments(stems));
+        (accept::refusal(&tree) == 0).then(|| a_node(&tree, Side::Ours) * f64::from(tree.count))
+    };
+    let (mut slowest, mut steps) = (time(&stems).expect("an accepted tree"), 0);
+    for _ in 0..CHANGES {
+        let at = 1 + dice.below(stems.len() - 2);
+        let before = std::mem::replace(&mut stems[at], dice.pick(&LEVEL));
+        match time(&stems) {
+            Some(slower) if slower > slowest => (slowest, steps) = (slower, steps + 1),
+            _ => stems[at] = before,
+        }
+    }
+    (steps, stems)
+}
+
+fn write(folder: &str, name: &str, tree: &NodeTable) {
+    let file = std::path::Path::new(folder).join(name);
+    std::fs::write(file, oracle::table::write(tree)).expect("a folder to write to");
+}
+
+/// A call with one nest for each argument, as often as there is room.
+fn arguments(stems: &[Stem]) -> Draft {
+    let mut draft = Draft::new(Label::of(CALL));
+    draft.put(Slot { owner: 0, place: 0 }, Label::of(PATH));
+    let mut rest = Slot { owner: 0, place: 1 };
+    let nodes: usize = stems.iter().map(Stem::nodes).sum();
+    while draft.nodes.len() + 1 + nodes <= usize::from(LARGEST) {
+        let link = draft.put(rest, Label::of(LINK));
+        let mut slot = Slot { owner: link, place: 0 };
+        for stem in stems {
+            match stem.plant(&mut draft, Some(slot)).first() {
+                Some(&next) => slot = next,
+                None => break,
+            }
+        }
+        rest = Slot { owner: link, place: 1 };
+    }
+    draft
+}
