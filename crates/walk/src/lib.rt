@@ -11,7 +11,7 @@ use expr::first_operand;
 use expr::second_operand;
 use fixup::context::FixupContext;
 use tree::form::class_of;
-use tree::refusal::check;
+use rules::refusal::check;
 use tree::shape::form_at;
 use tree::table::operand_number;
 ghost use mathlib.Core.Path.{_≡_};
