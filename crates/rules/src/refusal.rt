@@ -1,7 +1,4 @@
 // The refusals 3, 4 and 6 to 11 of a context, a count and a node table, each a pass over the nodes, in their order, and one pass that answers for most tables.
-use tree::form::class_of;
-use tree::form::is_allowed;
-use tree::forms;
 use super::marks::TAKEN;
 use super::marks::mark_of;
 use super::marks::misfits;
@@ -9,6 +6,9 @@ use super::marks::take;
 use super::place::first_place;
 use super::place::is_wrong;
 use super::place::second_place;
+use tree::form::class_of;
+use tree::form::is_allowed;
+use tree::forms;
 use tree::table::cell;
 use tree::table::operand_number;
 ghost use mathlib.Core.Path.{_≡_};

@@ -4,10 +4,10 @@ mod plainness; // plainness.rt: whether a table is plain
 mod signs; // signs.rt: a node's own tokens
 
 use plainness::is_plain_table;
+use rules::refusal::check;
 use signs::Few;
 use signs::one_if;
 use signs::signs_at;
-use rules::refusal::check;
 use tree::table::cell;
 use tree::table::operand_number;
 ghost use mathlib.Core.Path.{_≡_};
