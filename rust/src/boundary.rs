@@ -91,9 +91,32 @@ pub fn write(context: u16, count: u16, table: &[u16], tokens: &mut [u16]) -> u32
     }
 }
 
+/// Lists of more tokens than this are read on a stack of their own.
+const LONG: usize = 2_048;
+
+/// The longest list takes the library 5.5 MiB of stack, 230 bytes a token.
+const STACK: usize = 16 << 20;
+
 /// Reads a token list into a table of at least 20,480 cells. The reply is the
 /// refusal times 65,536, or the number of nodes.
+///
+/// The library's reader is recursive: a long list is read on a thread of its own,
+/// whose stack is large enough for the longest one.
 pub fn read(tokens: &[u16], table: &mut [u16]) -> u32 {
+    if tokens.len() <= LONG || tokens.len() > MOST_TOKENS {
+        return read_here(tokens, table);
+    }
+    std::thread::scope(|scope| {
+        let builder = std::thread::Builder::new().stack_size(STACK);
+        let reader = builder.spawn_scoped(scope, || read_here(tokens, table));
+        reader.expect("a thread can be started").join().expect("the library does not panic")
+    })
+}
+
+/// The most tokens of a list; a longer one is refused before it is read.
+pub const MOST_TOKENS: usize = 24_576;
+
+fn read_here(tokens: &[u16], table: &mut [u16]) -> u32 {
     // SAFETY: as above.
     unsafe {
         library::tezhukor_read(tokens.as_ptr(), tokens.len(), table.as_mut_ptr(), table.len())
