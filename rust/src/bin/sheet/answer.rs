@@ -33,7 +33,7 @@ impl Answer {
     }
 }
 
-/// A refusal with its number.
-pub fn words(refusal: Refusal) -> String {
-    format!("refused ({}): {refusal}", refusal.number())
+/// A refusal with its number and the place that it speaks of.
+pub fn words(refusal: Refusal, place: &str) -> String {
+    format!("refused ({}){place}: {refusal}", refusal.number())
 }

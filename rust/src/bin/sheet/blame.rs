@@ -14,12 +14,12 @@ pub fn place(refusal: Refusal, file: &[u8]) -> String {
     let number = |at: usize| numbers.get(at).map_or("absent".to_string(), u16::to_string);
     match refusal {
         Refusal::FileTooLong | Refusal::Buffer => String::new(),
-        Refusal::Header => format!(" (at byte {malformed})"),
-        Refusal::Context => format!(" (it is {})", number(0)),
-        Refusal::Count => format!(" (it is {})", number(1)),
+        Refusal::Header => format!(" at byte {malformed}"),
+        Refusal::Context => format!(" with context {}", number(0)),
+        Refusal::Count => format!(" with count {}", number(1)),
         Refusal::Body => body(&numbers, malformed),
         _ => match node(refusal, &nodes(&numbers)) {
-            Some(node) => format!(" (node {node})"),
+            Some(node) => format!(" at node {node}"),
             None => String::new(),
         },
     }
@@ -47,8 +47,8 @@ fn number(bytes: &[u8]) -> Option<(u16, usize)> {
 fn body(numbers: &[u16], malformed: usize) -> String {
     let count = numbers.get(1).copied().map_or(0, usize::from);
     match numbers.len() < 2 + 5 * count {
-        true => format!(" (node {}, at byte {malformed})", numbers.len().saturating_sub(2) / 5 + 1),
-        false => " (bytes behind the last node)".to_string(),
+        true => format!(" at node {}, byte {malformed}", numbers.len().saturating_sub(2) / 5 + 1),
+        false => " behind the last node".to_string(),
     }
 }
 
@@ -172,7 +172,7 @@ mod tests {
     #[test]
     fn refused_nodes_are_found() {
         let (mut found, mut accepted) = (0, 0);
-        for file in crate::recorded::files("files") {
+        for file in crate::recorded::files("files", 5) {
             let nodes = nodes(&numbers(&file).0);
             match Tree::load(&file) {
                 Ok(_) => {

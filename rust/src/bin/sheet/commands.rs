@@ -49,9 +49,12 @@ fn read(text: &str, names: Option<&OsStr>) -> Result<Answer, Answer> {
     let tree = Tree::read(&codes).map_err(|refusal| match refusal {
         Refusal::NoReading => {
             let place = locate::unread(&codes);
-            at(tokens.get(place.token).map_or(text.len(), |token| token.at), &place.message)
+            at(
+                tokens.get(place.token).map_or(text.trim_end().len(), |token| token.at),
+                &place.message,
+            )
         }
-        _ => Answer::refused(words(refusal)),
+        _ => Answer::refused(words(refusal, "")),
     })?;
     if let Some(file) = names {
         let lines = lexer::names(text, &tokens);
@@ -93,7 +96,7 @@ fn rows(file: &OsStr) -> Result<Answer, Answer> {
 
 /// The codes, and below them how they are spelled.
 fn tokens(file: &OsStr) -> Result<Answer, Answer> {
-    let tokens = load(file)?.tokens().map_err(|refusal| Answer::refused(words(refusal)))?;
+    let tokens = load(file)?.tokens().map_err(|refusal| Answer::refused(words(refusal, "")))?;
     let numbers: Vec<String> = tokens.iter().map(u16::to_string).collect();
     let spelled: Vec<&str> =
         tokens.iter().filter_map(|&code| codes::SPELLED.get(usize::from(code)).copied()).collect();
@@ -116,10 +119,8 @@ fn check(file: &OsStr) -> Result<Answer, Answer> {
 /// Loads a tree file, or says what is wrong with it and where.
 fn load(file: &OsStr) -> Result<Tree, Answer> {
     let bytes = bytes_of(file, FILE_BYTES)?;
-    Tree::load(&bytes).map_err(|refusal| {
-        let place = blame::place(refusal, &bytes);
-        Answer::refused(format!("{}{place}", words(refusal)))
-    })
+    Tree::load(&bytes)
+        .map_err(|refusal| Answer::refused(words(refusal, &blame::place(refusal, &bytes))))
 }
 
 /// At most so many bytes of a file, or of standard input.

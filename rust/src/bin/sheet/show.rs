@@ -41,7 +41,7 @@ impl Shown {
 pub fn shown(tree: &Tree, names: Names) -> Shown {
     let spans = vec![0..0; tree.count().into()];
     let shown = Shown { text: String::new(), added: Vec::new(), spans };
-    let mut writer = Writer { tree, rows: tree.rows(), names, shown, literal_end: 0 };
+    let mut writer = Writer { tree, rows: tree.rows(), names, shown, number_end: 0 };
     writer.node(1);
     writer.shown
 }
@@ -51,8 +51,8 @@ struct Writer<'a> {
     rows: Vec<Row>,
     names: Names,
     shown: Shown,
-    /// Where the last literal ends: a dot there would become part of it.
-    literal_end: usize,
+    /// Where the last number ends: a dot there would become part of it.
+    number_end: usize,
 }
 
 impl Writer<'_> {
@@ -63,8 +63,8 @@ impl Writer<'_> {
     fn name(&mut self, kind: Kind) {
         let name = self.names.next(kind);
         self.put(&name);
-        if kind == Kind::Literal {
-            self.literal_end = self.shown.text.len();
+        if kind == Kind::Literal && name.starts_with(|c: char| c.is_ascii_digit()) {
+            self.number_end = self.shown.text.len();
         }
     }
 
@@ -147,8 +147,8 @@ impl Writer<'_> {
     }
 
     fn dot(&mut self) {
-        let behind_literal = self.literal_end == self.shown.text.len();
-        self.put(if behind_literal { " ." } else { "." });
+        let behind_number = self.number_end == self.shown.text.len();
+        self.put(if behind_number { " ." } else { "." });
     }
 
     /// The forms that stand behind their first operand.
@@ -264,5 +264,31 @@ impl Writer<'_> {
             7 => self.put("verbatim { .. }"),
             _ => self.put("B"),
         }
+    }
+}
+
+#[cfg(test)]
+mod tests {
+    use super::*;
+    use crate::lexer;
+
+    /// Each recorded plain tree: the text has the tokens that are written for it.
+    #[test]
+    fn text_is_the_tokens() {
+        let mut trees = 0;
+        for file in crate::recorded::files("tokens", 1) {
+            let Ok(tree) = Tree::load(&file) else {
+                continue;
+            };
+            let Ok(tokens) = tree.tokens() else {
+                continue;
+            };
+            let text = shown(&tree, Names::default()).text(false);
+            let read = lexer::tokens(&text).expect("tokens");
+            let read: Vec<u16> = read.iter().map(|token| token.code).collect();
+            assert_eq!(read, tokens, "{text}");
+            trees += 1;
+        }
+        assert!(trees > 3_000, "{trees} trees");
     }
 }

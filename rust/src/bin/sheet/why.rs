@@ -236,7 +236,7 @@ mod tests {
     #[test]
     fn reasons_are_the_rows() {
         let (mut pairs, mut others) = (0, 0);
-        for file in crate::recorded::files("rows") {
+        for file in crate::recorded::files("rows", 5) {
             let Ok(tree) = Tree::load(&file) else {
                 continue;
             };
