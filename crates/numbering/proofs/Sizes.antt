@@ -9,9 +9,9 @@ use borrow.Author.Tests.{eq-eqb, ne-eqb}
 use Rattle.laws.specs.Choice.{pick}
 use Rattle.tree.specs.Table.{firstAt, secondAt}
 use Rattle.tree.specs.Trees.{none, operandAt, treeAt}
-use Rattle.tree.specs.Refusals.{owners, Accepted}
+use Rattle.rules.specs.Refusals.{owners, Accepted}
 use Rattle.tree.proofs.Unfold.{tree-zero, unfolds}
-use Rattle.tree.proofs.Accepted.{count-bounds, first-most, second-most, first-operand, second-operand, counted-once}
+use Rattle.rules.proofs.Accepted.{count-bounds, first-most, second-most, first-operand, second-operand, counted-once}
 use Rattle.numbering.specs.Numbered.{size}
 
 -- ---- sums

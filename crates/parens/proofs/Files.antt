@@ -4,7 +4,7 @@ use mathlib.Core.List.{List}
 use Prim.Native.Nat.{ℕ, _*_, _≤_}
 use native.Mathlib.Omega.{arith}
 use lib.ListN.{length, take, replicate, length-replicate}
-use Rattle.tree.specs.Refusals.{refusal}
+use Rattle.rules.specs.Refusals.{refusal}
 use Rattle.tree_file.specs.declared.Loaded.the-variants.{Refused, Accepted}
 use Rattle.tree_file.specs.Files.{loaded, stored}
 use Rattle.tree_file.proofs.Loading.{stored-cells}

@@ -11,7 +11,7 @@ ghost use mathlib.Core.Path.{_≡_};
 ghost use Prim.Native.Nat.{_+_, _*_, _≤_};
 ghost use lib.ListN.{length, take};
 ghost use Rattle.io.specs.Counts.{Counts};
-ghost use Rattle.tree.specs.Refusals.{refusal};
+ghost use Rattle.rules.specs.Refusals.{refusal};
 ghost use Rattle.text.specs.Growth.{Added};
 ghost use Rattle.parens.specs.Text.{lineOf, nodeText, linesOf, acceptedText, printed};
 

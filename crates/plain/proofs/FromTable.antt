@@ -12,14 +12,14 @@ use Rattle.laws.specs.Choice.{pick, lookup, isOneOf}
 use Rattle.laws.specs.Each.{some}
 use Rattle.laws.proofs.Choice.{and-true, true-not-false, pick-false}
 use Rattle.laws.proofs.Each.{some-none}
-use Rattle.tree.specs.declared.place.Place.the-variants.{Nothing, Required, List as ListOf, Item, Next}
+use Rattle.rules.specs.declared.place.Place.the-variants.{Nothing, Required, List as ListOf, Item, Next}
 use Rattle.tree.specs.Forms.{ExprAssign, ExprAwait, ExprBinary, ExprCall, ExprCast, ExprField, ExprIndex, ExprLit, ExprMethodCall, ExprParen, ExprPath, ExprReference, ExprTry, ExprUnary, TypeInfer, TypeNever, TypePath, TypePtr, TypeReference, Link, anExpression, aType, aLink, classOf, highestAttributes, details, highestDetail, allowed}
 use Rattle.tree.specs.Table.{formAt, attributesAt, detailAt, firstAt, secondAt, classAt}
 use Rattle.tree.specs.Trees.{Label, Tree, none, node, labelAt, treeAt}
-use Rattle.tree.specs.Places.{outputPlace, argumentsPlace, firstPlaces, firstPlace, secondPlaces, secondPlace}
-use Rattle.tree.specs.Refusals.{Accepted}
+use Rattle.rules.specs.Places.{outputPlace, argumentsPlace, firstPlaces, firstPlace, secondPlaces, secondPlace}
+use Rattle.rules.specs.Refusals.{Accepted}
 use Rattle.tree.proofs.Unfold.{tree-zero, unfolds}
-use Rattle.tree.proofs.Accepted.{Within, Fits, count-bounds, root-expression, numbers-allowed, first-fits, second-fits, first-operand, second-operand}
+use Rattle.rules.proofs.Accepted.{Within, Fits, count-bounds, root-expression, numbers-allowed, first-fits, second-fits, first-operand, second-operand}
 use Rattle.grammar.specs.Tokens.{Operator, number, Assign}
 use Rattle.grammar.specs.Codes.{operatorOf}
 use Rattle.grammar.specs.Types.{one, list, items, TypePrefix, constPtr, mutPtr, sharedRef, mutRef, TypeSign, infer, never, Ty, named, applied, pointing, sign, noTypes, types, lastType, moreTypes}

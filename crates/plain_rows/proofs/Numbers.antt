@@ -11,8 +11,8 @@ use Rattle.laws.specs.Choice.{pick, lookup, isOneOf}
 use Rattle.laws.proofs.Choice.{true-not-false}
 use Rattle.tree.specs.Trees.{Label, Tree, none, node, operandAt, treeAt}
 use Rattle.tree.specs.Walks.{isThere}
-use Rattle.tree.specs.Refusals.{Accepted}
-use Rattle.tree.proofs.Accepted.{count-bounds}
+use Rattle.rules.specs.Refusals.{Accepted}
+use Rattle.rules.proofs.Accepted.{count-bounds}
 use Rattle.fixup.specs.Contexts.{NONE}
 use Rattle.expr.specs.declared.Handed.{Handed}
 use Rattle.expr.specs.Handed.{neither}

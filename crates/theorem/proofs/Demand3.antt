@@ -11,10 +11,10 @@ use Rattle.laws.specs.Choice.{pick}
 use Rattle.laws.proofs.Choice.{pick-true, pick-false, or-false}
 use Rattle.tree.specs.Trees.{Tree, treeAt, levels}
 use Rattle.tree.specs.Walks.{isThere}
-use Rattle.tree.specs.Refusals.{refusal, refuse, firstOf, Accepted}
-use Rattle.tree.proofs.First.{passed}
+use Rattle.rules.specs.Refusals.{refusal, refuse, firstOf, Accepted}
+use Rattle.rules.proofs.First.{passed}
 use Rattle.tree.proofs.Unfold.{unfolds}
-use Rattle.tree.proofs.Accepted.{count-bounds, levels-bound}
+use Rattle.rules.proofs.Accepted.{count-bounds, levels-bound}
 use Rattle.fixup.specs.Contexts.{NONE as noContext}
 use Rattle.expr.specs.Handed.{neither}
 use Rattle.walk.specs.Rows.{rowsOf}

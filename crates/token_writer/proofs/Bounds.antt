@@ -9,9 +9,9 @@ use lib.ListN.{length, length-append}
 use borrow.Author.Tests.{eqb-true}
 use Rattle.laws.specs.Choice.{pick, Row, row, lookup, isOneOf}
 use Rattle.tree.specs.Trees.{Label, Tree, none, node, operandAt, treeAt}
-use Rattle.tree.specs.Refusals.{refusal, Accepted}
+use Rattle.rules.specs.Refusals.{refusal, Accepted}
 use Rattle.tree.specs.Walks.{isThere}
-use Rattle.tree.proofs.Accepted.{count-bounds}
+use Rattle.rules.proofs.Accepted.{count-bounds}
 use Rattle.grammar.specs.Tokens.{Token, LeftParen, RightParen, Comma}
 use Rattle.numbering.specs.Numbered.{size}
 use Rattle.numbering.proofs.Sizes.{size-accepted}

@@ -9,7 +9,7 @@ use lib.ListN.{length, take, replicate, length-replicate}
 use borrow.Author.Tests.{eq-eqb, ne-eqb, lt-ltb, le-ltb}
 use Rattle.laws.specs.Choice.{pick}
 use Rattle.laws.proofs.Choice.{pick-true, pick-false, or-here, or-next}
-use Rattle.tree.specs.Refusals.{firstOf, refusal}
+use Rattle.rules.specs.Refusals.{firstOf, refusal}
 use Rattle.walk.specs.Walk.{rowsAfter}
 use Rattle.grammar.specs.Codes.{codesOf}
 use Rattle.plain.specs.Plain.{plainTable}

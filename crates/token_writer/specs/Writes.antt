@@ -7,7 +7,7 @@ use lib.ListN.{length, replicate}
 use Rattle.laws.specs.Choice.{pick}
 use Rattle.laws.specs.Lists.{over}
 use Rattle.tree.specs.Trees.{treeAt}
-use Rattle.tree.specs.Refusals.{refusal, refuse, firstOf}
+use Rattle.rules.specs.Refusals.{refusal, refuse, firstOf}
 use Rattle.walk.specs.Walk.{rowsAfter}
 use Rattle.grammar.specs.Tokens.{Token}
 use Rattle.grammar.specs.Codes.{codesOf}

@@ -4,16 +4,16 @@ mod plainness; // plainness.rt: whether a table is plain
 mod signs; // signs.rt: a node's own tokens
 
 use plainness::is_plain_table;
+use rules::refusal::check;
 use signs::Few;
 use signs::one_if;
 use signs::signs_at;
-use tree::refusal::check;
 use tree::table::cell;
 use tree::table::operand_number;
 ghost use mathlib.Core.Path.{_≡_};
 ghost use Prim.Native.Nat.{_+_, _*_, _≤_};
 ghost use lib.ListN.{length, replicate};
-ghost use Rattle.tree.specs.Refusals.{refusal};
+ghost use Rattle.rules.specs.Refusals.{refusal};
 ghost use Rattle.plain.specs.Written.{hasPair};
 ghost use Rattle.grammar.specs.Codes.{codesOf};
 ghost use Rattle.token_writer.specs.Puts.{spelled, Put, codesAt};

@@ -1,10 +1,3 @@
-pub mod Owners
 pub mod Unfold
-pub mod Depth
-pub mod First
-pub mod Count
-pub mod Owned
-pub mod Accepted
 pub mod Walks
 pub mod Shapes
-pub mod Fine

@@ -9,9 +9,9 @@ use lib.ListN.{length, drop, length-drop}
 use borrow.Author.Tests.{eq-eqb, ne-eqb, lt-ltb, le-ltb, ltb-false}
 use Rattle.laws.specs.Lists.{over}
 use Rattle.laws.proofs.Choice.{pick-true, pick-false, true-not-false, or-false}
-use Rattle.tree.specs.Refusals.{refusal3, refusal4, refuse, firstOf, nodeRefusals, refusal, Accepted as Table}
-use Rattle.tree.proofs.First.{stop, skip, passed}
-use Rattle.tree.proofs.Count.{count-fits, fits-count}
+use Rattle.rules.specs.Refusals.{refusal3, refusal4, refuse, firstOf, nodeRefusals, refusal, Accepted as Table}
+use Rattle.rules.proofs.First.{stop, skip, passed}
+use Rattle.rules.proofs.Count.{count-fits, fits-count}
 use Rattle.tree_file.specs.declared.Loaded.the-variants.{Refused, Accepted}
 use Rattle.tree_file.specs.Several.{Numbers, broken, numbers, numbersOf, isBroken, valuesIn, bytesAfter}
 use Rattle.tree_file.specs.Files.{header, contextIn, countIn, body, cellsIn, refusal1, refusal2, refusal5, fileRefusal, loaded, stored}

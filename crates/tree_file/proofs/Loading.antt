@@ -12,7 +12,7 @@ use Rattle.laws.specs.Choice.{pick}
 use Rattle.laws.specs.Lists.{over}
 use Rattle.laws.proofs.Choice.{pick-true}
 use Rattle.laws.proofs.Lists.{length-over}
-use Rattle.tree.specs.Refusals.{refusal}
+use Rattle.rules.specs.Refusals.{refusal}
 use Rattle.tree_file.specs.declared.Loaded.the-variants.{Refused, Accepted}
 use Rattle.tree_file.specs.Files.{contextIn, countIn, cellsIn, fileRefusal, loaded, stored}
 use Rattle.tree_file.proofs.Files.{accepted-cells}

@@ -6,7 +6,7 @@ use lib.Dec.{eqb, ltb}
 use lib.ListN.{length, getD}
 use Rattle.laws.specs.Choice.{pick}
 use Rattle.laws.specs.Lists.{over}
-use Rattle.tree.specs.Refusals.{refusal3, refusal4, Refusal, refuse, firstOf, nodeRefusals}
+use Rattle.rules.specs.Refusals.{refusal3, refusal4, Refusal, refuse, firstOf, nodeRefusals}
 use Rattle.tree_file.specs.declared.Loaded.{Loaded}
 use Rattle.tree_file.specs.declared.Loaded.the-variants.{Refused, Accepted}
 use Rattle.tree_file.specs.Several.{Numbers, numbersOf, isBroken, valuesIn, bytesAfter}

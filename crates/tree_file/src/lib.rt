@@ -86,7 +86,7 @@ fn load_nodes(file: &[u8], context: u16, count: u16, at: usize, table: &mut [u16
     if context > 3 {
         return Loaded::Refused(3);
     }
-    if tree::refusal::is_bad_count(count, table.len()) {
+    if rules::refusal::is_bad_count(count, table.len()) {
         return Loaded::Refused(4);
     }
     let cells = 5 * (count as usize);
@@ -97,7 +97,7 @@ fn load_nodes(file: &[u8], context: u16, count: u16, at: usize, table: &mut [u16
     if end < file.len() {
         return Loaded::Refused(5);
     }
-    let refused = tree::refusal::check(context, count, &own[..cells]);
+    let refused = rules::refusal::check(context, count, &own[..cells]);
     if refused != 0 {
         return Loaded::Refused(refused);
     }

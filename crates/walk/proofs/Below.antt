@@ -6,10 +6,10 @@ use Prim.Native.Nat.{ℕ, zero, suc, _≤_, _<_}
 use native.Mathlib.Omega.{arith}
 use Rattle.tree.specs.Table.{cellAt}
 use Rattle.tree.specs.Trees.{operandOf, operandAt}
-use Rattle.tree.specs.Refusals.{Accepted}
+use Rattle.rules.specs.Refusals.{Accepted}
 use Rattle.tree.proofs.Unfold.{Standing, absent, present, standing, operand-range, operand-zero}
-use Rattle.tree.proofs.Accepted.{first-operand, second-operand, one-owner}
-use Rattle.tree.proofs.Owned.{OwnedOnce}
+use Rattle.rules.proofs.Accepted.{first-operand, second-operand, one-owner}
+use Rattle.rules.proofs.Owned.{OwnedOnce}
 use Rattle.walk.specs.Paths.{Step, first, second, numberAt}
 
 module _ (cells : List ℕ) (count : ℕ) where

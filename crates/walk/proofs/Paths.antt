@@ -12,10 +12,10 @@ use Rattle.laws.proofs.Choice.{true-not-false}
 use Rattle.tree.specs.Table.{cellAt}
 use Rattle.tree.specs.Trees.{Label, Tree, none, node, labelAt, operandAt, treeAt}
 use Rattle.tree.specs.Walks.{isThere}
-use Rattle.tree.specs.Refusals.{Accepted}
+use Rattle.rules.specs.Refusals.{Accepted}
 use Rattle.tree.proofs.Unfold.{tree-zero, tree-past, unfolds}
-use Rattle.tree.proofs.Accepted.{count-bounds, first-operand, second-operand, one-owner, owner-smaller}
-use Rattle.tree.proofs.Owned.{OwnedOnce}
+use Rattle.rules.proofs.Accepted.{count-bounds, first-operand, second-operand, one-owner, owner-smaller}
+use Rattle.rules.proofs.Owned.{OwnedOnce}
 use Rattle.expr.specs.declared.Handed.{Handed}
 use Rattle.expr.specs.Expr.{handsFirst, handsSecond}
 use Rattle.walk.specs.declared.decision.Row.{Row}

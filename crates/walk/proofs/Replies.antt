@@ -11,7 +11,7 @@ use Rattle.laws.specs.Choice.{pick}
 use Rattle.laws.specs.Lists.{over}
 use Rattle.laws.proofs.Choice.{pick-true, pick-false, or-here, or-next}
 use Rattle.tree.specs.Trees.{treeAt}
-use Rattle.tree.specs.Refusals.{refusal}
+use Rattle.rules.specs.Refusals.{refusal}
 use Rattle.expr.specs.declared.Handed.{Handed}
 use Rattle.walk.specs.Rows.{rowsOf}
 use Rattle.walk.specs.Walk.{rootHanded, placed, refusal12, decided, rowsAfter, scratchAfter}

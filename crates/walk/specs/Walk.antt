@@ -8,7 +8,7 @@ use Rattle.laws.specs.Choice.{pick, row, lookup}
 use Rattle.laws.specs.Choice as choice
 use Rattle.laws.specs.Lists.{over}
 use Rattle.tree.specs.Trees.{operandAt, treeAt}
-use Rattle.tree.specs.Refusals.{refusal}
+use Rattle.rules.specs.Refusals.{refusal}
 use Rattle.fixup.specs.declared.context.FixupContext.{FixupContext}
 use Rattle.fixup.specs.Contexts.{NONE, newStmt, newMatchArm, newCondition}
 use Rattle.expr.specs.declared.Handed.{Handed}

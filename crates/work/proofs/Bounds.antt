@@ -4,8 +4,8 @@ use mathlib.Core.List.{List}
 use Prim.Native.Nat.{ℕ, _*_, _≤_}
 use native.Mathlib.Omega.{arith}
 use Rattle.tree.specs.Trees.{Tree, none, node, treeAt, levels}
-use Rattle.tree.specs.Refusals.{Accepted}
-use Rattle.tree.proofs.Accepted.{levels-bound}
+use Rattle.rules.specs.Refusals.{Accepted}
+use Rattle.rules.proofs.Accepted.{levels-bound}
 use Rattle.precedence.specs.declared.Precedence.the-variants as level
 use Rattle.precedence.specs.Precedences.{same}
 use Rattle.fixup.specs.declared.context.FixupContext.{FixupContext}

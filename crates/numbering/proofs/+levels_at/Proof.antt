@@ -3,7 +3,7 @@ use mathlib.Core.Path.{_≡_, sym}
 use native.Mathlib.Omega.{arith}
 use borrow.Author.Needs.{needs}
 use Rattle.tree.proofs.Unfold.{left, left-falls, tree-zero, tree-past, levels-most}
-use Rattle.tree.proofs.Depth.{none-levels, levels-node}
+use Rattle.rules.proofs.Depth.{none-levels, levels-node}
 use mathlib.Core.List.{List}
 use Prim.Native.Nat.{ℕ, _+_, _≤_, _<_, max}
 use Rattle.tree.specs.Table.{formAt}
@@ -13,8 +13,8 @@ use borrow.Fn.PlainCycle.{Measures, is, falls, and}
 use Rattle.numbering.proofs.levels_at.Reads as levels-at
 use Rattle.numbering.proofs.levels_at.Kinds as levels-at-kinds
 use Rattle.numbering.proofs.+levels_at.Lts-levels_at as levels-at-lts
-use Rattle.tree.proofs.refusal.larger.Reads as larger-reads
-use Rattle.tree.proofs.refusal.own_level.Reads as own-level-reads
+use Rattle.rules.proofs.refusal.larger.Reads as larger-reads
+use Rattle.rules.proofs.refusal.own_level.Reads as own-level-reads
 use Rattle.tree.proofs.table.operand_number.Reads as operand-number-reads
 use Rattle.numbering.proofs.+levels_at.{statement}
 use Rattle.numbering.proofs.+levels_at.Tie.{close}

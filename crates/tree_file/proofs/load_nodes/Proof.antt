@@ -4,7 +4,7 @@ use Prim.Native.Nat.{ℕ, _≤_}
 use native.Mathlib.Omega.{arith}
 use lib.ListN.{length-replicate}
 use lib.Seq.{length-take-le}
-use Rattle.tree.proofs.Count.{count-fits}
+use Rattle.rules.proofs.Count.{count-fits}
 use Rattle.tree_file.proofs.Files.{refused, bad-context, bad-count, bad-body, trailing, refused-nodes, accepted-nodes, own-room}
 use borrow.Author.Needs.{needs}
 use Rattle.tree_file.proofs.load_nodes.Statement.{statement}

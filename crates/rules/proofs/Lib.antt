@@ -1,0 +1,7 @@
+pub mod Owners
+pub mod Depth
+pub mod First
+pub mod Count
+pub mod Owned
+pub mod Accepted
+pub mod Fine

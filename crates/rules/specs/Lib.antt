@@ -1,0 +1,4 @@
+pub mod Places
+pub mod Refusals
+pub mod Passes
+pub mod Marks

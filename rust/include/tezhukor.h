@@ -1,0 +1,79 @@
+/* Where a printed Rust expression needs parentheses: the functions of libanswers.a.
+ *
+ * Build it with `rt staticlib answers` and link target/staticlib/libanswers.a.
+ *
+ * Each function is total: no argument is wrong, and a refusal is a reply. A length is
+ * a number of elements. Buffers of one call must not overlap; a pointer whose length
+ * is 0 is not followed. On a refusal every lent cell keeps its contents, otherwise
+ * cells past the answer keep theirs. No function keeps a pointer, allocates, or has
+ * state: any number of threads may call them.
+ *
+ * Refusals, of which the first that applies is told:
+ *    1 the tree file is longer than 65,536 bytes
+ *    2 a header number is malformed
+ *    3 the context is above 3
+ *    4 the node count is 0 or above 4,096, or the table is shorter than that many nodes
+ *    5 a number of a node is malformed, or bytes follow the last one
+ *    6 a form, attribute or detail number is not allowed
+ *    7 an operand is absent, present or of the wrong class, or node 1 is no expression
+ *    8 an operand's number is not above its owner's or is above the count, or a node
+ *      is not owned exactly once
+ *    9 a path type has no segment, or a list of bounds is empty
+ *   10 a closure with a written output has another body than a bare block
+ *   11 a path from the root holds more than 128 nodes
+ *   12 a lent buffer is too short
+ *   13 the tree is not plain, or its context is not 0
+ *   14 the token list is longer than 24,576, or holds a code above 45
+ *   15 the plain grammar gives the tokens no reading
+ *   16 the reading needs more than 4,096 nodes, or a path of more than 128
+ */
+#ifndef TEZHUKOR_H
+#define TEZHUKOR_H
+
+#include <stddef.h>
+#include <stdint.h>
+
+#ifdef __cplusplus
+extern "C" {
+#endif
+
+#define TEZHUKOR_MOST_NODES 4096
+#define TEZHUKOR_MOST_TOKENS 24576
+
+/* The refusal in a reply of load, write and read; 0 if there is none. */
+#define TEZHUKOR_REFUSAL(reply) ((uint16_t)((reply) >> 16))
+/* Without a refusal: the context and the count in a reply of load. */
+#define TEZHUKOR_CONTEXT(reply) ((uint16_t)((reply) / 8192))
+#define TEZHUKOR_COUNT(reply) ((uint16_t)((reply) % 8192))
+
+/* Loads a tree file into a table, five cells a node: form, attributes, detail, first,
+ * second. Replies the refusal times 65,536 (1 to 11), or the context times 8,192 and
+ * the count. */
+uint32_t tezhukor_load(const uint8_t *file, size_t file_length, uint16_t *table,
+                       size_t table_length);
+
+/* Decides the rows of a table, five cells a node: pair (1 outer, plus 2 inner),
+ * precedence, previous operator, next operator, flags; zeros for types and links.
+ * Needs three cells of scratch a node, in which it leaves zeros. Replies 0 or the
+ * refusal (3, 4, 6 to 12).
+ * Ranges nested by their ends double the time of each level. */
+uint16_t tezhukor_decide(uint16_t context, uint16_t count, const uint16_t *table,
+                         size_t table_length, uint16_t *rows, size_t rows_length,
+                         uint16_t *scratch, size_t scratch_length);
+
+/* Writes the tokens of a plain table in context 0; six cells a node must be lent.
+ * Replies the refusal times 65,536 (3, 4, 6 to 13), or the number of tokens. */
+uint32_t tezhukor_write(uint16_t context, uint16_t count, const uint16_t *table,
+                        size_t table_length, uint16_t *tokens, size_t tokens_length);
+
+/* Reads a token list into a table of at least 20,480 cells. Replies the refusal times
+ * 65,536 (12, 14 to 16), or the number of nodes.
+ * It takes up to 230 bytes of stack a token, 5.5 MiB for the longest list. */
+uint32_t tezhukor_read(const uint16_t *tokens, size_t tokens_length, uint16_t *table,
+                       size_t table_length);
+
+#ifdef __cplusplus
+}
+#endif
+
+#endif

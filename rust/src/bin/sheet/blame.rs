@@ -1,0 +1,192 @@
+//! Where a refused tree file is wrong. The refusal is the library's; this only looks
+//! for the place that it speaks of.
+
+#[allow(dead_code)]
+#[path = "../../../../tools/oracle/src/forms.rs"]
+mod places;
+
+use places::{Class, Place};
+use tezhukor::{forms, Node, Refusal};
+
+/// The place that a refusal of a file speaks of, in words.
+pub fn place(refusal: Refusal, file: &[u8]) -> String {
+    let (numbers, malformed) = numbers(file);
+    let number = |at: usize| numbers.get(at).map_or("absent".to_string(), u16::to_string);
+    match refusal {
+        Refusal::FileTooLong | Refusal::Buffer => String::new(),
+        Refusal::Header => format!(" at byte {malformed}"),
+        Refusal::Context => format!(" with context {}", number(0)),
+        Refusal::Count => format!(" with count {}", number(1)),
+        Refusal::Body => body(&numbers, malformed),
+        _ => match node(refusal, &nodes(&numbers)) {
+            Some(node) => format!(" at node {node}"),
+            None => String::new(),
+        },
+    }
+}
+
+/// The numbers of a file up to the first that is malformed, and where that begins.
+fn numbers(file: &[u8]) -> (Vec<u16>, usize) {
+    let (mut numbers, mut at) = (Vec::new(), 0);
+    while let Some((number, length)) = number(&file[at..]) {
+        numbers.push(number);
+        at += length;
+    }
+    (numbers, at)
+}
+
+/// A number and how many bytes it takes, none if it is malformed.
+fn number(bytes: &[u8]) -> Option<(u16, usize)> {
+    let length = bytes.iter().take(3).position(|byte| *byte < 0x80)? + 1;
+    let groups = bytes[..length].iter().rev();
+    let value = groups.fold(0u32, |value, byte| value << 7 | u32::from(byte & 0x7F));
+    let is_padded = length > 1 && bytes[length - 1] == 0;
+    u16::try_from(value).ok().filter(|_| !is_padded).map(|number| (number, length))
+}
+
+fn body(numbers: &[u16], malformed: usize) -> String {
+    let count = numbers.get(1).copied().map_or(0, usize::from);
+    match numbers.len() < 2 + 5 * count {
+        true => format!(" at node {}, byte {malformed}", numbers.len().saturating_sub(2) / 5 + 1),
+        false => " behind the last node".to_string(),
+    }
+}
+
+fn nodes(numbers: &[u16]) -> Vec<Node> {
+    let node = |cells: &[u16]| Node {
+        form: cells[0],
+        attributes: cells[1],
+        detail: cells[2],
+        first: cells[3],
+        second: cells[4],
+    };
+    numbers.get(2..).unwrap_or(&[]).chunks_exact(5).map(node).collect()
+}
+
+/// The first node that a refusal from 6 to 11 speaks of.
+pub fn node(refusal: Refusal, nodes: &[Node]) -> Option<usize> {
+    let first = |is_wrong: &dyn Fn(&Node) -> bool| nodes.iter().position(is_wrong).map(|at| at + 1);
+    match refusal {
+        Refusal::Label => first(&has_bad_label),
+        Refusal::Operand if class(nodes, 1) != Some(Class::Expression) => Some(1),
+        Refusal::Operand => first(&|node| has_bad_operand(nodes, node)),
+        Refusal::Numbering => badly_numbered(nodes),
+        Refusal::SegmentOrBound => first(&lacks_segment_or_bound),
+        Refusal::ClosureBody => first(&|node| has_bad_body(nodes, node)),
+        Refusal::Depth => too_deep(nodes),
+        _ => None,
+    }
+}
+
+fn has_bad_label(node: &Node) -> bool {
+    places::class(node.form).is_none()
+        || node.attributes >= places::attributes(node.form)
+        || node.detail >= places::details(node.form)
+}
+
+fn at(nodes: &[Node], number: u16) -> Option<&Node> {
+    nodes.get(usize::from(number).checked_sub(1)?)
+}
+
+fn class(nodes: &[Node], number: u16) -> Option<Class> {
+    at(nodes, number).and_then(|node| places::class(node.form))
+}
+
+fn has_bad_operand(nodes: &[Node], node: &Node) -> bool {
+    let [first, second] = places::places(node.form, node.detail);
+    !fits(nodes, node, first, node.first) || !fits(nodes, node, second, node.second)
+}
+
+/// Whether a place of a node may have that operand. An operand above the count has
+/// no class, and fits wherever one may stand.
+fn fits(nodes: &[Node], owner: &Node, place: Place, operand: u16) -> bool {
+    if operand == 0 {
+        return !place.required();
+    }
+    let list_of = |items: Option<Class>| {
+        let item = at(nodes, operand).and_then(|link| class(nodes, link.first));
+        let is_link = class(nodes, operand).is_none_or(|class| class == Class::Link);
+        is_link && (item.is_none() || items.is_none() || item == items)
+    };
+    let is = |wanted| class(nodes, operand).is_none_or(|class| class == wanted);
+    match place {
+        Place::Nothing => false,
+        Place::Expression | Place::OptionalExpression => is(Class::Expression),
+        Place::Type | Place::OptionalType => is(Class::Type),
+        Place::Item => class(nodes, operand) != Some(Class::Link),
+        Place::ExpressionList => list_of(Some(Class::Expression)),
+        Place::TypeList => list_of(Some(Class::Type)),
+        Place::Next => list_of(class(nodes, owner.first)),
+    }
+}
+
+/// An owner whose operand is not above it or above the count, or else a node that is
+/// not owned exactly once.
+fn badly_numbered(nodes: &[Node]) -> Option<usize> {
+    let mut owned = vec![0; nodes.len() + 1];
+    for (owner, node) in (1..).zip(nodes) {
+        for operand in [node.first, node.second].map(usize::from) {
+            if operand != 0 && (operand <= owner || operand > nodes.len()) {
+                return Some(owner);
+            }
+            owned[operand] += 1;
+        }
+    }
+    (2..=nodes.len()).find(|&number| owned[number] != 1)
+}
+
+fn lacks_segment_or_bound(node: &Node) -> bool {
+    let forms = [forms::TYPE_PATH, forms::TYPE_IMPL_TRAIT, forms::TYPE_TRAIT_OBJECT];
+    forms.contains(&node.form) && node.detail == 0
+}
+
+fn has_bad_body(nodes: &[Node], node: &Node) -> bool {
+    let is_block = |body: &Node| [body.form, body.attributes, body.detail] == [forms::BLOCK, 0, 0];
+    node.form == forms::CLOSURE && node.detail == 1 && !at(nodes, node.first).is_some_and(is_block)
+}
+
+/// The first node below more than 127 others, links not counted.
+fn too_deep(nodes: &[Node]) -> Option<usize> {
+    let mut depths = vec![0; nodes.len() + 1];
+    for (number, node) in (1..).zip(nodes) {
+        let depth = depths[number] + usize::from(node.form != forms::LINK);
+        if depth > 128 {
+            return Some(number);
+        }
+        for operand in [node.first, node.second].map(usize::from) {
+            if let Some(below) = depths.get_mut(operand) {
+                *below = depth;
+            }
+        }
+    }
+    None
+}
+
+#[cfg(test)]
+mod tests {
+    use super::*;
+    use tezhukor::Tree;
+
+    /// A node is found for each recorded file that is refused for one, and none in a
+    /// file that is accepted.
+    #[test]
+    fn refused_nodes_are_found() {
+        let (mut found, mut accepted) = (0, 0);
+        for file in crate::recorded::files("files", 5) {
+            let nodes = nodes(&numbers(&file).0);
+            match Tree::load(&file) {
+                Ok(_) => {
+                    let blamed = Refusal::ALL.map(|refusal| node(refusal, &nodes));
+                    assert_eq!(blamed, [None; 16]);
+                    accepted += 1;
+                }
+                Err(refusal) if (6..=11).contains(&refusal.number()) => {
+                    assert!(node(refusal, &nodes).is_some(), "{refusal:?} {nodes:?}");
+                    found += 1;
+                }
+                Err(refusal) => assert!(place(refusal, &file).len() < 60),
+            }
+        }
+        assert!(found > 5_000 && accepted > 1_000, "{found} found, {accepted} accepted");
+    }
+}

@@ -1,0 +1,165 @@
+//! The commands.
+
+use crate::answer::{words, Answer};
+use crate::names::Names;
+use crate::{blame, lexer, locate, show, why, USAGE};
+use std::ffi::{OsStr, OsString};
+use std::fmt::Write;
+use std::io::{IsTerminal, Read};
+use tezhukor::{codes, forms, Refusal, Tree};
+
+/// A tree file may have 65,536 bytes; one more shows that it is too long.
+const FILE_BYTES: u64 = 65_537;
+
+/// An expression as text may have so many bytes.
+const TEXT_BYTES: u64 = 1 << 20;
+
+/// Runs a command. An answer in `Err` is a refusal or wrong usage.
+pub fn run(arguments: &[OsString]) -> Result<Answer, Answer> {
+    let Some((command, rest)) = arguments.split_first() else {
+        return Err(Answer::usage());
+    };
+    let (names, rest) = names_option(rest)?;
+    match (command.to_str(), rest, names) {
+        (Some("read"), [], names) => read(&text_from(std::io::stdin())?, names),
+        (Some("read"), [text], names) => read(&utf8(text.as_encoded_bytes())?, names),
+        (Some("show"), [file], names) => show(file, names),
+        (Some("why"), [file], names) => why(file, names),
+        (Some("rows"), [file], None) => rows(file),
+        (Some("tokens"), [file], None) => tokens(file),
+        (Some("check"), [file], None) => check(file),
+        (Some("help" | "--help" | "-h"), _, None) => Ok(Answer::done(USAGE)),
+        _ => Err(Answer::usage()),
+    }
+}
+
+/// Takes `--names FILE` from the front.
+fn names_option(arguments: &[OsString]) -> Result<(Option<&OsStr>, &[OsString]), Answer> {
+    match arguments {
+        [option, file, rest @ ..] if option == "--names" => Ok((Some(file), rest)),
+        [option] if option == "--names" => Err(Answer::usage()),
+        _ => Ok((None, arguments)),
+    }
+}
+
+fn read(text: &str, names: Option<&OsStr>) -> Result<Answer, Answer> {
+    let at = |at, message: &str| Answer::refused(locate::pointed(text, at, message));
+    let tokens = lexer::tokens(text).map_err(|error| at(error.at, &error.message))?;
+    let codes: Vec<u16> = tokens.iter().map(|token| token.code).collect();
+    let tree = Tree::read(&codes).map_err(|refusal| match refusal {
+        Refusal::NoReading => {
+            let place = locate::unread(&codes);
+            at(
+                tokens.get(place.token).map_or(text.trim_end().len(), |token| token.at),
+                &place.message,
+            )
+        }
+        _ => Answer::refused(words(refusal, "")),
+    })?;
+    if let Some(file) = names {
+        let lines = lexer::names(text, &tokens);
+        std::fs::write(file, lines).map_err(|error| unreadable(file, &error))?;
+    }
+    Ok(Answer::done(tree.to_file()))
+}
+
+fn show(file: &OsStr, names: Option<&OsStr>) -> Result<Answer, Answer> {
+    let (tree, names) = (load(file)?, names_from(names)?);
+    let colour = std::io::stdout().is_terminal() && std::env::var_os("NO_COLOR").is_none();
+    let mut text = show::shown(&tree, names).text(colour);
+    text.push('\n');
+    Ok(Answer::done(text))
+}
+
+fn why(file: &OsStr, names: Option<&OsStr>) -> Result<Answer, Answer> {
+    let (tree, names) = (load(file)?, names_from(names)?);
+    let lines = why::lines(&tree, names);
+    Ok(match lines.is_empty() {
+        true => Answer::done("no pair was added\n"),
+        false => Answer::done(lines.join("\n") + "\n"),
+    })
+}
+
+/// As the program `parens` prints them.
+fn rows(file: &OsStr) -> Result<Answer, Answer> {
+    let tree = load(file)?;
+    let mut text = format!("ok {}\n", tree.count());
+    for (number, row) in (1..).zip(tree.rows()) {
+        if tree.node(number).is_some_and(|node| node.form <= forms::YIELD) {
+            let (pair, precedence, flags) = (row.pair, row.precedence, row.flags);
+            let (previous, next) = (row.previous_operator, row.next_operator);
+            let _ = writeln!(text, "{number} {pair} {precedence} {previous} {next} {flags}");
+        }
+    }
+    Ok(Answer::done(text))
+}
+
+/// The codes, and below them how they are spelled.
+fn tokens(file: &OsStr) -> Result<Answer, Answer> {
+    let tokens = load(file)?.tokens().map_err(|refusal| Answer::refused(words(refusal, "")))?;
+    let numbers: Vec<String> = tokens.iter().map(u16::to_string).collect();
+    let spelled: Vec<&str> =
+        tokens.iter().filter_map(|&code| codes::SPELLED.get(usize::from(code)).copied()).collect();
+    Ok(Answer::done(format!("ok {}\n{}\n{}\n", tokens.len(), numbers.join(" "), spelled.join(" "))))
+}
+
+fn check(file: &OsStr) -> Result<Answer, Answer> {
+    let tree = load(file)?;
+    let plain = match tree.tokens() {
+        Ok(_) => "plain",
+        Err(_) => "not plain",
+    };
+    Ok(Answer::done(format!(
+        "accepted: {} nodes, context {}, {plain}\n",
+        tree.count(),
+        tree.context()
+    )))
+}
+
+/// Loads a tree file, or says what is wrong with it and where.
+fn load(file: &OsStr) -> Result<Tree, Answer> {
+    let bytes = bytes_of(file, FILE_BYTES)?;
+    Tree::load(&bytes)
+        .map_err(|refusal| Answer::refused(words(refusal, &blame::place(refusal, &bytes))))
+}
+
+/// At most so many bytes of a file, or of standard input.
+fn bytes_of(file: &OsStr, most: u64) -> Result<Vec<u8>, Answer> {
+    let mut bytes = Vec::new();
+    let read = match file.to_str() {
+        Some("-") => std::io::stdin().take(most).read_to_end(&mut bytes),
+        _ => std::fs::File::open(file).and_then(|from| from.take(most).read_to_end(&mut bytes)),
+    };
+    read.map_err(|error| unreadable(file, &error))?;
+    Ok(bytes)
+}
+
+fn unreadable(file: &OsStr, error: &std::io::Error) -> Answer {
+    Answer::wrong(format!("{}: {error}", file.to_string_lossy()))
+}
+
+/// An expression as text.
+fn text_from(from: impl Read) -> Result<String, Answer> {
+    let mut bytes = Vec::new();
+    let read = from.take(TEXT_BYTES + 1).read_to_end(&mut bytes);
+    read.map_err(|error| unreadable(OsStr::new("standard input"), &error))?;
+    utf8(&bytes)
+}
+
+fn utf8(bytes: &[u8]) -> Result<String, Answer> {
+    if bytes.len() as u64 > TEXT_BYTES {
+        return Err(Answer::refused(format!("the text is longer than {TEXT_BYTES} bytes")));
+    }
+    String::from_utf8(bytes.to_vec()).map_err(|error| {
+        let at = error.utf8_error().valid_up_to();
+        Answer::refused(format!("the text is not UTF-8 at byte {at}"))
+    })
+}
+
+fn names_from(file: Option<&OsStr>) -> Result<Names, Answer> {
+    let Some(file) = file else {
+        return Ok(Names::default());
+    };
+    let bytes = bytes_of(file, TEXT_BYTES)?;
+    Ok(Names::new(&String::from_utf8_lossy(&bytes)))
+}

@@ -1,0 +1,63 @@
+//! Where a text is wrong.
+
+use crate::open::{Next, Open};
+use tezhukor::codes::NAME;
+use tezhukor::{Refusal, Tree};
+
+/// The token from which on there is no reading; behind the last one the text ends
+/// too early.
+pub struct Unread {
+    pub token: usize,
+    pub message: String,
+}
+
+/// Where a list without a reading goes wrong: at the first token such that no list
+/// that begins like this one up to it has a reading.
+pub fn unread(codes: &[u16]) -> Unread {
+    let lengths: Vec<usize> = (1..=codes.len()).collect();
+    let token = lengths.partition_point(|&length| begins_a_reading(&codes[..length]));
+    let message = match token == codes.len() {
+        true => ends_early(codes),
+        false => "refused (15): nothing that begins like this has a reading, from here on",
+    };
+    Unread { token, message: message.to_string() }
+}
+
+/// Whether some list that begins like this has a reading: what is open is closed,
+/// perhaps behind one more name.
+fn begins_a_reading(codes: &[u16]) -> bool {
+    let closing: Vec<u16> = Open::behind(codes).closing.into_iter().rev().collect();
+    [&[][..], &[NAME]].iter().any(|name| {
+        let list = [codes, name, &closing[..]].concat();
+        Tree::read(&list) != Err(Refusal::NoReading)
+    })
+}
+
+fn ends_early(codes: &[u16]) -> &'static str {
+    let open = Open::behind(codes);
+    if open.in_type_arguments() {
+        return "refused (15): the text ends within type arguments; `<` behind a type name \
+                always opens them, so a cast before `<` needs parentheses";
+    }
+    match (open.closing.is_empty(), open.next) {
+        (_, Next::Operand) => "refused (15): the text ends where an operand must stand",
+        (_, Next::Type) => "refused (15): the text ends where a type must stand",
+        (_, Next::Member) => "refused (15): the text ends where a member must stand",
+        (false, _) => "refused (15): the text ends before a bracket is closed",
+        (true, _) => "refused (15): the text has no reading",
+    }
+}
+
+/// A message, the line of a place in the text, and a mark below it.
+pub fn pointed(text: &str, at: usize, message: &str) -> String {
+    let before = text.get(..at).unwrap_or(text);
+    let start = before.rfind('\n').map_or(0, |newline| newline + 1);
+    let line = text[start..].lines().next().unwrap_or("");
+    let number = before.matches('\n').count() + 1;
+    let column = before[start..].chars().count() + 1;
+    let blank: String =
+        before[start..].chars().map(|c| if c == '\t' { '\t' } else { ' ' }).collect();
+    let shown: String =
+        line.chars().map(|c| if c.is_control() && c != '\t' { '?' } else { c }).collect();
+    format!("{message} (line {number}, column {column})\n  {shown}\n  {blank}^")
+}

@@ -1,0 +1,58 @@
+//! `sheet`: expressions, tree files and their pairs, for people.
+
+mod answer;
+mod blame;
+mod commands;
+mod lexer;
+mod locate;
+mod names;
+mod open;
+#[cfg(test)]
+mod recorded;
+mod show;
+mod why;
+mod words;
+
+use std::io::Write;
+use std::process::ExitCode;
+
+const USAGE: &str = "\
+sheet: where a printed Rust expression needs parentheses
+
+  sheet read [--names OUT] [TEXT]    an expression as text to a tree file on standard
+                                     output; TEXT, or standard input without it
+  sheet show [--names NAMES] FILE    the tree as text, with the pairs that it needs
+  sheet why [--names NAMES] FILE     a line for each added pair: who asks for it
+  sheet rows FILE                    the row of each expression: node, pair,
+                                     precedence, previous and next operator, flags
+  sheet tokens FILE                  the tokens of a plain tree
+  sheet check FILE                   accepted, or what is wrong and at which node
+
+FILE is a tree file; - is standard input. Tree files hold no names and literals:
+`read --names OUT` writes them to OUT, a line each, in order of occurrence, and
+`--names NAMES` takes them from such a file. Without it they are called a, b, c ..
+(types A, B, C ..), literals 1, members 0; closed forms have `..` inside.
+The first example:
+
+  sheet read 'offset - (station - start)' > curve.tree
+  sheet show curve.tree
+  sheet why curve.tree
+
+Exit status: 0 done, 1 refused, 2 wrong usage or a file that cannot be read or written.
+";
+
+fn main() -> ExitCode {
+    let arguments: Vec<_> = std::env::args_os().skip(1).collect();
+    let answer = commands::run(&arguments).unwrap_or_else(|answer| answer);
+    let mut status = answer.status;
+    if !put(std::io::stdout(), &answer.output) && status == 0 {
+        status = 2;
+    }
+    put(std::io::stderr(), answer.message.as_bytes());
+    ExitCode::from(status)
+}
+
+/// Writes all bytes, or says that they cannot be written.
+fn put(mut to: impl Write, bytes: &[u8]) -> bool {
+    to.write_all(bytes).and_then(|()| to.flush()).is_ok()
+}

@@ -1,0 +1,258 @@
+//! Why a pair was added: the owner's test, or a part of `parenthesize`.
+
+use crate::names::Names;
+use crate::show::{self, Shown};
+use crate::words;
+use tezhukor::boundary::questions::{self, Context, Handed, Place, Question};
+use tezhukor::forms::*;
+use tezhukor::{Node, Row, Tree};
+
+/// The flag of a context that says: the next operator can begin generic arguments.
+const GENERICS: u16 = 1 << 9;
+
+/// A part of `parenthesize`: the flags that it looks at, the forms that it is about,
+/// and what it says.
+struct Part {
+    flags: u16,
+    is_about: fn(u16) -> bool,
+    says: &'static str,
+}
+
+/// In the order of fixup.rs.
+const PARTS: [Part; 7] = [
+    Part {
+        flags: 1 << 1,
+        is_about: |form| form != LET,
+        says: "part 1, it begins a statement, which would end behind it",
+    },
+    Part {
+        flags: 1 | 1 << 1,
+        is_about: |form| form == LET,
+        says: "part 2, a let that begins a statement",
+    },
+    Part {
+        flags: 1 << 3,
+        is_about: |_| true,
+        says: "part 3, it begins a match arm, which would end behind it",
+    },
+    Part {
+        flags: 1 << 4,
+        is_about: |form| form == STRUCT,
+        says: "part 4, a struct in a condition, whose brace would open the body",
+    },
+    Part {
+        flags: 1 << 5,
+        is_about: |form| matches!(form, RETURN | YIELD),
+        says: "part 5, no value at the end of a condition, where the body would be it",
+    },
+    Part {
+        flags: 1 << 4 | 1 << 5,
+        is_about: |form| matches!(form, BREAK | PATH | RANGE),
+        says: "part 6, at the end of a condition, where it would take the body's brace",
+    },
+    Part {
+        flags: 1 << 6,
+        is_about: |form| form == BLOCK,
+        says: "part 7, a block where a value may be left out, which would be the body",
+    },
+];
+
+/// A line for each added outer pair, by node number.
+pub fn lines(tree: &Tree, names: Names) -> Vec<String> {
+    let shown = show::shown(tree, names);
+    let (rows, owners) = (tree.rows(), owners(tree));
+    let asked = |number: &u16| rows[usize::from(*number) - 1].has_outer_pair();
+    (1..=tree.count())
+        .filter(asked)
+        .map(|number| line(&Operand::new(tree, &rows, &owners, number), &shown))
+        .collect()
+}
+
+/// Each node's owner and its place there, 0 or 1; none for the root.
+fn owners(tree: &Tree) -> Vec<Option<(u16, u16)>> {
+    let mut owners = vec![None; usize::from(tree.count()) + 1];
+    for number in 1..=tree.count() {
+        let node = tree.node(number).unwrap_or_default();
+        for (place, operand) in [(0, node.first), (1, node.second)] {
+            if operand != 0 {
+                owners[usize::from(operand)] = Some((number, place));
+            }
+        }
+    }
+    owners
+}
+
+/// An expression with all that its pair depends on.
+struct Operand<'a> {
+    tree: &'a Tree,
+    number: u16,
+    node: Node,
+    row: Row,
+    owner: Option<(u16, u16)>,
+    handed: Option<Handed>,
+    /// The owner that is no link, for an item that of the list.
+    named_owner: u16,
+}
+
+impl Operand<'_> {
+    fn new<'a>(
+        tree: &'a Tree,
+        rows: &[Row],
+        owners: &[Option<(u16, u16)>],
+        number: u16,
+    ) -> Operand<'a> {
+        let owner = owners[usize::from(number)];
+        let handed = owner.map(|(owner, place)| {
+            let row = rows[usize::from(owner) - 1];
+            let own = if row.has_outer_pair() { [0; 3] } else { context(row) };
+            questions::handed(place, own, place_of(tree, owner))
+        });
+        let mut named_owner = owner.map_or(0, |owner| owner.0);
+        while tree.node(named_owner).is_some_and(|node| node.form == LINK) {
+            named_owner = owners[usize::from(named_owner)].map_or(0, |owner| owner.0);
+        }
+        let (node, row) = (tree.node(number).unwrap_or_default(), rows[usize::from(number) - 1]);
+        Operand { tree, number, node, row, owner, handed, named_owner }
+    }
+
+    fn place(&self) -> Place<'_> {
+        place_of(self.tree, self.number)
+    }
+
+    /// Whether the owner groups an operand of such a precedence.
+    fn is_grouped(&self, precedence: u16) -> bool {
+        self.handed.is_some_and(|handed| precedence < handed.below)
+    }
+
+    /// The precedence in another context, by the function for the operand's side.
+    fn precedence(&self, context: Context) -> u16 {
+        let question = match self.handed.map(|handed| handed.side) {
+            Some(0) => Question::LeftPrecedence,
+            Some(1) => Question::RightPrecedence,
+            _ => Question::Precedence,
+        };
+        questions::answer(question, context, self.place())
+    }
+
+    fn asks(&self, context: Context) -> bool {
+        questions::answer(Question::Parenthesize, context, self.place()) == 1
+    }
+
+    /// Whether only the generics flag asks for the pair.
+    fn is_for_generics(&self) -> bool {
+        let [previous, next, flags] = context(self.row);
+        let without = [previous, next, flags & !GENERICS];
+        flags & GENERICS != 0
+            && !self.is_grouped(self.precedence(without))
+            && !self.asks(context(self.row))
+    }
+
+    /// The part of parenthesize that asks.
+    fn part(&self) -> &'static str {
+        let [previous, next, flags] = context(self.row);
+        let asks = |part: &&Part| {
+            (part.is_about)(self.node.form) && self.asks([previous, next, flags & part.flags])
+        };
+        PARTS.iter().find(asks).map_or("no part", |part| part.says)
+    }
+
+    /// The owner's precedence: that of the operator on the operand's inner side.
+    fn owners_precedence(&self) -> Option<u16> {
+        match self.handed?.side {
+            0 => Some(self.row.next_operator),
+            1 => Some(self.row.previous_operator),
+            _ => None,
+        }
+    }
+
+    /// The owner's test in words.
+    fn test(&self) -> String {
+        let below = self.handed.map_or(0, |handed| handed.below);
+        match (below, self.owners_precedence()) {
+            (16.., _) if self.node.form == FIELD => {
+                "a named field that is called, which would be a method call".to_string()
+            }
+            (16.., _) => "it begins with a label, which the break would take".to_string(),
+            (below, Some(owner)) if below == owner => {
+                format!("it groups what is below {}", words::precedence(owner))
+            }
+            (below, _) => format!("it groups what is not above {}", words::precedence(below - 1)),
+        }
+    }
+
+    /// Who asks for the pair.
+    fn reason(&self) -> String {
+        if !self.is_grouped(self.row.precedence) {
+            return format!("parenthesize asks for it: {}", self.part());
+        }
+        let only = match self.is_for_generics() {
+            true => "; only the generics flag makes it so, for `<` or `<<` behind a type name",
+            false => "",
+        };
+        format!("the owner's test asks for it: {}{only}", self.test())
+    }
+
+    /// Which operand of which owner.
+    fn standing(&self) -> String {
+        let Some((_, place)) = self.owner else {
+            return "the root".to_string();
+        };
+        let owner = self.tree.node(self.named_owner).unwrap_or_default();
+        let operand = match (self.handed.map(|handed| handed.side), place) {
+            (Some(0), _) => "left operand",
+            (Some(1), _) => "right operand",
+            _ => "operand",
+        };
+        format!("{operand} of node {}, {}", self.named_owner, words::form(owner))
+    }
+}
+
+fn context(row: Row) -> Context {
+    [row.previous_operator, row.next_operator, row.flags]
+}
+
+fn place_of(tree: &Tree, node: u16) -> Place<'_> {
+    Place { table: tree.cells(), count: tree.count(), node }
+}
+
+fn line(operand: &Operand, shown: &Shown) -> String {
+    let owner = operand.owners_precedence().map_or("none".to_string(), words::precedence);
+    format!(
+        "node {} `{}`, {}: precedence {}, the owner's {owner}; {}",
+        operand.number,
+        shown.of(operand.number),
+        operand.standing(),
+        words::precedence(operand.row.precedence),
+        operand.reason(),
+    )
+}
+
+#[cfg(test)]
+mod tests {
+    use super::*;
+
+    /// Each recorded tree: a pair is there just where the owner's test or a part of
+    /// parenthesize asks for it, and each that is there has its reason.
+    #[test]
+    fn reasons_are_the_rows() {
+        let (mut pairs, mut others) = (0, 0);
+        for file in crate::recorded::files("rows", 5) {
+            let Ok(tree) = Tree::load(&file) else {
+                continue;
+            };
+            let (rows, owners) = (tree.rows(), owners(&tree));
+            for number in (1..=tree.count()).filter(|&n| tree.node(n).unwrap().form <= YIELD) {
+                let operand = Operand::new(&tree, &rows, &owners, number);
+                let handed = operand.handed.map_or(context(operand.row), |handed| handed.context);
+                assert_eq!(handed, context(operand.row));
+                let is_grouped = operand.is_grouped(operand.row.precedence);
+                let is_asked = operand.asks(context(operand.row));
+                assert_eq!(operand.row.has_outer_pair(), is_grouped || is_asked);
+                assert_eq!(is_asked, operand.part() != "no part");
+                assert_eq!(operand.precedence(handed), operand.row.precedence);
+                *if is_grouped || is_asked { &mut pairs } else { &mut others } += 1;
+            }
+        }
+        assert!(pairs > 5_000 && others > 20_000, "{pairs} pairs, {others} others");
+    }
+}

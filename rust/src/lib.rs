@@ -1,0 +1,95 @@
+//! Where a printed Rust expression needs parentheses.
+//!
+//! `offset - (station - start)` without its pair compiles, and means another curve.
+//! A generator that makes syntax trees hands each one over as a *tree file*, and gets
+//! back which operands need a pair:
+//!
+//! ```
+//! // offset - (station - start): Binary Sub over a Path and another Binary Sub.
+//! let file = [0, 5, 5, 0, 1, 2, 3, 26, 0, 0, 0, 0, 5, 0, 1, 4, 5, 26, 0, 0, 0, 0, 26, 0, 0, 0, 0];
+//! let rows = tezhukor::rows(&file)?;
+//! let pairs: Vec<bool> = rows.iter().map(|row| row.has_outer_pair()).collect();
+//! assert_eq!(pairs, [false, false, true, false, false]);
+//! # Ok::<(), tezhukor::Refusal>(())
+//! ```
+//!
+//! A *plain* tree (names, literals, operators, casts, calls, fields, indexes, `?` and
+//! await) can be written as tokens, and tokens read back as a tree:
+//!
+//! ```
+//! use tezhukor::codes::{CLOSE, MINUS, NAME, OPEN};
+//!
+//! let tokens = [NAME, MINUS, OPEN, NAME, MINUS, NAME, CLOSE];
+//! let file = tezhukor::tree_file(&tokens)?;
+//! assert_eq!(tezhukor::tokens(&file)?, tokens);
+//!
+//! // Without the pair it is another tree.
+//! let other = tezhukor::tree_file(&[NAME, MINUS, NAME, MINUS, NAME])?;
+//! assert_ne!(other, file);
+//! # Ok::<(), tezhukor::Refusal>(())
+//! ```
+//!
+//! It is proved, for every accepted plain tree in context 0, that its tokens have
+//! exactly one reading, the tree without its own parentheses, and that no pair that
+//! was added can be left out. `docs/TRUST.md` says what a reader must believe; this
+//! crate, which calls the proved library, is on that list.
+//!
+//! What is wrong with a file is told by number and in a sentence:
+//!
+//! ```
+//! let refusal = tezhukor::rows(&[4, 1, 26, 0, 0, 0, 0]).unwrap_err();
+//! assert_eq!(refusal, tezhukor::Refusal::Context);
+//! assert_eq!(refusal.number(), 3);
+//! assert_eq!(refusal.to_string(), "The context is above 3.");
+//! ```
+//!
+//! Names and literals travel beside the tree, in order of occurrence; tree files hold
+//! none. Ranges nested by their ends double the time of each level, in prettyplease
+//! as here: do not nest more than some 20.
+
+pub mod boundary;
+pub mod codes;
+pub mod forms;
+mod refusal;
+mod tree;
+
+pub use refusal::Refusal;
+pub use tree::{Node, Row, Tree, MOST_NODES};
+
+/// The rows of a tree file, node 1 first.
+///
+/// ```
+/// // (a + b) * c
+/// let file = [0, 5, 5, 0, 2, 2, 3, 5, 0, 0, 4, 5, 26, 0, 0, 0, 0, 26, 0, 0, 0, 0, 26, 0, 0, 0, 0];
+/// let rows = tezhukor::rows(&file)?;
+/// assert!(rows[1].has_outer_pair());
+/// assert_eq!(rows[1].precedence, 11);
+/// # Ok::<(), tezhukor::Refusal>(())
+/// ```
+pub fn rows(file: &[u8]) -> Result<Vec<Row>, Refusal> {
+    Ok(Tree::load(file)?.rows())
+}
+
+/// The tokens of the tree file of a plain tree ([`codes`]).
+///
+/// ```
+/// use tezhukor::Refusal;
+/// // A name, and a block, which is not plain.
+/// assert_eq!(tezhukor::tokens(&[0, 1, 26, 0, 0, 0, 0]), Ok(vec![32]));
+/// assert_eq!(tezhukor::tokens(&[0, 1, 6, 0, 0, 0, 0]), Err(Refusal::NotPlain));
+/// ```
+pub fn tokens(file: &[u8]) -> Result<Vec<u16>, Refusal> {
+    Tree::load(file)?.tokens()
+}
+
+/// The tree file of a token list's reading.
+///
+/// ```
+/// use tezhukor::Refusal;
+/// assert_eq!(tezhukor::tree_file(&[32]), Ok(vec![0, 1, 26, 0, 0, 0, 0]));
+/// // Comparisons do not chain.
+/// assert_eq!(tezhukor::tree_file(&[32, 13, 32, 13, 32]), Err(Refusal::NoReading));
+/// ```
+pub fn tree_file(tokens: &[u16]) -> Result<Vec<u8>, Refusal> {
+    Ok(Tree::read(tokens)?.to_file())
+}

@@ -1,0 +1,66 @@
+//! Refusals.
+
+use std::fmt;
+
+/// Defines the refusals: number, name and sentence.
+macro_rules! refusals {
+    ($($number:literal $name:ident $sentence:literal,)*) => {
+        /// Why something was refused. Of several reasons the first by number is told.
+        #[derive(Copy, Clone, PartialEq, Eq, PartialOrd, Ord, Hash, Debug)]
+        #[repr(u16)]
+        pub enum Refusal {
+            $(#[doc = $sentence] $name = $number,)*
+        }
+
+        impl Refusal {
+            /// All refusals, by number.
+            pub const ALL: [Refusal; 16] = [$(Refusal::$name,)*];
+
+            /// What is wrong, in one sentence.
+            pub fn sentence(self) -> &'static str {
+                match self {
+                    $(Refusal::$name => $sentence,)*
+                }
+            }
+        }
+    };
+}
+
+refusals! {
+    1 FileTooLong "The tree file is longer than 65,536 bytes.",
+    2 Header "A header number is malformed: cut off, above 65,535, or with a last group of zero.",
+    3 Context "The context is above 3.",
+    4 Count "The node count is 0 or above 4,096, or the table is shorter than that many nodes.",
+    5 Body "A number of a node is malformed, or bytes follow the last one.",
+    6 Label "A node's form, attributes or detail is a number that is not allowed there.",
+    7 Operand "An operand is absent where required, present where forbidden, or of the wrong class, or node 1 is no expression.",
+    8 Numbering "An operand's number is not above its owner's or is above the count, or a node is not owned exactly once.",
+    9 SegmentOrBound "A path type has no segment, or a list of bounds is empty.",
+    10 ClosureBody "A closure with a written output has a body other than a block without attributes and label.",
+    11 Depth "A path from the root holds more than 128 nodes, list links not counted.",
+    12 Buffer "A lent buffer is too short.",
+    13 NotPlain "The tree has a form that is not plain, or its context is not 0.",
+    14 Tokens "The token list is longer than 24,576, or holds a code above 45.",
+    15 NoReading "The plain grammar gives these tokens no reading.",
+    16 ReadingTooLarge "The reading needs more than 4,096 nodes, or a path of more than 128.",
+}
+
+impl Refusal {
+    /// The reply number, 1 to 16.
+    pub fn number(self) -> u16 {
+        self as u16
+    }
+
+    /// The refusal with a reply number; none for 0 and above 16.
+    pub fn numbered(number: u16) -> Option<Refusal> {
+        Refusal::ALL.into_iter().find(|refusal| refusal.number() == number)
+    }
+}
+
+impl fmt::Display for Refusal {
+    fn fmt(&self, f: &mut fmt::Formatter) -> fmt::Result {
+        f.write_str(self.sentence())
+    }
+}
+
+impl std::error::Error for Refusal {}

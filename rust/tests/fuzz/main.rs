@@ -1,0 +1,442 @@
+//! The four functions of the boundary on random bytes, damaged files, damaged tables
+//! and token lists, with every buffer length around each boundary.
+//!
+//! Each reply and each lent cell is compared with what the library's definitions say,
+//! as they are stated a second time by `tools/oracle` (tree files and refusals) and
+//! `tools/readings` (all readings of a token list, found by cutting it), and here
+//! (buffers, tokens, trees without parentheses). A row's contents are stated by the
+//! recorded rows, see `tests/recorded.rs`.
+//!
+//! TEZHUKOR_FUZZ says how many of each are made; 2,000 if it says nothing.
+
+extern crate self as oracle;
+
+#[allow(dead_code)]
+#[path = "../../../tools/oracle/src/accept.rs"]
+mod accept;
+#[allow(dead_code)]
+#[path = "../../../tools/readings/src/chart.rs"]
+mod chart;
+#[allow(dead_code)]
+#[path = "../../../tools/readings/src/codes.rs"]
+mod codes;
+#[allow(dead_code)]
+#[path = "../../../tools/oracle/src/forms.rs"]
+mod forms;
+#[allow(dead_code, unused_imports)]
+#[path = "../../../tools/oracle/src/generate/mod.rs"]
+mod generate;
+mod lent;
+#[allow(dead_code)]
+#[path = "../../../tools/readings/src/rules.rs"]
+mod rules;
+#[allow(dead_code)]
+#[path = "../../../tools/oracle/src/table.rs"]
+mod table;
+#[allow(dead_code)]
+#[path = "../../../tools/readings/src/verdict.rs"]
+mod verdict;
+mod written;
+
+use chart::Chart;
+use generate::{Dice, Family};
+use lent::Lent;
+use rules::Rules;
+use table::NodeTable;
+use tezhukor::{boundary, Refusal, Tree};
+
+/// How many of each are made.
+fn times() -> u64 {
+    std::env::var("TEZHUKOR_FUZZ").ok().and_then(|times| times.parse().ok()).unwrap_or(2_000)
+}
+
+/// How many have which reply.
+#[derive(Default)]
+struct Tally([u64; 17]);
+
+impl Tally {
+    fn count(&mut self, refusal: u16) {
+        self.0[usize::from(refusal)] += 1;
+    }
+
+    fn print(&self, name: &str) {
+        let all: u64 = self.0.iter().sum();
+        let replies: Vec<String> = (0..17)
+            .filter(|&reply| self.0[reply] > 0)
+            .map(|reply| format!("{reply}: {}", self.0[reply]))
+            .collect();
+        println!("{name}: {all}, by reply {}; different 0", replies.join(", "));
+    }
+}
+
+/// What loading a file into a table of so many cells must give.
+fn loaded(file: &[u8], lent: usize) -> Result<NodeTable, u16> {
+    let parsed = table::read(file);
+    if matches!(parsed, Err(1..=4)) {
+        return parsed;
+    }
+    // The context is one byte, the count one or two.
+    let high = if file[1] < 0x80 { 0 } else { usize::from(file[2]) << 7 };
+    if lent < 5 * (usize::from(file[1] & 0x7F) | high) {
+        return Err(4);
+    }
+    let table = parsed?;
+    match accept::refusal(&table) {
+        0 => Ok(table),
+        refusal => Err(refusal),
+    }
+}
+
+/// Loads a file with so many cells lent.
+fn load(file: &[u8], length: usize, tally: &mut Tally) -> Option<NodeTable> {
+    let mut lent = Lent::new(length);
+    let reply = boundary::load(file, lent.cells());
+    let meant = loaded(file, length);
+    let (refusal, number) = match &meant {
+        Ok(table) => (0, 8_192 * u32::from(table.context) + u32::from(table.count)),
+        Err(refusal) => (*refusal, 65_536 * u32::from(*refusal)),
+    };
+    assert_eq!(reply, number, "{file:?}");
+    lent.holds(meant.as_ref().map_or(&[], |table| &table.cells[..]));
+    tally.count(refusal);
+    meant.ok()
+}
+
+/// Decides a table with so many cells lent for rows and for scratch.
+fn decide(table: &NodeTable, [rows, scratch]: [usize; 2], tally: &mut Tally) {
+    let (mut lent_rows, mut lent_scratch) = (Lent::new(rows), Lent::new(scratch));
+    let NodeTable { context, count, cells } = table;
+    let reply = boundary::decide(*context, *count, cells, lent_rows.cells(), lent_scratch.cells());
+    let nodes = usize::from(*count);
+    let meant = match accept::refusal(table) {
+        0 if rows < 5 * nodes || scratch < 3 * nodes => 12,
+        refusal => refusal,
+    };
+    assert_eq!(reply, meant, "{table:?}");
+    tally.count(reply);
+    if reply != 0 {
+        lent_rows.holds(&[]);
+        lent_scratch.holds(&[]);
+        return;
+    }
+    let tree = Tree::load(&table::write(&exactly(table))).expect("accepted");
+    let rows: Vec<u16> = tree
+        .rows()
+        .iter()
+        .flat_map(|row| {
+            [row.pair, row.precedence, row.previous_operator, row.next_operator, row.flags]
+        })
+        .collect();
+    lent_rows.holds(&rows);
+    lent_scratch.holds(&vec![0; 3 * nodes]);
+}
+
+/// A table without cells past its last node.
+fn exactly(table: &NodeTable) -> NodeTable {
+    let cells = table.cells[..5 * usize::from(table.count)].to_vec();
+    NodeTable { cells, ..*table }
+}
+
+/// Writes a table with so many cells lent; gives the tokens.
+fn write(table: &NodeTable, length: usize, tally: &mut Tally) -> Option<Vec<u16>> {
+    let mut lent = Lent::new(length);
+    let NodeTable { context, count, cells } = table;
+    let reply = boundary::write(*context, *count, cells, lent.cells());
+    let meant = match accept::refusal(table) {
+        0 if length < 6 * usize::from(*count) => Err(12),
+        0 if *context != 0 || !written::is_plain(table) => Err(13),
+        0 => Ok(written::tokens(table)),
+        refusal => Err(refusal),
+    };
+    let number = match &meant {
+        Ok(tokens) => tokens.len() as u32,
+        Err(refusal) => 65_536 * u32::from(*refusal),
+    };
+    assert_eq!(reply, number, "{table:?}");
+    tally.count(meant.as_ref().err().copied().unwrap_or(0));
+    lent.holds(meant.as_deref().unwrap_or(&[]));
+    meant.ok()
+}
+
+/// Reads a token list with so many cells lent, when it must give that.
+fn read(tokens: &[u16], length: usize, verdict: &Result<Vec<u16>, u16>, tally: &mut Tally) {
+    let mut lent = Lent::new(length);
+    let reply = boundary::read(tokens, lent.cells());
+    let meant = if length < 20_480 { &Err(12) } else { verdict };
+    let number = match meant {
+        Ok(cells) => cells.len() as u32 / 5,
+        Err(refusal) => 65_536 * u32::from(*refusal),
+    };
+    assert_eq!(reply, number, "{tokens:?}");
+    lent.holds(meant.as_deref().unwrap_or(&[]));
+    tally.count(meant.as_ref().err().copied().unwrap_or(0));
+}
+
+/// One of the lengths around a boundary.
+fn around(boundary: usize, dice: &mut Dice) -> usize {
+    let near = [0, boundary.saturating_sub(1), boundary, boundary + 1, boundary + 7];
+    match dice.below(8) {
+        0..=4 => dice.pick(&near),
+        5 => dice.below(boundary + 1),
+        _ => boundary,
+    }
+}
+
+/// The length for a table that a file of that many bytes may need.
+fn table_length(file: &[u8], dice: &mut Dice) -> usize {
+    match loaded(file, 20_480) {
+        Ok(table) => around(table.cells.len(), dice),
+        Err(_) => dice.pick(&[0, 5, 20_479, 20_480, 20_480, 20_480, 20_480, 20_481]),
+    }
+}
+
+#[test]
+fn random_bytes() {
+    let mut tally = Tally::default();
+    for index in 0..times() {
+        let dice = &mut Dice::new(1, index);
+        let length = dice.pick(&[0, 1, 2, 3, 7, 12, 17, 60, 300]);
+        let most = dice.pick(&[4, 60, 130, 256]);
+        let mut file: Vec<u8> = (0..length).map(|_| dice.below(most) as u8).collect();
+        if length > 2 && dice.percent(60) {
+            file[0] = dice.below(4) as u8;
+            file[1] = ((length - 2) / 5) as u8 & 0x7F;
+        }
+        let length = table_length(&file, dice);
+        load(&file, length, &mut tally);
+        let whole = Tree::load(&file).map(|tree| tree.cells().to_vec());
+        let meant = loaded(&file, 20_480).map(|table| table.cells);
+        assert_eq!(whole.map_err(Refusal::number), meant);
+    }
+    for length in [65_535, 65_536, 65_537, 70_000] {
+        load(&vec![0; length], 20_480, &mut tally);
+        load(&vec![0x81; length], 20_480, &mut tally);
+    }
+    tally.print("random bytes loaded");
+}
+
+/// Changes some bytes of a file, takes some out or puts some in.
+fn damaged(mut file: Vec<u8>, dice: &mut Dice) -> Vec<u8> {
+    for _ in 0..dice.pick(&[0, 1, 1, 2, 5]) {
+        let at = dice.below(file.len() + 1);
+        let byte = dice.pick(&[0, 1, 2, 26, 56, 127, 128, 255, dice_byte(at)]);
+        match (dice.below(5), file.get(at).copied()) {
+            (0, _) => file.truncate(at),
+            (1, _) => file.insert(at, byte),
+            (2, Some(_)) => drop(file.remove(at)),
+            (3, Some(old)) => file[at] = old.wrapping_add(1),
+            (_, Some(_)) => file[at] = byte,
+            (_, None) => file.push(byte),
+        }
+    }
+    file
+}
+
+fn dice_byte(at: usize) -> u8 {
+    (at * 37 % 58) as u8
+}
+
+#[test]
+fn damaged_files() {
+    let [mut loads, mut decides, mut writes] = [(); 3].map(|()| Tally::default());
+    for index in 0..times() {
+        let dice = &mut Dice::new(2, index);
+        let tree = Family::Mixed.tree(3, index);
+        if tree.count > 400 && !dice.percent(5) {
+            continue;
+        }
+        let file = damaged(table::write(&tree), dice);
+        let length = table_length(&file, dice);
+        load(&file, length, &mut loads);
+        if let Ok(table) = loaded(&file, 20_480) {
+            ask(&table, dice, &mut decides, &mut writes);
+        }
+    }
+    loads.print("damaged files loaded");
+    decides.print("their tables decided");
+    writes.print("their tables written");
+}
+
+/// Decides and writes a table with buffers around their boundaries.
+fn ask(table: &NodeTable, dice: &mut Dice, decides: &mut Tally, writes: &mut Tally) {
+    let count = usize::from(table.count);
+    let lengths = [around(5 * count, dice), around(3 * count, dice)];
+    decide(table, lengths, decides);
+    let length = around(6 * count, dice);
+    write(table, length, writes);
+}
+
+/// Puts parentheses round the root, so many.
+fn deepened(tree: &NodeTable, more: u16) -> NodeTable {
+    let mut cells: Vec<u16> = (0..more).flat_map(|at| [forms::PAREN, 0, 0, at + 2, 0]).collect();
+    for node in tree.cells.chunks(5) {
+        let moved = |operand: u16| if operand == 0 { 0 } else { operand + more };
+        cells.extend([node[0], node[1], node[2], moved(node[3]), moved(node[4])]);
+    }
+    NodeTable { context: tree.context, count: tree.count + more, cells }
+}
+
+/// The details that refusals 9 and 10 speak of.
+fn refused_detail(table: &mut NodeTable, dice: &mut Dice) {
+    let at = 5 * dice.below(table.cells.len() / 5);
+    for node in table.cells[at..].chunks_mut(5) {
+        match node[0] {
+            forms::TYPE_PATH if node[3..] == [0, 0] => return node[2] = 0,
+            forms::TYPE_IMPL_TRAIT | forms::TYPE_TRAIT_OBJECT => return node[2] = 0,
+            forms::CLOSURE => return node[2] = 1,
+            _ => {}
+        }
+    }
+}
+
+/// Changes some cells of a table, its context, its count or its length.
+fn damaged_table(tree: &NodeTable, dice: &mut Dice) -> NodeTable {
+    let mut table = tree.clone();
+    match dice.below(6) {
+        0 => refused_detail(&mut table, dice),
+        1 => table = deepened(tree, dice.between(100, 129) as u16),
+        _ => {}
+    }
+    for _ in 0..dice.pick(&[0, 1, 1, 2]) {
+        let at = dice.below(table.cells.len().max(1));
+        let number = dice.pick(&[0, 1, 2, 3, tree.count, tree.count + 1, 56, 57, 65_535]);
+        match dice.below(8) {
+            0 => table.context = dice.pick(&[0, 1, 2, 3, 4, 65_535]),
+            1 => table.count = dice.pick(&[0, 1, tree.count + 1, 4_096, 4_097, 65_535]),
+            2 => table.cells.truncate(at),
+            3 => table.cells.push(number),
+            _ if at < table.cells.len() => table.cells[at] = number,
+            _ => {}
+        }
+    }
+    table
+}
+
+#[test]
+fn damaged_tables() {
+    let [mut decides, mut writes] = [(); 2].map(|()| Tally::default());
+    for index in 0..times() {
+        let dice = &mut Dice::new(4, index);
+        let tree = Family::Mixed.tree(5, index);
+        if tree.count < 400 {
+            let table = damaged_table(&tree, dice);
+            let nodes = usize::from(table.count).min(5_000);
+            decide(&table, [around(5 * nodes, dice), around(3 * nodes, dice)], &mut decides);
+            write(&table, around(6 * nodes, dice), &mut writes);
+        }
+    }
+    decides.print("damaged tables decided");
+    writes.print("damaged tables written");
+}
+
+#[test]
+fn every_length() {
+    let [mut loads, mut decides, mut writes] = [(); 3].map(|()| Tally::default());
+    for index in 0..(times() / 50).clamp(4, 400) {
+        let tree = Family::Mixed.tree(6, index);
+        let count = usize::from(tree.count);
+        if count > 20 {
+            continue;
+        }
+        let file = table::write(&tree);
+        for length in 0..=6 * count + 8 {
+            load(&file, length, &mut loads);
+            decide(&tree, [length, 3 * count], &mut decides);
+            decide(&tree, [5 * count, length], &mut decides);
+            write(&tree, length, &mut writes);
+        }
+        for length in 0..=file.len() {
+            load(&file[..length], 20_480, &mut loads);
+        }
+    }
+    loads.print("loaded with every length");
+    decides.print("decided with every length");
+    writes.print("written with every length");
+}
+
+#[test]
+fn written_and_read() {
+    let [mut writes, mut reads] = [(); 2].map(|()| Tally::default());
+    for index in 0..times() {
+        let dice = &mut Dice::new(7, index);
+        let tree = Family::Plain.tree(7, index);
+        if tree.count > 400 && !dice.percent(5) {
+            continue;
+        }
+        let tokens = write(&tree, 6 * usize::from(tree.count), &mut writes).expect("plain");
+        let bare = written::without_parens(&tree);
+        read(&tokens, 20_480, &Ok(bare), &mut reads);
+    }
+    writes.print("plain trees written");
+    reads.print("their tokens read");
+}
+
+/// A token list: written for a plain tree and edited, or any codes.
+fn list(dice: &mut Dice, index: u64) -> Vec<u16> {
+    if dice.percent(20) {
+        return (0..dice.below(9)).map(|_| dice.below(47) as u16).collect();
+    }
+    let tree = Family::Plain.tree(8, index);
+    let mut tokens = match tree.count {
+        0..=12 => written::tokens(&tree),
+        _ => vec![32, 31, 32, 13, 32, 17, 13, 32],
+    };
+    for _ in 0..dice.below(4) {
+        let at = dice.below(tokens.len() + 1);
+        let code = dice.pick(&[1, 2, 5, 8, 10, 13, 17, 28, 31, 32, 33, 34, 35, 36, 39, 44, 45, 46]);
+        match dice.below(3) {
+            0 => tokens.insert(at, code),
+            1 if at < tokens.len() => drop(tokens.remove(at)),
+            _ if at < tokens.len() => tokens[at] = code,
+            _ => tokens.push(code),
+        }
+    }
+    tokens
+}
+
+#[test]
+fn token_lists() {
+    let mut tally = Tally::default();
+    let mut chart = Chart::new(Rules::new(None));
+    for index in 0..times() {
+        let dice = &mut Dice::new(9, index);
+        let tokens = list(dice, index);
+        let verdict = verdict::of(&mut chart, &tokens).expect("at most one reading");
+        let length = dice.pick(&[20_480, 20_480, 20_481, 20_479, 0]);
+        read(&tokens, length, &verdict, &mut tally);
+        let file = tezhukor::tree_file(&tokens).map_err(Refusal::number);
+        assert_eq!(file.map(|file| Tree::load(&file).expect("a tree").cells().to_vec()), verdict);
+    }
+    tally.print("token lists read");
+}
+
+/// The longest lists and those one token longer, whose reading is known.
+#[test]
+fn longest_lists() {
+    let mut tally = Tally::default();
+    for length in [2_047, 2_048, 2_049, 24_575, 24_576, 24_577] {
+        let long = |verdict| if length > 24_576 { Err(14) } else { verdict };
+        let name = vec![26, 0, 0, 0, 0];
+        let even = length - (length + 1) % 2;
+        let mut grouped = vec![35; even / 2];
+        grouped.push(32);
+        grouped.extend(vec![36; even / 2]);
+        let grouped_verdict = if even > 24_576 { Err(14) } else { Ok(name) };
+        let repeated = |codes: &[u16]| codes.iter().copied().cycle().take(length).collect();
+        let lists: [(Vec<u16>, Result<Vec<u16>, u16>); 7] = [
+            (grouped, grouped_verdict),
+            (vec![35; length], long(Err(15))),
+            (repeated(&[1]), long(Err(15))),
+            ([vec![1; length - 1], vec![32]].concat(), long(Err(16))),
+            (repeated(&[32, 35]), long(Err(15))),
+            (repeated(&[32, 28]), long(Err(if length % 2 == 0 { 15 } else { 16 }))),
+            (vec![46; length], Err(14)),
+        ];
+        for (list, verdict) in &lists {
+            for cells in [20_479, 20_480, 20_481] {
+                read(list, cells, verdict, &mut tally);
+            }
+        }
+    }
+    tally.print("longest lists read");
+}

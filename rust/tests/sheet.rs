@@ -1,0 +1,251 @@
+//! The command `sheet`, as people run it.
+
+use std::io::Write;
+use std::path::PathBuf;
+use std::process::{Command, Output, Stdio};
+
+/// Runs `sheet` with arguments and bytes on its standard input.
+fn sheet(arguments: &[&str], input: &[u8]) -> Output {
+    let mut child = Command::new(env!("CARGO_BIN_EXE_sheet"))
+        .args(arguments)
+        .stdin(Stdio::piped())
+        .stdout(Stdio::piped())
+        .stderr(Stdio::piped())
+        .spawn()
+        .expect("sheet runs");
+    // It need not read all of it.
+    let _ = child.stdin.take().expect("its input").write_all(input);
+    child.wait_with_output().expect("it ends")
+}
+
+/// What is printed for a status.
+fn printed(arguments: &[&str], input: &[u8], status: i32) -> String {
+    let output = sheet(arguments, input);
+    let message = String::from_utf8_lossy(&output.stderr).to_string();
+    assert_eq!(output.status.code(), Some(status), "{arguments:?}: {message}");
+    match status {
+        0 => String::from_utf8(output.stdout).expect("text"),
+        _ => message,
+    }
+}
+
+fn tree_of(text: &str) -> Vec<u8> {
+    let output = sheet(&["read", text], b"");
+    assert_eq!(output.status.code(), Some(0), "{text}");
+    output.stdout
+}
+
+/// A name for a file that goes when the test is done.
+struct Scratch(PathBuf);
+
+impl Scratch {
+    fn new(name: &str) -> Scratch {
+        Scratch(std::env::temp_dir().join(format!("tezhukor-{}-{name}", std::process::id())))
+    }
+
+    fn name(&self) -> &str {
+        self.0.to_str().expect("text")
+    }
+}
+
+impl Drop for Scratch {
+    fn drop(&mut self) {
+        let _ = std::fs::remove_file(&self.0);
+    }
+}
+
+#[test]
+fn first_example() {
+    let names = Scratch::new("names");
+    let text = "offset - (station - start)";
+    let file = sheet(&["read", "--names", names.name(), text], b"").stdout;
+    assert_eq!(printed(&["show", "-"], &file, 0), "a - (b - c)\n");
+    assert_eq!(printed(&["show", "--names", names.name(), "-"], &file, 0), format!("{text}\n"));
+    let why = printed(&["why", "--names", names.name(), "-"], &file, 0);
+    assert_eq!(
+        why,
+        "node 3 `station - start`, right operand of node 1, Binary `-`: precedence Sum (11), \
+         the owner's Sum (11); the owner's test asks for it: it groups what is not above Sum (11)\n"
+    );
+    assert_eq!(printed(&["check", "-"], &file, 0), "accepted: 5 nodes, context 0, plain\n");
+    let rows =
+        "ok 5\n1 0 11 0 0 0\n2 0 15 0 11 384\n3 1 11 11 0 0\n4 0 15 0 11 384\n5 0 15 11 0 0\n";
+    assert_eq!(printed(&["rows", "-"], &file, 0), rows);
+    let tokens = "ok 7\n32 1 35 32 1 32 36\nNAME - ( NAME - NAME )\n";
+    assert_eq!(printed(&["tokens", "-"], &file, 0), tokens);
+}
+
+/// What is read and shown is shown alike, with the names given back.
+#[test]
+fn shown_as_read() {
+    let names = Scratch::new("shown");
+    for text in [
+        "(a + b) * c",
+        "(x as usize) < y",
+        "x + (a as T) < b",
+        "a as T<A> < b",
+        "a as T <= b",
+        "(s.f)(1)",
+        "s.0(1)",
+        "s.f(1)",
+        "(a == b) == c",
+        "a == (b < c)",
+        "a = b = c",
+        "(a = b) + c",
+        "-x.m(&&y, *z)[i]? as *const &mut Map<_, Vec<u8>> as !",
+        "(-x).abs()",
+        "!(a && b) || c",
+        "1 .0 + 1.5 .f",
+        "std::f64::PI * 2.0 - \"a\".len()",
+        "a.await?.b",
+        "&mut *x += y << 2",
+    ] {
+        let output = sheet(&["read", "--names", names.name(), text], b"");
+        assert_eq!(output.status.code(), Some(0), "{text}");
+        let shown = printed(&["show", "--names", names.name(), "-"], &output.stdout, 0);
+        assert_eq!(shown.trim_end(), text);
+    }
+}
+
+#[test]
+fn reasons() {
+    let why = |text| printed(&["why", "-"], &tree_of(text), 0);
+    assert!(why("(x as usize) < y").contains("only the generics flag makes it so"));
+    assert!(why("x + (a as T) < b").contains("right operand of node 2, Binary `+`"));
+    assert!(why("x + (a as T) < b").contains("only the generics flag makes it so"));
+    assert!(why("(s.f)(x)").contains("a named field that is called"));
+    assert!(why("(a == b) == c").contains("not above Compare (6)"));
+    assert!(why("(-x).f").contains("below Unambiguous (15)"));
+    assert_eq!(why("a + b * c"), "no pair was added\n");
+    // A match that begins a statement, left of `+`.
+    let statement = [1, 3, 5, 0, 0, 2, 3, 23, 0, 0, 0, 0, 26, 0, 0, 0, 0];
+    assert!(printed(&["why", "-"], &statement, 0).contains("parenthesize asks for it: part 1"));
+    assert_eq!(printed(&["show", "-"], &statement, 0), "(match .. { .. }) + a\n");
+    // A struct in a condition.
+    let condition = [3, 3, 5, 0, 12, 2, 3, 26, 0, 0, 0, 0, 32, 0, 0, 0, 0];
+    assert!(printed(&["why", "-"], &condition, 0).contains("part 4"));
+}
+
+/// An error names the rule and points at the place.
+#[test]
+fn errors_point() {
+    for (text, mark) in [
+        ("a < b < c", "        ^"),
+        ("a + ", "     ^"),
+        ("f(a, , b)", "       ^"),
+        ("a b", "    ^"),
+        ("a)", "   ^"),
+        ("(a + b", "        ^"),
+        ("x as T < y", "            ^"),
+        ("x as T << y", "         ^"),
+        ("a # b", "    ^"),
+        ("a + if", "      ^"),
+        ("", "  ^"),
+        ("a = \"b", "      ^"),
+        ("s.f::<T>()", "     ^"),
+    ] {
+        let message = printed(&["read", text], b"", 1);
+        let last = message.lines().last().unwrap_or_default();
+        assert_eq!(last, mark, "{message}");
+        assert_eq!(printed(&["read"], format!("{text}\n").as_bytes(), 1), message);
+    }
+}
+
+#[test]
+fn refusals() {
+    let refused = |file: &[u8]| printed(&["check", "-"], file, 1);
+    assert_eq!(
+        refused(&[0, 3, 5, 0, 0, 2, 2, 26, 0, 0, 0, 0, 26, 0, 0, 0, 0]),
+        "sheet: refused (8) at node 2: An operand's number is not above its owner's or is above \
+         the count, or a node is not owned exactly once.\n"
+    );
+    assert!(refused(&[0, 1, 5, 0, 28, 0, 0]).starts_with("sheet: refused (6) at node 1: "));
+    assert!(refused(&[0, 1, 5, 0, 0, 0, 0]).starts_with("sheet: refused (7) at node 1: "));
+    assert!(refused(&[0, 1, 5, 0]).starts_with("sheet: refused (5) at node 1, byte 4: "));
+    assert!(refused(&[9, 1]).starts_with("sheet: refused (3) with context 9: "));
+    assert!(refused(&[]).starts_with("sheet: refused (2) at byte 0: "));
+    assert!(refused(&vec![0; 70_000]).starts_with("sheet: refused (1): "));
+    let block = [0, 1, 6, 0, 0, 0, 0];
+    assert!(printed(&["tokens", "-"], &block, 1).starts_with("sheet: refused (13): "));
+    assert_eq!(printed(&["check", "-"], &block, 0), "accepted: 1 nodes, context 0, not plain\n");
+}
+
+#[test]
+fn usage() {
+    let usage = printed(&["help"], b"", 0);
+    for arguments in [
+        &[][..],
+        &["rows"],
+        &["sow", "x"],
+        &["rows", "a", "b"],
+        &["--names"],
+        &["show", "--names"],
+        &["rows", "--names", "a", "b"],
+    ] {
+        assert_eq!(printed(arguments, b"", 2), usage);
+    }
+    assert!(printed(&["rows", "/nowhere/at/all"], b"", 2).starts_with("sheet: /nowhere"));
+    assert!(printed(&["read", "--names", "/nowhere/at/all", "a"], b"", 2).contains("/nowhere"));
+}
+
+/// Pseudo-random numbers.
+fn next(state: &mut u64) -> usize {
+    *state = state.wrapping_mul(6_364_136_223_846_793_005).wrapping_add(1_442_695_040_888_963_407);
+    (*state >> 33) as usize
+}
+
+const OPERANDS: [&str; 12] =
+    ["a", "-b", "f(x)", "s.f", "s.0", "(a+b)", "&x", "1", "1.5", "x as T", "v[i]?", "x.await"];
+
+const PIECES: [&str; 40] = [
+    "a", "+", "f", "T", "1", "0", "1.5", "2e-", "'x'", "\"s", "_", "as", "await", ".", ".0", "(",
+    ")", "[", "]", "<", ">", ">>", "<<", "&&", "&mut", "&", "*", "*const", "-", "!", "!=", "=",
+    "==", "+=", ",", "?", "::", "é", "\u{0}", "\n",
+];
+
+/// A text: operands and operators in turn, or any pieces.
+fn text(state: &mut u64, index: u64) -> String {
+    let length = next(state) % 20;
+    let words = (0..length).map(|at| match (index % 3, at % 2) {
+        (0, 0) => OPERANDS[next(state) % OPERANDS.len()],
+        (0, _) => ["+", "-", "*", "&&", "<<", "|"][next(state) % 6],
+        _ => PIECES[next(state) % PIECES.len()],
+    });
+    words.collect::<Vec<_>>().join([" ", ""][index as usize % 2])
+}
+
+/// Nothing that is given makes it panic or end by a signal: the status is 0, 1 or 2.
+#[test]
+fn no_input_breaks_it() {
+    let times = std::env::var("TEZHUKOR_FUZZ").ok().and_then(|times| times.parse().ok());
+    let (mut state, mut statuses) = (1, [0; 3]);
+    let mut file = tree_of("offset - (station - start)");
+    for index in 0..times.unwrap_or(2_000u64) / 10 {
+        let text = text(&mut state, index);
+        let read = sheet(&["read"], text.as_bytes());
+        if read.status.code() == Some(0) {
+            file = read.stdout.clone();
+        }
+        let mut bytes = file.clone();
+        if index % 4 != 0 {
+            let at = next(&mut state) % bytes.len();
+            bytes[at] = (next(&mut state) % 60) as u8;
+        }
+        let command = ["show", "why", "rows", "tokens", "check"][index as usize % 5];
+        for output in [read, sheet(&[command, "-"], &bytes)] {
+            let status = output.status.code().filter(|status| (0..=2).contains(status));
+            let status = status.unwrap_or_else(|| panic!("{output:?} for {text:?} {bytes:?}"));
+            statuses[status as usize] += 1;
+        }
+    }
+    println!("sheet ran: done {}, refused {}, usage {}", statuses[0], statuses[1], statuses[2]);
+}
+
+/// The longest texts, and bytes that are no text.
+#[test]
+fn no_length_breaks_it() {
+    assert_eq!(sheet(&["read"], &[0xFF, 0xFE]).status.code(), Some(1));
+    assert_eq!(sheet(&["read"], &vec![b'('; 24_576]).status.code(), Some(1));
+    assert_eq!(sheet(&["read"], &vec![b'-'; 2_000_000]).status.code(), Some(1));
+    assert_eq!(sheet(&["read"], "a+".repeat(12_000).as_bytes()).status.code(), Some(1));
+}
