@@ -102,6 +102,10 @@ const STACK: usize = 16 << 20;
 ///
 /// The library's reader is recursive: a long list is read on a thread of its own,
 /// whose stack is large enough for the longest one.
+///
+/// # Panics
+///
+/// If the list is long and the system starts no thread.
 pub fn read(tokens: &[u16], table: &mut [u16]) -> u32 {
     if tokens.len() <= LONG || tokens.len() > MOST_TOKENS {
         return read_here(tokens, table);
