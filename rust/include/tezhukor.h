@@ -55,8 +55,7 @@ uint32_t tezhukor_load(const uint8_t *file, size_t file_length, uint16_t *table,
 /* Decides the rows of a table, five cells a node: pair (1 outer, plus 2 inner),
  * precedence, previous operator, next operator, flags; zeros for types and links.
  * Needs three cells of scratch a node, in which it leaves zeros. Replies 0 or the
- * refusal (3, 4, 6 to 12).
- * Ranges nested by their ends double the time of each level. */
+ * refusal (3, 4, 6 to 12). */
 uint16_t tezhukor_decide(uint16_t context, uint16_t count, const uint16_t *table,
                          size_t table_length, uint16_t *rows, size_t rows_length,
                          uint16_t *scratch, size_t scratch_length);
@@ -68,7 +67,7 @@ uint32_t tezhukor_write(uint16_t context, uint16_t count, const uint16_t *table,
 
 /* Reads a token list into a table of at least 20,480 cells. Replies the refusal times
  * 65,536 (12, 14 to 16), or the number of nodes.
- * It takes up to 230 bytes of stack a token, 5.5 MiB for the longest list. */
+ * It was measured to take up to 4.3 MiB of stack, for the longest lists. */
 uint32_t tezhukor_read(const uint16_t *tokens, size_t tokens_length, uint16_t *table,
                        size_t table_length);
 

@@ -44,8 +44,7 @@
 //! ```
 //!
 //! Names and literals travel beside the tree, in order of occurrence; tree files hold
-//! none. Ranges nested by their ends double the time of each level, in prettyplease
-//! as here: do not nest more than some 20.
+//! none. Nests that double the time of each level in prettyplease do not here.
 
 pub mod boundary;
 pub mod codes;

@@ -121,6 +121,13 @@ fn reasons() {
     let statement = [1, 3, 5, 0, 0, 2, 3, 23, 0, 0, 0, 0, 26, 0, 0, 0, 0];
     assert!(printed(&["why", "-"], &statement, 0).contains("parenthesize asks for it: part 1"));
     assert_eq!(printed(&["show", "-"], &statement, 0), "(match .. { .. }) + a\n");
+    // Binary with inner attributes alone.
+    let inner = [0, 3, 5, 1, 0, 2, 3, 26, 0, 0, 0, 0, 26, 0, 0, 0, 0];
+    assert_eq!(
+        printed(&["why", "-"], &inner, 0),
+        "node 1 `(a + b)`, the root: an inner pair; Binary `+` has one whenever it has \
+         attributes, also inner ones\n"
+    );
     // A struct in a condition.
     let condition = [3, 3, 5, 0, 12, 2, 3, 26, 0, 0, 0, 0, 32, 0, 0, 0, 0];
     assert!(printed(&["why", "-"], &condition, 0).contains("part 4"));

@@ -242,9 +242,6 @@ fn damaged_files() {
     for index in 0..times() {
         let dice = &mut Dice::new(2, index);
         let tree = Family::Mixed.tree(3, index);
-        if tree.count > 400 && !dice.percent(5) {
-            continue;
-        }
         let file = damaged(table::write(&tree), dice);
         let length = table_length(&file, dice);
         load(&file, length, &mut loads);
@@ -317,13 +314,10 @@ fn damaged_tables() {
     let [mut decides, mut writes] = [(); 2].map(|()| Tally::default());
     for index in 0..times() {
         let dice = &mut Dice::new(4, index);
-        let tree = Family::Mixed.tree(5, index);
-        if tree.count < 400 {
-            let table = damaged_table(&tree, dice);
-            let nodes = usize::from(table.count).min(5_000);
-            decide(&table, [around(5 * nodes, dice), around(3 * nodes, dice)], &mut decides);
-            write(&table, around(6 * nodes, dice), &mut writes);
-        }
+        let table = damaged_table(&Family::Mixed.tree(5, index), dice);
+        let nodes = usize::from(table.count).min(5_000);
+        decide(&table, [around(5 * nodes, dice), around(3 * nodes, dice)], &mut decides);
+        write(&table, around(6 * nodes, dice), &mut writes);
     }
     decides.print("damaged tables decided");
     writes.print("damaged tables written");
@@ -358,11 +352,7 @@ fn every_length() {
 fn written_and_read() {
     let [mut writes, mut reads] = [(); 2].map(|()| Tally::default());
     for index in 0..times() {
-        let dice = &mut Dice::new(7, index);
         let tree = Family::Plain.tree(7, index);
-        if tree.count > 400 && !dice.percent(5) {
-            continue;
-        }
         let tokens = write(&tree, 6 * usize::from(tree.count), &mut writes).expect("plain");
         let bare = written::without_parens(&tree);
         read(&tokens, 20_480, &Ok(bare), &mut reads);

@@ -272,6 +272,13 @@ mod tests {
     use super::*;
     use crate::lexer;
 
+    #[test]
+    fn added_pairs_are_coloured() {
+        let tree = Tree::read(&[32, 1, 35, 32, 1, 32, 36]).expect("a tree");
+        let text = shown(&tree, Names::default()).text(true);
+        assert_eq!(text, "a - \x1b[1;33m(\x1b[0mb - c\x1b[1;33m)\x1b[0m");
+    }
+
     /// Each recorded plain tree: the text has the tokens that are written for it.
     #[test]
     fn text_is_the_tokens() {

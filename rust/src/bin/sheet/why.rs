@@ -57,15 +57,17 @@ const PARTS: [Part; 7] = [
     },
 ];
 
-/// A line for each added outer pair, by node number.
+/// A line for each added pair, by node number.
 pub fn lines(tree: &Tree, names: Names) -> Vec<String> {
     let shown = show::shown(tree, names);
     let (rows, owners) = (tree.rows(), owners(tree));
-    let asked = |number: &u16| rows[usize::from(*number) - 1].has_outer_pair();
-    (1..=tree.count())
-        .filter(asked)
-        .map(|number| line(&Operand::new(tree, &rows, &owners, number), &shown))
-        .collect()
+    let mut lines = Vec::new();
+    for (number, row) in (1..).zip(&rows) {
+        let operand = || Operand::new(tree, &rows, &owners, number);
+        lines.extend(row.has_outer_pair().then(|| line(&operand(), &shown)));
+        lines.extend(row.has_inner_pair().then(|| inner_line(&operand(), &shown)));
+    }
+    lines
 }
 
 /// Each node's owner and its place there, 0 or 1; none for the root.
@@ -224,6 +226,16 @@ fn line(operand: &Operand, shown: &Shown) -> String {
         operand.standing(),
         words::precedence(operand.row.precedence),
         operand.reason(),
+    )
+}
+
+fn inner_line(operand: &Operand, shown: &Shown) -> String {
+    format!(
+        "node {} `{}`, {}: an inner pair; {} has one whenever it has attributes, also inner ones",
+        operand.number,
+        shown.of(operand.number),
+        operand.standing(),
+        words::form(operand.node),
     )
 }
 
