@@ -2,11 +2,13 @@
 use pack::context_of;
 use pack::precedence_of;
 use questions::in_context::fixup_answer;
+use scan::Scan;
 use scan::right::scan_right;
 ghost use mathlib.Core.Path.{_≡_};
 ghost use Rattle.tree.specs.Trees.{treeAt};
 ghost use Rattle.pack.specs.Cells.{ofRank, contextOf};
 ghost use Rattle.questions.specs.Questions.{fixupAnswered};
+ghost use Rattle.scan.specs.Scans.{scanNumber};
 ghost use Rattle.answers.specs.Answers.{scanAnswered};
 
 // questions::in_context::fixup_answer, in the context that three cells hold.
@@ -31,6 +33,17 @@ pub extern "C" fn tezhukor_fixup_answer(
     )
 }
 
+// Document 01's number of a scan's answer.
+fn number(scan: Scan) -> u16
+    ensures { λ r. ⌜ r ≡ scanNumber scan ⌝ }
+{
+    match scan {
+        Scan::Fail => 0,
+        Scan::Bailout => 1,
+        Scan::Consume => 2,
+    }
+}
+
 // scan_right, by document 01's number, in the context that three cells hold and with the precedence by its rank.
 #[no_mangle]
 pub extern "C" fn tezhukor_scan_right(
@@ -47,7 +60,7 @@ pub extern "C" fn tezhukor_scan_right(
     ensures { λ r. ⌜ r ≡ scanAnswered (contextOf previous next flags) (ofRank precedence) «fail_offset» «bailout_offset» (treeAt (now (table .entry)) count node) ⌝ }
 {
     let fixup = context_of(previous, next, flags);
-    scan_right(
+    number(scan_right(
         table,
         count,
         node,
@@ -55,5 +68,5 @@ pub extern "C" fn tezhukor_scan_right(
         precedence_of(precedence),
         fail_offset,
         bailout_offset,
-    ).number()
+    ))
 }

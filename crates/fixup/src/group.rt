@@ -1,59 +1,21 @@
 // What the context says of an expression: parenthesize, its precedence, and scan_left.
 use super::context::FixupContext;
-use super::look;
 use bools::and_not;
 use bools::either;
+use look::Look;
+use look::looks;
 use precedence::Precedence;
 use tree::forms;
 use tree::shape::first_at;
 use tree::shape::form_at;
+use tree::table::Operand;
 use tree::table::cell;
 ghost use mathlib.Core.Path.{_≡_};
 ghost use mathlib.Core.Bool.{_&&_};
 ghost use Rattle.tree.specs.Trees.{treeAt};
 ghost use Rattle.fixup.specs.Fixup.{parenthesize, effective, leftOfBinary, scanLeft};
-ghost use Rattle.fixup.specs.Steps.{lookOf, asks};
-
-// What parenthesize and precedence ask of an expression.
-enum Look {
-    // A statement would end behind it.
-    EndsStmt,
-    // It is a `let`.
-    Let,
-    // A match arm would end behind it.
-    EndsMatchArm,
-    // It is a struct literal.
-    Struct,
-    // Return or Yield without a value.
-    BareReturn,
-    // It would take a block behind it for its own.
-    OpenEnded,
-    // A block without attributes and label.
-    PlainBlock,
-    // Break, Return or Yield without a value.
-    BareJump,
-    // It extends to the end of the statement or group.
-    OpenAhead,
-    // Its type would take what follows for generic arguments.
-    CastToPath,
-}
-
-fn looks(question: Look, table: &[u16], count: u16, node: u16) -> bool
-    ensures { λ r. ⌜ r ≡ lookOf question (treeAt (now (table .entry)) count node) ⌝ }
-{
-    match question {
-        Look::EndsStmt => !classify::requires_semi_to_be_stmt(table, count, node),
-        Look::Let => look::is_let(table, count, node),
-        Look::EndsMatchArm => !classify::requires_comma_to_be_match_arm(table, count, node),
-        Look::Struct => look::is_struct(table, count, node),
-        Look::BareReturn => look::is_bare_return(table, count, node),
-        Look::OpenEnded => look::is_open_ended(table, count, node),
-        Look::PlainBlock => look::is_plain_block(table, count, node),
-        Look::BareJump => look::is_bare_jump(table, count, node),
-        Look::OpenAhead => look::is_open_ahead(table, count, node),
-        Look::CastToPath => look::is_cast_to_path(table, count, node),
-    }
-}
+ghost use Rattle.look.specs.Looks.{lookOf};
+ghost use Rattle.fixup.specs.Steps.{asks};
 
 // The question is put only where a flag of the context asks for it.
 fn flagged(flag: bool, question: Look, table: &[u16], count: u16, node: u16) -> bool
@@ -209,10 +171,10 @@ pub fn scan_left(table: &[u16], count: u16, node: u16, fixup: FixupContext) -> b
         }
         forms::EXPR_CAST => previous.is_below(Precedence::Cast),
         forms::EXPR_RANGE => {
-            either(
-                look::is_absent(first_at(table, count, node)),
-                previous.is_below(Precedence::Assign),
-            )
+            let Operand::Present(_) = first_at(table, count, node) else {
+                return true;
+            };
+            previous.is_below(Precedence::Assign)
         }
         _ => true,
     }

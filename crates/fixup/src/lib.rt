@@ -1,4 +1,3 @@
 // prettyplease's fixup.rs: the context of an expression, and what it says of parentheses.
 pub mod context; // context.rt: FixupContext, and how it is handed down
-mod look; // look.rt: what an expression looks like from outside
 pub mod group; // group.rt: parenthesize, precedence and scan_left

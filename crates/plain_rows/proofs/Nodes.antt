@@ -17,7 +17,8 @@ use Rattle.precedence.specs.declared.Precedence.the-variants as rank
 use Rattle.precedence.specs.Precedences.{rankOf, ofBinop, ofRows, ofAsks, closedBy, prefixAttrs, precedenceOf}
 use Rattle.classify.specs.Classify.{lastTypeInPath, pathRows, pathAsks, trailingPath}
 use Rattle.fixup.specs.declared.context.FixupContext.{FixupContext}
-use Rattle.fixup.specs.Fixup.{isBareJump, bareJumpRows, isOpenAhead, openAheadRows, isCastToPath, castToPathRows, effective, scanLeftRows, scanLeft, leftOfBinary}
+use Rattle.look.specs.Looks.{isBareJump, bareJumpRows, isOpenAhead, openAheadRows, isCastToPath, castToPathRows}
+use Rattle.fixup.specs.Fixup.{effective, scanLeftRows, scanLeft, leftOfBinary}
 use Rattle.grammar.specs.Tokens.{Operator, number}
 use Rattle.grammar.specs.Tokens as token
 use Rattle.grammar.specs.Codes.{operatorOf}

@@ -5,24 +5,8 @@ mod visit; // visit.rt: how the operand of an arm is scanned
 mod leave; // leave.rt: what follows from the operand's scan
 pub mod right; // right.rt: scan_right and the precedences that ask it
 
-ghost use mathlib.Core.Path.{_≡_};
-ghost use Rattle.scan.specs.Scans.{scanNumber};
-
 pub enum Scan {
     Fail,
     Bailout,
     Consume,
-}
-
-impl Scan {
-    // Document 01's number.
-    pub fn number(self) -> u16
-        ensures { λ r. ⌜ r ≡ scanNumber self ⌝ }
-    {
-        match self {
-            Scan::Fail => 0,
-            Scan::Bailout => 1,
-            Scan::Consume => 2,
-        }
-    }
 }

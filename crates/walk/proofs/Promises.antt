@@ -12,7 +12,8 @@ use Rattle.tree.specs.Trees.{labelAt, operandOf, treeTo, treeAt, ownLevel, leve
 use Rattle.tree.specs.Walks.{follow, walk, atRoot}
 use Rattle.precedence.specs.Precedences.{operators, ofBinop, prefixAttrs, ofRows, closedBy, ofAsks, precedenceOf}
 use Rattle.classify.specs.Classify.{commaRows, commaAsks, requiresComma, requiresSemi, lastTypeInPath, pathRows, pathAsks, trailingPath, groupLabel, labelRows, labelAsks, leadingLabel}
-use Rattle.fixup.specs.Fixup.{letRows, structRows, bareReturnRows, openEndedRows, plainBlockRows, parenthesize, bareJumpRows, openAheadRows, castToPathRows, effective, leftOfBinary, scanLeftRows, scanLeft}
+use Rattle.look.specs.Looks.{letRows, structRows, bareReturnRows, openEndedRows, plainBlockRows, bareJumpRows, openAheadRows, castToPathRows}
+use Rattle.fixup.specs.Fixup.{parenthesize, effective, leftOfBinary, scanLeftRows, scanLeft}
 use Rattle.scan.specs.Scans.{binds, consumes, consumeBy, armRows, armOf, closedScan, bareScan, enough, failHanded, one, failOr, loose, scanned, rightBy, scanBy, scanRight, rightmostPrecedence, bailsOut, leftmostPrecedence}
 use Rattle.expr.specs.Expr.{exprBeginners, canBeginExpr, genericsBeginners, canBeginGenerics, leftTest, rightTest, binaryLeft, binaryRight, breakTest, callRows, callTest, firstRows, handsFirst, secondRows, handsSecond}
 use Rattle.expr.specs.Handed.{beforeOperator, beforeDot, atEnd, afterPrefix, neither}
