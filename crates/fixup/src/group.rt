@@ -14,7 +14,7 @@ ghost use mathlib.Core.Path.{_≡_};
 ghost use mathlib.Core.Bool.{_&&_};
 ghost use Rattle.tree.specs.Trees.{treeAt};
 ghost use Rattle.fixup.specs.Fixup.{parenthesize, effective, leftOfBinary, scanLeft};
-ghost use Rattle.look.specs.Looks.{lookOf};
+ghost use Rattle.look.specs.Steps.{lookOf};
 ghost use Rattle.fixup.specs.Steps.{asks};
 
 // The question is put only where a flag of the context asks for it.

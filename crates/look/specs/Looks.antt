@@ -1,4 +1,4 @@
--- prettyplease's fixup.rs: what parenthesize and precedence ask of an expression, each a `matches!` on it or a question to classify.rs.
+-- prettyplease's fixup.rs: what a node looks like from outside, `matches!` on an expression.
 use mathlib.Core.Bool.{Bool, true, false, not, _&&_}
 use mathlib.Core.List.{List, [], _∷_}
 use lib.Dec.{eqb}
@@ -6,9 +6,7 @@ use Rattle.laws.specs.Choice.{Row, row}
 use Rattle.tree.specs.Forms.{ExprBlock, ExprBreak, ExprCast, ExprClosure, ExprLet, ExprPath, ExprRange, ExprReturn, ExprStruct, ExprYield}
 use Rattle.tree.specs.Trees.{Label, Tree}
 use Rattle.tree.specs.Walks.{isThere, atRoot}
-use Rattle.classify.specs.Classify.{requiresSemi, requiresComma, trailingPath}
-use Rattle.look.specs.declared.Look.{Look}
-use Rattle.look.specs.declared.Look.the-variants.{EndsStmt, Let, EndsMatchArm, Struct, BareReturn, OpenEnded, PlainBlock, BareJump, OpenAhead, CastToPath}
+use Rattle.classify.specs.Classify.{trailingPath}
 
 -- ---- for parenthesize
 
@@ -70,17 +68,3 @@ castToPathRows l a b = row (ExprCast ∷ []) (trailingPath b) ∷ []
 
 abbrev pub isCastToPath : Tree → Bool
 isCastToPath t = atRoot castToPathRows false t
-
--- ---- the questions by their names
-
-abbrev pub lookOf : Look → Tree → Bool
-lookOf EndsStmt t = not (requiresSemi t)
-lookOf Let t = isLet t
-lookOf EndsMatchArm t = not (requiresComma t)
-lookOf Struct t = isStruct t
-lookOf BareReturn t = isBareReturn t
-lookOf OpenEnded t = isOpenEnded t
-lookOf PlainBlock t = isPlainBlock t
-lookOf BareJump t = isBareJump t
-lookOf OpenAhead t = isOpenAhead t
-lookOf CastToPath t = isCastToPath t

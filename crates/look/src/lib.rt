@@ -11,7 +11,8 @@ ghost use mathlib.Core.Bool.{not};
 ghost use Rattle.tree.specs.Trees.{treeAt};
 ghost use Rattle.tree.specs.Walks.{isPresent, treeOf};
 ghost use Rattle.classify.specs.Classify.{trailingPath};
-ghost use Rattle.look.specs.Looks.{isLet, isStruct, isBareReturn, isOpenEnded, isPlainBlock, isBareJump, isOpenAhead, isCastToPath, lookOf};
+ghost use Rattle.look.specs.Looks.{isLet, isStruct, isBareReturn, isOpenEnded, isPlainBlock, isBareJump, isOpenAhead, isCastToPath};
+ghost use Rattle.look.specs.Steps.{lookOf};
 
 fn is_absent(operand: Operand) -> bool
     ensures { λ r. ⌜ r ≡ not (isPresent operand) ⌝ }

@@ -21,7 +21,7 @@ use Rattle.plain.specs.Trees.{label, treeOf, treeOfType, atomLabel, prefixLabel
 use Rattle.token_reader.specs.declared.piece.Piece.{Piece}
 use Rattle.token_reader.specs.declared.piece.Parsed.{Parsed}
 use Rattle.token_reader.specs.Reading.{anyAbove}
-use Rattle.token_reader.specs.Tables.{levelOf, afterOf, goesOnBy, operatorForm, operatorDetail}
+use Rattle.token_reader.specs.Tables.{levelOf, afterOf, goesOnWith, operatorForm, operatorDetail}
 use Rattle.token_reader.specs.Pieces.{Placed, Stored, Ready, Grew, Tells, from, Enough, IsType, TypeAt, IsExpr, IsArguments, Postfix, ExprAt, ArgumentsAt, AtomAt, PrefixedAt, closeBy, GroupAt, operandBy, OperandAt, callBy, memberBy, dotBy, stepBy, StepAt, BinaryAt, CastAt, IndexAt, TryAt, MemberAt, DotAt, NamedAt, Called, CallAt}
 use Rattle.token_reader.proofs.Cells.{past-list}
 use Rattle.token_reader.proofs.First.{there, code-most, tail-from, tail-from-next, first-there, first-other, start-at, after-dot-at, next-at}
@@ -191,18 +191,18 @@ module _ {codes own mid now : List ℕ} {at free : ℕ} (ready : Ready codes own
 -- ---- what it goes on with
 
 module _ {codes own : List ℕ} (left : Parsed) (ready : Ready codes own (left .at) (left .free)) where
-  goes : (least : ℕ) (e : Expr one) → IsExpr own left e → goesOnBy least (left .level) (left .named) (left .dotted) (getD codes (left .at) 46) ≡ goesOn least e (next (from codes (left .at)))
+  goes : (least : ℕ) (e : Expr one) → IsExpr own left e → goesOnWith least (left .level) (left .named) (left .dotted) (getD codes (left .at) 46) ≡ goesOn least e (next (from codes (left .at)))
   goes least e y =
-      rw (y .strong, y .type-last, y .name-last, next-at codes (left .at)) (goes-on-at (getD codes (left .at) 46) (code-most codes (left .at) (ready .known)) least e)
+      rw (y .strong, y .type-last, y .name-last, next-at codes (left .at)) (goes-on-at least e (nextOf (tokenOf (getD codes (left .at) 46))))
 
-  pub on-stops : {least : ℕ} → goesOnBy least (left .level) (left .named) (left .dotted) (getD codes (left .at) 46) ≡ false → OnAt codes own own left least left
+  pub on-stops : {least : ℕ} → goesOnWith least (left .level) (left .named) (left .dotted) (getD codes (left .at) 46) ≡ false → OnAt codes own own left least left
   on-stops {least} n = record { grew = λ q. grew-none own (left .at) (left .free) (left .at) (omega arith); tells = go }
     where
       go : (e : Expr one) → IsExpr own left e → (f : ℕ) → Enough codes (left .at) 1 f → Tells (IsExpr own left) codes (left .at) (onBy f NONE least e (from codes (left .at)))
       go e y zero q = absurd (omega (arith, ready .within))
       go e y (suc g) q = rw (on-stop g NONE least e (from codes (left .at)) (sym (goes least e y) ∙ n)) (ready .within, refl, y)
 
-  pub on-none : {now : List ℕ} {least : ℕ} {r : Parsed} → 1 ≤ least → goesOnBy least (left .level) (left .named) (left .dotted) (getD codes (left .at) 46) ≡ true → length codes < r .at →
+  pub on-none : {now : List ℕ} {least : ℕ} {r : Parsed} → 1 ≤ least → goesOnWith least (left .level) (left .named) (left .dotted) (getD codes (left .at) 46) ≡ true → length codes < r .at →
       StepAt codes own now left r → OnAt codes own now left least r
   on-none {now} {least} {r} l p h i = record { grew = λ q. absurd (omega arith); tells = go }
     where
@@ -212,7 +212,7 @@ module _ {codes own : List ℕ} (left : Parsed) (ready : Ready codes own (left .
           rw (on-by g least e (from codes (left .at)) l (sym (goes least e y) ∙ p))
           (tells-none (IsExpr now r) (IsExpr now r) codes (r .at) (r .at) (stepBy g e (tail (from codes (left .at))) (next (from codes (left .at)))) (λ x rest. onBy g NONE least x rest) h h (i .tells e y g (omega arith)))
 
-  pub on-more : {mid now : List ℕ} {least : ℕ} {r : Parsed} (more : Parsed) → 1 ≤ least → goesOnBy least (left .level) (left .named) (left .dotted) (getD codes (left .at) 46) ≡ true → more .at ≤ length codes →
+  pub on-more : {mid now : List ℕ} {least : ℕ} {r : Parsed} (more : Parsed) → 1 ≤ least → goesOnWith least (left .level) (left .named) (left .dotted) (getD codes (left .at) 46) ≡ true → more .at ≤ length codes →
       StepAt codes own mid left more → OnAt codes mid now more least r → OnAt codes own now left least r
   on-more {mid} {now} {least} {r} more l p h i o =
       record { grew = λ q. grew-on (left .at) (omega arith) (i .grew h) (o .grew q); tells = go }
@@ -284,12 +284,12 @@ module _ {codes own : List ℕ} (left : Parsed) (ready : Ready codes own (left .
 -- ---- one form after the other
 
 -- no token goes on past the end
-pub goes-inside : (codes : List ℕ) (at least strength : ℕ) (t d : Bool) → 1 ≤ least → goesOnBy least strength t d (getD codes at 46) ≡ true → at < length codes
+pub goes-inside : (codes : List ℕ) (at least strength : ℕ) (t d : Bool) → 1 ≤ least → goesOnWith least strength t d (getD codes at 46) ≡ true → at < length codes
 goes-inside codes at least strength t d h e = go (decLe (length codes) at)
   where
     go : Dec (length codes ≤ at) → at < length codes
     go (no q) = omega arith
-    go (yes q) = absurd (past-goes least strength t d h (subst (λ n. goesOnBy least strength t d n ≡ true) (past-list codes at 46 q) e))
+    go (yes q) = absurd (past-goes least strength t d h (subst (λ n. goesOnWith least strength t d n ≡ true) (past-list codes at 46 q) e))
 
 -- what was read from `first` up to `left`; where `first` is not there, nothing
 pub record Under (codes own now : List ℕ) (least : ℕ) (first left : Parsed) : Type 0 where
@@ -324,7 +324,7 @@ module _ {codes own mid now : List ℕ} {at free least : ℕ} (ready : Ready cod
   pub under-past : left .at ≤ length codes → at < left .at
   under-past h = let k = under-there h in omega (arith, i .past k, u .grew k h .upto)
 
-  pub under-step : {next : List ℕ} (more : Parsed) → 1 ≤ least → goesOnBy least (left .level) (left .named) (left .dotted) (getD codes (left .at) 46) ≡ true → left .at ≤ length codes →
+  pub under-step : {next : List ℕ} (more : Parsed) → 1 ≤ least → goesOnWith least (left .level) (left .named) (left .dotted) (getD codes (left .at) 46) ≡ true → left .at ≤ length codes →
       StepAt codes now next left more → Under codes mid next least first more
   under-step {next} more l p h s =
       let k = under-there h in
@@ -336,7 +336,7 @@ module _ {codes own mid now : List ℕ} {at free least : ℕ} (ready : Ready cod
         lost = λ a b. u .goal k h next more (on-none left ready₂ l p b s);
       }
 
-  pub under-end : goesOnBy least (left .level) (left .named) (left .dotted) (getD codes (left .at) 46) ≡ false → ExprAt codes own now at free least left
+  pub under-end : goesOnWith least (left .level) (left .named) (left .dotted) (getD codes (left .at) 46) ≡ false → ExprAt codes own now at free least left
   under-end n = go (decLe (first .at) (length codes)) (decLe (left .at) (length codes))
     where
       go : Dec (first .at ≤ length codes) → Dec (left .at ≤ length codes) → ExprAt codes own now at free least left

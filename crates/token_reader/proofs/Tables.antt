@@ -19,7 +19,8 @@ use Rattle.grammar.specs.Grammar.{opensArguments}
 use Rattle.grammar.specs.Parser.{Next, stops, operates, castsTo, dots, calls, indexes, tries, nextOf, levelAt, follows, goesOn}
 use Rattle.grammar.proofs.Tokens.{number-operator, code-same, code-token}
 use Rattle.plain.specs.Trees.{label, operatorLabel}
-use Rattle.token_reader.specs.Tables.{levelRows, pastRows, levelPast, levelOf, beforeOf, afterOf, barred, goesOnBy, operatorForm, operatorDetail}
+use Rattle.follow.specs.Follow.{beforeAt, barredAt, goesOnBy}
+use Rattle.token_reader.specs.Tables.{levelOf, afterOf, goesOnWith, operatorForm, operatorDetail}
 
 -- ---- operators
 
@@ -27,19 +28,19 @@ pub operator-token : (n : ℕ) → n < 29 → tokenOf n ≡ operator (operatorOf
 operator-token n h = code-same (tokenOf n) (operator (operatorOf n)) (code-token n (omega arith) ∙ sym (number-operator n h))
 
 pub operator-level : (n : ℕ) → n < 29 → levelOf n ≡ level (kind (operatorOf n))
-unfolding operatorOf levelOf levelPast levelRows pastRows lookup pick
+unfolding operatorOf tokenOf
 operator-level n h = eqb→eq (levelOf n) (level (kind (operatorOf n))) (all-at (λ m. eqb (levelOf m) (level (kind (operatorOf m)))) 29 tt n h)
 
 pub operator-after : (n : ℕ) → n < 29 → afterOf (levelOf n) ≡ after (kind (operatorOf n))
-unfolding operatorOf afterOf levelOf levelPast levelRows pastRows lookup pick
+unfolding operatorOf tokenOf afterOf pick
 operator-after n h = eqb→eq (afterOf (levelOf n)) (after (kind (operatorOf n))) (all-at (λ m. eqb (afterOf (levelOf m)) (after (kind (operatorOf m)))) 29 tt n h)
 
 pub level-most : (n : ℕ) → n < 29 → levelOf n ≤ 15
-unfolding levelOf levelPast levelRows pastRows lookup pick
+unfolding tokenOf
 level-most n h = leb→le (levelOf n) 15 (all-at (λ m. leb (levelOf m) 15) 29 tt n h)
 
 pub after-least : (n : ℕ) → n < 29 → 1 ≤ afterOf (levelOf n)
-unfolding afterOf levelOf levelPast levelRows pastRows lookup pick
+unfolding tokenOf afterOf pick
 after-least n h = leb→le 1 (afterOf (levelOf n)) (all-at (λ m. leb 1 (afterOf (levelOf m))) 29 tt n h)
 
 pub operator-labelled : (n : ℕ) → n < 29 → label (operatorForm n) (operatorDetail n) ≡ operatorLabel (operatorOf n)
@@ -55,40 +56,6 @@ operator-labelled n h = go (number (operatorOf n)) (number-operator n h)
 
 -- ---- what may follow
 
--- the level that must stand before, and whether a special rule forbids it
-abbrev beforeAt : Next → ℕ
-beforeAt stops = 0
-beforeAt (operates o) = before (kind o)
-beforeAt castsTo = before casts
-beforeAt dots = before postfixes
-beforeAt calls = before postfixes
-beforeAt indexes = before postfixes
-beforeAt tries = before postfixes
-
-abbrev barredAt : Bool → Bool → Next → Bool
-barredAt t d stops = false
-barredAt t d (operates o) = opensArguments o && t
-barredAt t d castsTo = false
-barredAt t d dots = false
-barredAt t d calls = d
-barredAt t d indexes = false
-barredAt t d tries = false
-
-level-at : (n : ℕ) → n < 47 → levelOf n ≡ levelAt (nextOf (tokenOf n))
-unfolding tokenOf levelOf levelPast levelRows pastRows lookup pick
-level-at n h = eqb→eq (levelOf n) (levelAt (nextOf (tokenOf n))) (all-at (λ m. eqb (levelOf m) (levelAt (nextOf (tokenOf m)))) 47 tt n h)
-
-before-at : (n : ℕ) → n < 47 → beforeOf (levelOf n) ≡ beforeAt (nextOf (tokenOf n))
-unfolding tokenOf beforeOf levelOf levelPast levelRows pastRows lookup pick
-before-at n h = eqb→eq (beforeOf (levelOf n)) (beforeAt (nextOf (tokenOf n))) (all-at (λ m. eqb (beforeOf (levelOf m)) (beforeAt (nextOf (tokenOf m)))) 47 tt n h)
-
-barred-at : (t d : Bool) (n : ℕ) → n < 47 → barred t d n ≡ barredAt t d (nextOf (tokenOf n))
-unfolding tokenOf barred opensArguments lookup pick
-barred-at true true n h = alike-same (barred true true n) (barredAt true true (nextOf (tokenOf n))) (all-at (λ m. alike (barred true true m) (barredAt true true (nextOf (tokenOf m)))) 47 tt n h)
-barred-at true false n h = alike-same (barred true false n) (barredAt true false (nextOf (tokenOf n))) (all-at (λ m. alike (barred true false m) (barredAt true false (nextOf (tokenOf m)))) 47 tt n h)
-barred-at false true n h = alike-same (barred false true n) (barredAt false true (nextOf (tokenOf n))) (all-at (λ m. alike (barred false true m) (barredAt false true (nextOf (tokenOf m)))) 47 tt n h)
-barred-at false false n h = alike-same (barred false false n) (barredAt false false (nextOf (tokenOf n))) (all-at (λ m. alike (barred false false m) (barredAt false false (nextOf (tokenOf m)))) 47 tt n h)
-
 and-yes : (b : Bool) → b && true ≡ b
 and-yes true = refl
 and-yes false = refl
@@ -102,12 +69,9 @@ follows-by e calls = refl
 follows-by e indexes = and-yes _
 follows-by e tries = and-yes _
 
-pub goes-on-at : (n : ℕ) → n < 47 → (least : ℕ) (e : Expr one) → goesOnBy least (level (kindOf e)) (endsInTypeName e) (endsInDotName e) n ≡ goesOn least e (nextOf (tokenOf n))
+pub goes-on-at : (least : ℕ) (e : Expr one) (x : Next) → goesOnBy least (level (kindOf e)) (endsInTypeName e) (endsInDotName e) x ≡ goesOn least e x
 unfolding goesOnBy goesOn
-goes-on-at n h least e =
-    let x = nextOf (tokenOf n) in
-    ap₂ (λ l b. leb least l && b) (level-at n h)
-    (ap₂ (λ m b. leb m (level (kindOf e)) && not b) (before-at n h) (barred-at (endsInTypeName e) (endsInDotName e) n h) ∙ follows-by e x)
+goes-on-at least e x = ap (λ b. leb least (levelAt x) && b) (follows-by e x)
 
 -- nothing goes on with a token that makes nothing
 pub stops-not : (least : ℕ) (e : Expr one) → 1 ≤ least → goesOn least e stops ≡ true → ⊥
@@ -119,8 +83,8 @@ stops-not least e h q = go (leb least 0) refl q
     go false k r = let z : _≡_ {A = ℕ} 0 1 = cc in omega arith
 
 -- nor with the code that stands for the end
-pub past-goes : (least strength : ℕ) (t d : Bool) → 1 ≤ least → goesOnBy least strength t d 46 ≡ true → ⊥
-unfolding goesOnBy levelOf levelPast levelRows pastRows lookup pick
+pub past-goes : (least strength : ℕ) (t d : Bool) → 1 ≤ least → goesOnWith least strength t d 46 ≡ true → ⊥
+unfolding goesOnBy tokenOf
 past-goes least strength t d h q = absurd (omega (arith, leb→le least 0 (of-true (and-true (leb least 0) _ q .0))))
 
 -- a token that is no operator and makes no other form

@@ -1,57 +1,26 @@
--- What the reader's tables give for codes. Nothing here is to be believed: proofs/Tables says that it is what the parser asks.
-use mathlib.Core.Bool.{Bool, false, not, _&&_}
-use mathlib.Core.List.{List, [], _∷_}
+-- What the reader asks of codes. Nothing here is to be believed: proofs/Tables says that it is what the parser asks.
+use mathlib.Core.Bool.{Bool}
 use Prim.Native.Nat.{ℕ, _+_}
-use lib.Dec.{eqb, leb}
-use Rattle.laws.specs.Choice.{pick, Row, row, lookup}
+use lib.Dec.{eqb}
+use Rattle.laws.specs.Choice.{pick}
 use Rattle.tree.specs.Forms.{ExprAssign, ExprBinary}
+use Rattle.grammar.specs.Codes.{tokenOf}
+use Rattle.grammar.specs.Parser.{nextOf, levelAt}
+use Rattle.follow.specs.Follow.{goesOnBy}
 
 -- ---- after an expression
 
 -- the level of what a token makes there
-unfoldable pub levelRows : List (Row ℕ)
-levelRows =
-    row (0 ∷ 1 ∷ []) 11 ∷
-    row (2 ∷ 3 ∷ 4 ∷ []) 12 ∷
-    row (5 ∷ []) 4 ∷
-    row (6 ∷ []) 3 ∷
-    row (7 ∷ []) 8 ∷
-    row (8 ∷ []) 9 ∷
-    row (9 ∷ []) 7 ∷
-    row (10 ∷ 11 ∷ []) 10 ∷
-    row (12 ∷ 13 ∷ 14 ∷ 15 ∷ 16 ∷ 17 ∷ []) 6 ∷
-    row (18 ∷ 19 ∷ 20 ∷ 21 ∷ 22 ∷ 23 ∷ 24 ∷ 25 ∷ 26 ∷ 27 ∷ 28 ∷ []) 1 ∷
-    []
+abbrev pub levelOf : ℕ → ℕ
+levelOf code = levelAt (nextOf (tokenOf code))
 
-unfoldable pub pastRows : List (Row ℕ)
-pastRows = row (31 ∷ []) 13 ∷ row (34 ∷ []) 15 ∷ row (35 ∷ []) 15 ∷ row (37 ∷ 40 ∷ []) 15 ∷ []
-
-unfoldable pub levelPast : ℕ → ℕ
-levelPast code = lookup pastRows 0 code
-
-unfoldable pub levelOf : ℕ → ℕ
-levelOf code = lookup levelRows (levelPast code) code
-
--- the lowest level of an operand that stands before, and after
-abbrev pub beforeRows : List (Row ℕ)
-beforeRows = row (1 ∷ []) 2 ∷ row (6 ∷ []) 7 ∷ []
-
-unfoldable pub beforeOf : ℕ → ℕ
-beforeOf level = lookup beforeRows level level
-
+-- the lowest level of an operand that stands after
 unfoldable pub afterOf : ℕ → ℕ
 afterOf level = pick (eqb level 1) 1 (level + 1)
 
--- whether one of the two special rules forbids a token, after a type name or not, after a dot and a name or not
-abbrev pub barredRows : Bool → Bool → List (Row Bool)
-barredRows typeName dotName = row (10 ∷ 13 ∷ []) typeName ∷ row (35 ∷ []) dotName ∷ []
-
-unfoldable pub barred : Bool → Bool → ℕ → Bool
-barred typeName dotName code = lookup (barredRows typeName dotName) false code
-
-unfoldable pub goesOnBy : ℕ → ℕ → Bool → Bool → ℕ → Bool
-goesOnBy least level typeName dotName code =
-    leb least (levelOf code) && (leb (beforeOf (levelOf code)) level && not (barred typeName dotName code))
+-- whether an expression goes on with a token
+abbrev pub goesOnWith : ℕ → ℕ → Bool → Bool → ℕ → Bool
+goesOnWith least level typeName dotName code = goesOnBy least level typeName dotName (nextOf (tokenOf code))
 
 -- ---- Binary and Assign
 

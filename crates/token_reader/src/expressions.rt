@@ -5,12 +5,12 @@ use crate::piece::Piece;
 use crate::piece::no_expr;
 use crate::piece::no_piece;
 use crate::token::code_at;
-use crate::token::goes_on;
-use crate::token::level_of;
 use crate::token::lowest_after;
 use crate::token::operator_detail;
 use crate::token::operator_form;
 use crate::types::ty;
+use follow::goes_on;
+use follow::level_of;
 use tree::forms;
 ghost use Prim.Native.Nat.{_+_, _≤_, _<_};
 ghost use lib.ListN.{length};
@@ -101,7 +101,13 @@ pub fn expr(tokens: &[u16], own: &mut [u16], at: usize, free: u16, min: u16) -> 
 {
     let mut left = operand(tokens, own, at, free);
     // Where nothing was read, `left` ends past the end, and no token goes on there.
-    while goes_on(min, left, code_at(tokens, left.at)) {
+    while goes_on(
+        min,
+        left.level,
+        left.named,
+        left.dotted,
+        code_at(tokens, left.at),
+    ) {
         left = step(tokens, own, left);
     }
     left

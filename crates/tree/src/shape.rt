@@ -96,6 +96,6 @@ pub fn first_at(table: &[u16], count: u16, node: u16) -> Operand
 pub fn second_at(table: &[u16], count: u16, node: u16) -> Operand
     ensures { λ r. ⌜ r ≡ secondOf (shapeAt (now (table .entry)) count node) ⌝ }
 {
-    let shape = shape_at(table, count, node);
-    shape.second()
+    let operands = shape_at(table, count, node);
+    operands.second()
 }

@@ -10,7 +10,7 @@ use Rattle.laws.specs.Choice.{isOneOf}
 use Rattle.laws.proofs.Keys.{arm, rest}
 use Rattle.grammar.specs.Expressions.{path, literal, neg, deref, invert, ref, refMut, byNumber, awaited}
 use Rattle.grammar.specs.Parser.{noStart, startRows, startBy, noMember, afterDotRows, afterDotBy}
-use Rattle.token_reader.specs.Tables.{goesOnBy}
+use Rattle.token_reader.specs.Tables.{goesOnWith}
 use Rattle.token_reader.proofs.First.{there}
 use Rattle.token_reader.proofs.Tables.{level-most, after-least, no-form}
 use Rattle.token_reader.proofs.Tells.{ready-on, ready-grew}
@@ -61,8 +61,8 @@ use Rattle.token_reader.proofs.node.store.Reads as store-reads
 use Rattle.token_reader.proofs.piece.no_expr.Reads as no-expr-reads
 use Rattle.token_reader.proofs.piece.no_piece.Reads as no-piece-reads
 use Rattle.token_reader.proofs.token.code_at.Reads as code-at-reads
-use Rattle.token_reader.proofs.token.goes_on.Reads as goes-on-reads
-use Rattle.token_reader.proofs.token.level_of.Reads as level-of-reads
+use Rattle.follow.proofs.goes_on.Reads as goes-on-reads
+use Rattle.follow.proofs.level_of.Reads as level-of-reads
 use Rattle.token_reader.proofs.token.lowest_after.Reads as lowest-after-reads
 use Rattle.token_reader.proofs.token.operator_detail.Reads as operator-detail-reads
 use Rattle.token_reader.proofs.token.operator_form.Reads as operator-form-reads
@@ -453,23 +453,23 @@ expr-goes-on-requires t c κs = search needs
 expr-step-requires : (t : ℕ) → expr-lts.Need-step-requires (expr-claims t) (expr-at t) expr.Post expr-Inv-loop expr-μ-loop
 expr-step-requires t c κs =
     let p = c .before .before .before .before .before .before .before .before .before .before .before .pre .0 in
-    let h = goes-inside (c .before .before .before .before .before .before .before .before .before .before .before .args .tokens .now) (c .before .before .before .before .loop .left .at) (c .before .before .before .before .before .before .before .before .before .before .before .args .min) (c .before .before .before .before .loop .left .level) (c .before .before .before .before .loop .left .named) (c .before .before .before .before .loop .left .dotted) (c .before .before .before .before .before .before .before .before .before .before .before .pre .1 .1) (sym (ap (goesOnBy (c .before .before .before .before .before .before .before .before .before .before .before .args .min) (c .before .before .before .before .loop .left .level) (c .before .before .before .before .loop .left .named) (c .before .before .before .before .loop .left .dotted)) (c .before .before .before .code-at .ensures)) ∙ sym (c .before .before .goes-on .ensures) ∙ c .before .if1 .taken) in
+    let h = goes-inside (c .before .before .before .before .before .before .before .before .before .before .before .args .tokens .now) (c .before .before .before .before .loop .left .at) (c .before .before .before .before .before .before .before .before .before .before .before .args .min) (c .before .before .before .before .loop .left .level) (c .before .before .before .before .loop .left .named) (c .before .before .before .before .loop .left .dotted) (c .before .before .before .before .before .before .before .before .before .before .before .pre .1 .1) (sym (ap (goesOnWith (c .before .before .before .before .before .before .before .before .before .before .before .args .min) (c .before .before .before .before .loop .left .level) (c .before .before .before .before .loop .left .named) (c .before .before .before .before .loop .left .dotted)) (c .before .before .before .code-at .ensures)) ∙ sym (c .before .before .goes-on .ensures) ∙ c .before .if1 .taken) in
     let q = under-past (c .before .before .before .before .before .before .before .before .before .before .before .pre .1 .0) _ _ (c .before .before .before .before .before .before .before .operand .ensures) (c .before .before .before .before .loop .inv .1) (omega arith) in
     (omega arith, under-ready (c .before .before .before .before .before .before .before .before .before .before .before .pre .1 .0) _ _ (c .before .before .before .before .before .before .before .operand .ensures) (c .before .before .before .before .loop .inv .1) (omega arith))
 
 expr-loop-less : (t : ℕ) → expr-lts.Need-loop-less (expr-claims t) (expr-at t) expr.Post expr-Inv-loop expr-μ-loop
-expr-loop-less t c = step-less _ _ (goes-inside (c .before .before .before .before .before .before .before .before .before .before .before .before .before .before .args .tokens .now) (c .before .before .before .before .before .before .before .loop .left .at) (c .before .before .before .before .before .before .before .before .before .before .before .before .before .before .args .min) (c .before .before .before .before .before .before .before .loop .left .level) (c .before .before .before .before .before .before .before .loop .left .named) (c .before .before .before .before .before .before .before .loop .left .dotted) (c .before .before .before .before .before .before .before .before .before .before .before .before .before .before .pre .1 .1) (sym (ap (goesOnBy (c .before .before .before .before .before .before .before .before .before .before .before .before .before .before .args .min) (c .before .before .before .before .before .before .before .loop .left .level) (c .before .before .before .before .before .before .before .loop .left .named) (c .before .before .before .before .before .before .before .loop .left .dotted)) (c .before .before .before .before .before .before .code-at .ensures)) ∙ sym (c .before .before .before .before .before .goes-on .ensures) ∙ c .before .before .before .before .if1 .taken)) (c .before .before .step .ensures)
+expr-loop-less t c = step-less _ _ (goes-inside (c .before .before .before .before .before .before .before .before .before .before .before .before .before .before .args .tokens .now) (c .before .before .before .before .before .before .before .loop .left .at) (c .before .before .before .before .before .before .before .before .before .before .before .before .before .before .args .min) (c .before .before .before .before .before .before .before .loop .left .level) (c .before .before .before .before .before .before .before .loop .left .named) (c .before .before .before .before .before .before .before .loop .left .dotted) (c .before .before .before .before .before .before .before .before .before .before .before .before .before .before .pre .1 .1) (sym (ap (goesOnWith (c .before .before .before .before .before .before .before .before .before .before .before .before .before .before .args .min) (c .before .before .before .before .before .before .before .loop .left .level) (c .before .before .before .before .before .before .before .loop .left .named) (c .before .before .before .before .before .before .before .loop .left .dotted)) (c .before .before .before .before .before .before .code-at .ensures)) ∙ sym (c .before .before .before .before .before .goes-on .ensures) ∙ c .before .before .before .before .if1 .taken)) (c .before .before .step .ensures)
 
 expr-loop-again : (t : ℕ) → expr-lts.Need-loop-again (expr-claims t) (expr-at t) expr.Post expr-Inv-loop expr-μ-loop
 expr-loop-again t c =
-    let h = goes-inside (c .before .before .before .before .before .before .before .before .before .before .before .before .before .before .args .tokens .now) (c .before .before .before .before .before .before .before .loop .left .at) (c .before .before .before .before .before .before .before .before .before .before .before .before .before .before .args .min) (c .before .before .before .before .before .before .before .loop .left .level) (c .before .before .before .before .before .before .before .loop .left .named) (c .before .before .before .before .before .before .before .loop .left .dotted) (c .before .before .before .before .before .before .before .before .before .before .before .before .before .before .pre .1 .1) (sym (ap (goesOnBy (c .before .before .before .before .before .before .before .before .before .before .before .before .before .before .args .min) (c .before .before .before .before .before .before .before .loop .left .level) (c .before .before .before .before .before .before .before .loop .left .named) (c .before .before .before .before .before .before .before .loop .left .dotted)) (c .before .before .before .before .before .before .code-at .ensures)) ∙ sym (c .before .before .before .before .before .goes-on .ensures) ∙ c .before .before .before .before .if1 .taken) in
-    (search needs, under-step (c .before .before .before .before .before .before .before .before .before .before .before .before .before .before .pre .1 .0) _ _ (c .before .before .before .before .before .before .before .before .before .before .operand .ensures) (c .before .before .before .before .before .before .before .loop .inv .1) _ (c .before .before .before .before .before .before .before .before .before .before .before .before .before .before .pre .1 .1) (sym (ap (goesOnBy (c .before .before .before .before .before .before .before .before .before .before .before .before .before .before .args .min) (c .before .before .before .before .before .before .before .loop .left .level) (c .before .before .before .before .before .before .before .loop .left .named) (c .before .before .before .before .before .before .before .loop .left .dotted)) (c .before .before .before .before .before .before .code-at .ensures)) ∙ sym (c .before .before .before .before .before .goes-on .ensures) ∙ c .before .before .before .before .if1 .taken) (omega arith) (c .before .before .step .ensures))
+    let h = goes-inside (c .before .before .before .before .before .before .before .before .before .before .before .before .before .before .args .tokens .now) (c .before .before .before .before .before .before .before .loop .left .at) (c .before .before .before .before .before .before .before .before .before .before .before .before .before .before .args .min) (c .before .before .before .before .before .before .before .loop .left .level) (c .before .before .before .before .before .before .before .loop .left .named) (c .before .before .before .before .before .before .before .loop .left .dotted) (c .before .before .before .before .before .before .before .before .before .before .before .before .before .before .pre .1 .1) (sym (ap (goesOnWith (c .before .before .before .before .before .before .before .before .before .before .before .before .before .before .args .min) (c .before .before .before .before .before .before .before .loop .left .level) (c .before .before .before .before .before .before .before .loop .left .named) (c .before .before .before .before .before .before .before .loop .left .dotted)) (c .before .before .before .before .before .before .code-at .ensures)) ∙ sym (c .before .before .before .before .before .goes-on .ensures) ∙ c .before .before .before .before .if1 .taken) in
+    (search needs, under-step (c .before .before .before .before .before .before .before .before .before .before .before .before .before .before .pre .1 .0) _ _ (c .before .before .before .before .before .before .before .before .before .before .operand .ensures) (c .before .before .before .before .before .before .before .loop .inv .1) _ (c .before .before .before .before .before .before .before .before .before .before .before .before .before .before .pre .1 .1) (sym (ap (goesOnWith (c .before .before .before .before .before .before .before .before .before .before .before .before .before .before .args .min) (c .before .before .before .before .before .before .before .loop .left .level) (c .before .before .before .before .before .before .before .loop .left .named) (c .before .before .before .before .before .before .before .loop .left .dotted)) (c .before .before .before .before .before .before .code-at .ensures)) ∙ sym (c .before .before .before .before .before .goes-on .ensures) ∙ c .before .before .before .before .if1 .taken) (omega arith) (c .before .before .step .ensures))
 
 expr-same-length : (t : ℕ) → expr-lts.Need-same-length (expr-claims t) (expr-at t) expr.Post expr-Inv-loop expr-μ-loop
 expr-same-length t c = search needs
 
 expr-returns : (t : ℕ) → expr-lts.Need-returns (expr-claims t) (expr-at t) expr.Post expr-Inv-loop expr-μ-loop
-expr-returns t c = under-end (c .before .before .before .before .before .before .before .before .before .before .pre .1 .0) _ _ (c .before .before .before .before .before .before .operand .ensures) (c .before .before .before .loop .inv .1) (sym (ap (goesOnBy (c .before .before .before .before .before .before .before .before .before .before .args .min) (c .before .before .before .loop .left .level) (c .before .before .before .loop .left .named) (c .before .before .before .loop .left .dotted)) (c .before .before .code-at .ensures)) ∙ sym (c .before .goes-on .ensures) ∙ c .if1 .left)
+expr-returns t c = under-end (c .before .before .before .before .before .before .before .before .before .before .pre .1 .0) _ _ (c .before .before .before .before .before .before .operand .ensures) (c .before .before .before .loop .inv .1) (sym (ap (goesOnWith (c .before .before .before .before .before .before .before .before .before .before .args .min) (c .before .before .before .loop .left .level) (c .before .before .before .loop .left .named) (c .before .before .before .loop .left .dotted)) (c .before .before .code-at .ensures)) ∙ sym (c .before .goes-on .ensures) ∙ c .if1 .left)
 
 group-add-expr : (t : ℕ) → group-lts.Need-add-expr (group-claims t) (group-at t) group.Post
 group-add-expr t c = search needs

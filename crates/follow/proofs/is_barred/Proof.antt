@@ -1,10 +1,10 @@
--- `token_reader::token::is_barred` meets its contract: its arms are the rows of the table. Assumes nothing.
+-- `follow::is_barred` meets its contract: its arms are the rows of the table. Assumes nothing.
 use mathlib.Core.Path.{sym}
 use mathlib.Core.Bool.{false}
 use Rattle.laws.proofs.Keys.{arm, rest}
-use Rattle.token_reader.specs.Tables.{barredRows, barred}
-use Rattle.token_reader.proofs.token.is_barred.Statement.{statement}
-use Rattle.token_reader.proofs.token.is_barred.Tie as tie
+use Rattle.follow.specs.Tables.{barredRows, barred}
+use Rattle.follow.proofs.is_barred.Statement.{statement}
+use Rattle.follow.proofs.is_barred.Tie as tie
 
 returns : tie.Need-returns
 unfolding barred

@@ -1,9 +1,9 @@
--- `token_reader::token::level_past` meets its contract: its arms are the rows of the table. Assumes nothing.
+-- `follow::level_past` meets its contract: its arms are the rows of the table. Assumes nothing.
 use mathlib.Core.Path.{sym}
 use Rattle.laws.proofs.Keys.{arm, rest}
-use Rattle.token_reader.specs.Tables.{pastRows, levelPast}
-use Rattle.token_reader.proofs.token.level_past.Statement.{statement}
-use Rattle.token_reader.proofs.token.level_past.Tie as tie
+use Rattle.follow.specs.Tables.{pastRows, levelPast}
+use Rattle.follow.proofs.level_past.Statement.{statement}
+use Rattle.follow.proofs.level_past.Tie as tie
 
 returns : tie.Need-returns
 unfolding levelPast pastRows

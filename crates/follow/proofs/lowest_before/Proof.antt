@@ -1,9 +1,9 @@
--- `token_reader::token::lowest_before` meets its contract: its arms are the rows of the table. Assumes nothing.
+-- `follow::lowest_before` meets its contract: its arms are the rows of the table. Assumes nothing.
 use mathlib.Core.Path.{sym}
 use Rattle.laws.proofs.Keys.{arm, rest}
-use Rattle.token_reader.specs.Tables.{beforeRows, beforeOf}
-use Rattle.token_reader.proofs.token.lowest_before.Statement.{statement}
-use Rattle.token_reader.proofs.token.lowest_before.Tie as tie
+use Rattle.follow.specs.Tables.{beforeRows, beforeOf}
+use Rattle.follow.proofs.lowest_before.Statement.{statement}
+use Rattle.follow.proofs.lowest_before.Tie as tie
 
 returns : tie.Need-returns
 unfolding beforeOf
