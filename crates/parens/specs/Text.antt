@@ -10,7 +10,7 @@ use Rattle.tree.specs.Trees.{treeAt}
 use Rattle.tree_file.specs.declared.Loaded.{Loaded}
 use Rattle.tree_file.specs.declared.Loaded.the-variants.{Refused, Accepted}
 use Rattle.tree_file.specs.Files.{cellsIn, loaded}
-use Rattle.walk.specs.Rows.{rowsOf}
+use Rattle.row.specs.Rows.{rowsOf}
 use Rattle.walk.specs.Walk.{rootHanded, placed}
 use Rattle.text.specs.Numbers.{line, headed}
 

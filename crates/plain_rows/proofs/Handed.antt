@@ -19,7 +19,7 @@ use Rattle.scan.specs.Scans.{scanned}
 use Rattle.expr.specs.declared.Handed.{Handed}
 use Rattle.expr.specs.Handed.{beforeOperator, beforeDot, atEnd, afterPrefix, neither}
 use Rattle.expr.specs.Expr.{canBeginExpr, canBeginGenerics, leftTest, rightTest, binaryLeft, binaryRight, callTest, firstRows, handsFirst, secondRows, handsSecond}
-use Rattle.walk.specs.Rows.{outerPair}
+use Rattle.row.specs.Rows.{outerPair}
 use Rattle.grammar.specs.Tokens.{Operator, number}
 use Rattle.grammar.specs.Tokens as token
 use Rattle.grammar.specs.Levels.{kind, level, before, after, casts, prefixes, postfixes}

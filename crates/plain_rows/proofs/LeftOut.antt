@@ -14,7 +14,7 @@ use Rattle.fixup.specs.Contexts.{NONE}
 use Rattle.expr.specs.declared.Handed.{Handed}
 use Rattle.expr.specs.Handed.{neither}
 use Rattle.expr.specs.Expr.{handsFirst, handsSecond}
-use Rattle.walk.specs.Rows.{isExpression, outerPair, ownContext}
+use Rattle.row.specs.Rows.{isExpression, outerPair, ownContext}
 use Rattle.walk.specs.Paths.{Step, first, second, treeBy, handedBy}
 use Rattle.grammar.specs.Tokens.{Operator, Token, operator, As, Name, Dot, LeftParen, RightParen, LeftBracket, RightBracket, Comma, Question}
 use Rattle.grammar.specs.Types.{Sort, one, list, items, TypePrefix, constPtr, mutPtr, sharedRef, mutRef, TypeSign, infer, never, Ty, named, applied, pointing, sign, noTypes, types, lastType, moreTypes}

@@ -29,7 +29,7 @@ use Rattle.grammar.specs.Pairs.{isCastToName, strength}
 use Rattle.grammar.proofs.Tokens.{operator-number, number-below}
 use Rattle.grammar.proofs.Levels.{binop-level}
 use Rattle.plain.specs.Trees.{label, operatorLabel, treeOf, treeOfType}
-use Rattle.walk.specs.Rows.{isExpression}
+use Rattle.row.specs.Rows.{isExpression}
 
 -- ---- operators: `=`, whose node is an Assign, and the others
 

@@ -17,7 +17,7 @@ use Rattle.fixup.specs.Contexts.{NONE}
 use Rattle.expr.specs.declared.Handed.{Handed}
 use Rattle.expr.specs.Handed.{neither}
 use Rattle.expr.specs.Expr.{handsFirst, handsSecond}
-use Rattle.walk.specs.Rows.{rowOf, ownContext, rowsOf}
+use Rattle.row.specs.Rows.{rowOf, ownContext, rowsOf}
 use Rattle.walk.specs.Walk.{contexts, contextNumbered, rootHanded, placed}
 use Rattle.walk.specs.Paths.{Step, first, second, numberAt, treeBy, handedBy, rowIn}
 use Rattle.walk.proofs.Paths.{there-at, row-at, one-path}

@@ -21,7 +21,7 @@ use Rattle.scan.specs.Scans.{scanned}
 use Rattle.expr.specs.declared.Handed.{Handed}
 use Rattle.expr.specs.Handed.{beforeOperator, beforeDot, atEnd, neither}
 use Rattle.expr.specs.Expr.{exprBeginners, canBeginExpr, genericsBeginners, canBeginGenerics, leftTest, rightTest, callRows, callTest}
-use Rattle.walk.specs.Rows.{precedenceIn, outerPair}
+use Rattle.row.specs.Rows.{precedenceIn, outerPair}
 use Rattle.grammar.specs.Tokens.{Operator, number}
 use Rattle.grammar.specs.Tokens as token
 use Rattle.grammar.specs.Levels.{kind, level, lean, before, postfixes}

@@ -17,7 +17,7 @@ use Rattle.fixup.specs.Contexts.{NONE, withOperator, withDot, rightmost}
 use Rattle.expr.specs.declared.Handed.{Handed}
 use Rattle.expr.specs.Handed.{beforeOperator, beforeDot, atEnd, afterPrefix, neither}
 use Rattle.expr.specs.Expr.{canBeginExpr, canBeginGenerics, leftTest, rightTest, binaryLeft, binaryRight, callTest, firstRows, handsFirst, secondRows, handsSecond}
-use Rattle.walk.specs.Rows.{isExpression, outerPair, innerPair, pairBy, expressionRow, rowOf, ownContext}
+use Rattle.row.specs.Rows.{isExpression, outerPair, innerPair, pairBy, expressionRow, rowOf, ownContext}
 use Rattle.grammar.specs.Tokens.{Operator, number, Token, operator, Lt, Gt, As, Name, Dot, LeftParen, RightParen, LeftBracket, RightBracket, Comma, Question}
 use Rattle.grammar.specs.Tokens as token
 use Rattle.grammar.specs.Codes.{operatorOf}

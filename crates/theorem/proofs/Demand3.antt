@@ -17,7 +17,7 @@ use Rattle.tree.proofs.Unfold.{unfolds}
 use Rattle.rules.proofs.Accepted.{count-bounds, levels-bound}
 use Rattle.fixup.specs.Contexts.{NONE as noContext}
 use Rattle.expr.specs.Handed.{neither}
-use Rattle.walk.specs.Rows.{rowsOf}
+use Rattle.row.specs.Rows.{rowsOf}
 use Rattle.walk.specs.Walk.{rootHanded, placed, refusal12, decided, rowsAfter}
 use Rattle.walk.specs.Walk as walk
 use Rattle.walk.specs.Paths.{Step, numberAt, treeBy}

@@ -1,4 +1,4 @@
--- What is decided of a node, by its parts. Assumes nothing.
+-- The row and the context of a node, by its class. Assumes nothing.
 use mathlib.Core.Path.{_≡_, refl, sym, ap, _∙_}
 use mathlib.Core.Bool.{Bool, true, false, _||_}
 use mathlib.Core.List.{List, [], _∷_}
@@ -27,30 +27,9 @@ use Rattle.expr.specs.declared.Handed.{Handed}
 use Rattle.expr.specs.Handed.{neither}
 use Rattle.expr.specs.Expr.{firstRows, handsFirst, secondRows, handsSecond}
 use Rattle.pack.specs.Cells.{ofBits, flagsOf}
-use Rattle.walk.specs.declared.decision.Row.{Row}
-use Rattle.walk.specs.Rows.{precedenceIn, outerPair, innerPair, pairBy, rowBy, expressionRow, zeros, isExpression, rowOf, ownContext, rowsOf}
-use Rattle.walk.specs.Steps.{decision, decisionOf, alone}
-
-pub row-by : {n : ℕ} {a b c d e f g h : ℕ} → a ≡ b → c ≡ d → e ≡ f → g ≡ h → _≡_ {A = Row} (record { pair = n; precedence = a; previous = c; next = e; flags = g }) (record { pair = n; precedence = b; previous = d; next = f; flags = h })
-row-by p q r s = cc
-
-pub decision-by : (h : Handed) (t : Tree) (p : Precedence) → p ≡ precedenceIn h t → (o : Bool) → o ≡ (ltb (rankOf p) (h .below) || parenthesize (h .fixup) t) → (i : Bool) → i ≡ innerPair t
-    → (n : ℕ) → n ≡ pairBy o i → (r : Row) → r ≡ rowBy n p (h .fixup) → decision r o ≡ decisionOf h t
-unfolding outerPair expressionRow
-decision-by h t p ep o eo i ei n en r er = rw (er, en, eo, ei, ep)
-
--- ---- what no owner tests, in NONE
-
-no-outer : (t : Tree) → outerPair alone t ≡ false
-unfolding outerPair neither parenthesize
-no-outer t = rw (le-ltb (rankOf (effective NONE t)) 0 (omega arith))
-
-pub lone-by : (t : Tree) (p : Precedence) → p ≡ effective NONE t → (i : Bool) → i ≡ innerPair t → (n : ℕ) → n ≡ pairBy false i → (m : ℕ) → m ≡ rankOf p
-    → _≡_ {A = Row} (record { pair = n; precedence = m; previous = 0; next = 0; flags = 0 }) (expressionRow alone t)
-unfolding expressionRow neither flagsOf ofBits
-lone-by t p ep i ei n en m em = rw (no-outer t, em, en, ei, ep)
-
--- ---- the row and the context of a node, by its class
+use Rattle.row.specs.Rows.{outerPair, expressionRow, zeros, isExpression, rowOf, ownContext, rowsOf}
+use Rattle.row.specs.Steps.{alone}
+use Rattle.row.proofs.Decisions.{no-outer}
 
 pub row-expression : (h : Handed) (t : Tree) → isExpression t ≡ true → expressionRow h t ≡ rowOf h t
 unfolding rowOf

@@ -11,7 +11,7 @@ use Rattle.fixup.specs.Contexts.{NONE}
 use Rattle.expr.specs.declared.Handed.{Handed}
 use Rattle.expr.specs.Handed.{neither}
 use Rattle.expr.specs.Expr.{firstRows, handsFirst, secondRows, handsSecond}
-use Rattle.walk.specs.Rows.{isExpression, outerPair, rowOf, ownContext, present, rowsOf}
+use Rattle.row.specs.Rows.{isExpression, outerPair, rowOf, ownContext, present, rowsOf}
 
 module _ (h : Handed) (l : Label) (a b : Tree) where
   abbrev here : Tree

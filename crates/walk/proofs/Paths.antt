@@ -18,8 +18,8 @@ use Rattle.rules.proofs.Accepted.{count-bounds, first-operand, second-operand, 
 use Rattle.rules.proofs.Owned.{OwnedOnce}
 use Rattle.expr.specs.declared.Handed.{Handed}
 use Rattle.expr.specs.Expr.{handsFirst, handsSecond}
-use Rattle.walk.specs.declared.decision.Row.{Row}
-use Rattle.walk.specs.Rows.{rowOf, ownContext, rowsOf}
+use Rattle.row.specs.declared.Row.{Row}
+use Rattle.row.specs.Rows.{rowOf, ownContext, rowsOf}
 use Rattle.walk.specs.Walk.{rootHanded, stored, placed}
 use Rattle.walk.specs.Paths.{Step, first, second, numberAt, treeBy, handedBy, rowIn}
 use Rattle.walk.proofs.Placed.{length-stored, length-placed, placed-none, placed-node}

@@ -10,10 +10,11 @@ use Rattle.fixup.specs.declared.context.FixupContext.{FixupContext}
 use Rattle.fixup.specs.Contexts.{NONE}
 use Rattle.expr.specs.declared.Handed.{Handed}
 use Rattle.expr.specs.Expr.{handsFirst, handsSecond}
-use Rattle.walk.specs.declared.decision.Row.{Row}
-use Rattle.walk.specs.Rows.{Rows, zeros, isExpression, rowOf, ownContext, rowsOf}
-use Rattle.walk.specs.Rows as rows
-use Rattle.walk.specs.Steps.{alone, placedFirst, placedBelow, placedAlone}
+use Rattle.row.specs.declared.Row.{Row}
+use Rattle.row.specs.Rows.{Rows, zeros, isExpression, rowOf, ownContext, rowsOf}
+use Rattle.row.specs.Rows as rows
+use Rattle.row.specs.Steps.{alone}
+use Rattle.walk.specs.Steps.{placedFirst, placedBelow, placedAlone}
 use Rattle.walk.proofs.Decisions.{row-other, own-other, first-other, second-other}
 use Rattle.walk.specs.Walk.{stored, placed}
 

@@ -18,7 +18,7 @@ use Rattle.scan.specs.Scans.{binds, consumes, consumeBy, armRows, armOf, closed
 use Rattle.expr.specs.Expr.{exprBeginners, canBeginExpr, genericsBeginners, canBeginGenerics, leftTest, rightTest, binaryLeft, binaryRight, breakTest, callRows, callTest, firstRows, handsFirst, secondRows, handsSecond}
 use Rattle.expr.specs.Handed.{beforeOperator, beforeDot, atEnd, afterPrefix, neither}
 use Rattle.pack.specs.Cells.{ofBits, flagsOf}
-use Rattle.walk.specs.Rows.{outerPair, innerRows, expressionRow, rowOf, ownContext, rowsOf}
+use Rattle.row.specs.Rows.{outerPair, innerRows, expressionRow, rowOf, ownContext, rowsOf}
 use Rattle.walk.specs.Walk.{contexts, contextNumbered, stored, placed, refusal12, decided, rowsAfter}
 use Rattle.walk.specs.Cases.{allHold, cases}
 

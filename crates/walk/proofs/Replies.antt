@@ -13,7 +13,7 @@ use Rattle.laws.proofs.Choice.{pick-true, pick-false, or-here, or-next}
 use Rattle.tree.specs.Trees.{treeAt}
 use Rattle.rules.specs.Refusals.{refusal}
 use Rattle.expr.specs.declared.Handed.{Handed}
-use Rattle.walk.specs.Rows.{rowsOf}
+use Rattle.row.specs.Rows.{rowsOf}
 use Rattle.walk.specs.Walk.{rootHanded, placed, refusal12, decided, rowsAfter, scratchAfter}
 
 module _ (context count : ℕ) (cells rows scratch : List ℕ) where

@@ -1,4 +1,3 @@
-pub mod Rows
 pub mod Walk
 pub mod Steps
 pub mod Cases

@@ -5,8 +5,8 @@ use lib.ListN.{getD}
 use Rattle.tree.specs.Trees.{Tree, none, node, operandAt}
 use Rattle.expr.specs.declared.Handed.{Handed}
 use Rattle.expr.specs.Expr.{handsFirst, handsSecond}
-use Rattle.walk.specs.declared.decision.Row.{Row}
-use Rattle.walk.specs.Rows.{ownContext}
+use Rattle.row.specs.declared.Row.{Row}
+use Rattle.row.specs.Rows.{ownContext}
 
 -- from an owner to its first or its second operand
 pub data Step : Type 0 where

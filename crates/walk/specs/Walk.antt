@@ -13,8 +13,8 @@ use Rattle.fixup.specs.declared.context.FixupContext.{FixupContext}
 use Rattle.fixup.specs.Contexts.{NONE, newStmt, newMatchArm, newCondition}
 use Rattle.expr.specs.declared.Handed.{Handed}
 use Rattle.expr.specs.Handed.{neither}
-use Rattle.walk.specs.declared.decision.Row.{Row}
-use Rattle.walk.specs.Rows.{Rows, absent, present, rowsOf}
+use Rattle.row.specs.declared.Row.{Row}
+use Rattle.row.specs.Rows.{Rows, absent, present, rowsOf}
 
 -- document 01, 'Tree file': "Context: 0 NONE, 1 new_stmt, 2 new_match_arm, 3 new_condition."
 unfoldable pub contexts : List (choice.Row FixupContext)

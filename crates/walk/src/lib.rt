@@ -1,15 +1,12 @@
 // The rows of all nodes of an accepted tree.
-mod decision; // decision.rt: what is decided of a node
-
-use decision::Row;
-use decision::decision_of;
-use decision::lone_row;
-use decision::no_row;
 use expr::Handed;
 use expr::Side;
 use expr::first_operand;
 use expr::second_operand;
 use fixup::context::FixupContext;
+use row::Row;
+use row::decision_of;
+use row::lone_row;
 use rules::refusal::check;
 use tree::form::class_of;
 use tree::shape::form_at;
@@ -19,9 +16,22 @@ ghost use Prim.Native.Nat.{_*_, _≤_};
 ghost use lib.ListN.{length, replicate};
 ghost use Rattle.laws.specs.Lists.{over};
 ghost use Rattle.tree.specs.Trees.{treeAt};
-ghost use Rattle.walk.specs.Rows.{rowsOf};
+ghost use Rattle.row.specs.Rows.{zeros, rowsOf};
 ghost use Rattle.walk.specs.Steps.{placedFirst, placedBelow, placedAlone};
 ghost use Rattle.walk.specs.Walk.{contextNumbered, rootHanded, stored, placed, decided, rowsAfter, scratchAfter};
+
+// The row of a type or a link.
+fn no_row() -> Row
+    ensures { λ r. ⌜ r ≡ zeros ⌝ }
+{
+    Row {
+        pair: 0,
+        precedence: 0,
+        previous: 0,
+        next: 0,
+        flags: 0,
+    }
+}
 
 // A row into the five cells of its node.
 fn store(rows: &mut [u16], node: u16, row: Row)

@@ -12,7 +12,7 @@ use Rattle.expr.specs.declared.Side.{Side}
 use Rattle.expr.specs.declared.Side.the-variants.{Left, Right, Neither}
 use Rattle.expr.specs.declared.Handed.{Handed}
 use Rattle.expr.specs.Expr.{handsFirst, handsSecond}
-use Rattle.walk.specs.Rows.{isExpression, ownContext}
+use Rattle.row.specs.Rows.{isExpression, ownContext}
 use Rattle.walk.specs.Walk.{rootHanded}
 
 -- leftmost_subexpression_precedence scans after its first test

@@ -10,11 +10,12 @@ use Rattle.tree.specs.Table.{cellAt}
 use Rattle.tree.specs.Trees.{operandAt, treeAt}
 use Rattle.tree.proofs.Unfold.{tree-past, left, left-falls}
 use Rattle.expr.specs.Expr.{handsFirst, handsSecond}
-use Rattle.walk.specs.declared.decision.Row.{Row}
-use Rattle.walk.specs.declared.decision.Decision.{Decision}
-use Rattle.walk.specs.Rows.{Rows, isExpression}
+use Rattle.row.specs.declared.Row.{Row}
+use Rattle.row.specs.declared.Decision.{Decision}
+use Rattle.row.specs.Rows.{Rows, isExpression}
 use Rattle.walk.specs.Walk.{stored, placed}
-use Rattle.walk.specs.Steps.{alone, placedAlone}
+use Rattle.row.specs.Steps.{alone}
+use Rattle.walk.specs.Steps.{placedAlone}
 use Rattle.walk.proofs.Decisions.{own-alone, own-outer, own-kept, row-expression, rows-other, class-is, there}
 use Rattle.walk.proofs.Placed.{length-stored, length-placed, length-below, placed-none, placed-absent, placed-by, placed-other}
 use borrow.Fn.Kinds.{In}
@@ -37,9 +38,9 @@ use Rattle.fixup.proofs.context.FixupContext.none.Reads as none-reads
 use Rattle.tree.proofs.form.class_of.Reads as class-of-reads
 use Rattle.tree.proofs.shape.form_at.Reads as form-at-reads
 use Rattle.tree.proofs.table.operand_number.Reads as operand-number-reads
-use Rattle.walk.proofs.decision.decision_of.Reads as decision-of-reads
-use Rattle.walk.proofs.decision.lone_row.Reads as lone-row-reads
-use Rattle.walk.proofs.decision.no_row.Reads as no-row-reads
+use Rattle.row.proofs.decision_of.Reads as decision-of-reads
+use Rattle.row.proofs.lone_row.Reads as lone-row-reads
+use Rattle.walk.proofs.no_row.Reads as no-row-reads
 use Rattle.walk.proofs.store.Reads as store-reads
 use Rattle.walk.proofs.+walk_alone+walk_first+walk_from+walk_operands.{statement}
 use Rattle.walk.proofs.+walk_alone+walk_first+walk_from+walk_operands.Tie.{close}

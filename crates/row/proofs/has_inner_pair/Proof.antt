@@ -1,14 +1,14 @@
--- `walk::decision::has_inner_pair` meets its contract. Assumes nothing.
+-- `row::has_inner_pair` meets its contract. Assumes nothing.
 use mathlib.Core.Path.{ap, _∙_}
 use mathlib.Core.Bool.{false, not}
 use Prim.Native.Nat.{ℕ}
 use lib.Dec.{eqb}
 use Rattle.tree.specs.Trees.{labelAt}
 use Rattle.tree.proofs.Shapes.{root-arm, root-rest}
-use Rattle.walk.specs.Rows.{innerRows}
+use Rattle.row.specs.Rows.{innerRows}
 use borrow.Author.Needs.{needs}
-use Rattle.walk.proofs.decision.has_inner_pair.Statement.{statement}
-use Rattle.walk.proofs.decision.has_inner_pair.Tie as tie
+use Rattle.row.proofs.has_inner_pair.Statement.{statement}
+use Rattle.row.proofs.has_inner_pair.Tie as tie
 
 form-at-requires : tie.Need-form-at-requires
 form-at-requires c κs = search needs

@@ -15,8 +15,8 @@ ghost use lib.Dec.{ltb};
 ghost use Rattle.tree.specs.Trees.{treeAt};
 ghost use Rattle.precedence.specs.Precedences.{rankOf};
 ghost use Rattle.fixup.specs.Fixup.{parenthesize};
-ghost use Rattle.walk.specs.Rows.{precedenceBy, innerPair, pairBy, rowBy, expressionRow, zeros};
-ghost use Rattle.walk.specs.Steps.{decisionOf, alone};
+ghost use Rattle.row.specs.Rows.{precedenceBy, innerPair, pairBy, rowBy, expressionRow};
+ghost use Rattle.row.specs.Steps.{decisionOf, alone};
 
 pub struct Row {
     pub pair: u16,
@@ -123,19 +123,6 @@ pub fn lone_row(table: &[u16], count: u16, node: u16) -> Row
     Row {
         pair: pair(false, inner),
         precedence: precedence.rank(),
-        previous: 0,
-        next: 0,
-        flags: 0,
-    }
-}
-
-// The row of a type or a link.
-pub fn no_row() -> Row
-    ensures { λ r. ⌜ r ≡ zeros ⌝ }
-{
-    Row {
-        pair: 0,
-        precedence: 0,
         previous: 0,
         next: 0,
         flags: 0,

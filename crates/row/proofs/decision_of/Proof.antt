@@ -1,9 +1,9 @@
--- `walk::decision::decision_of` meets its contract. Assumes nothing.
+-- `row::decision_of` meets its contract. Assumes nothing.
 use Rattle.tree.specs.Trees.{treeAt}
-use Rattle.walk.proofs.Decisions.{decision-by}
+use Rattle.row.proofs.Decisions.{decision-by}
 use borrow.Author.Needs.{needs}
-use Rattle.walk.proofs.decision.decision_of.Statement.{statement}
-use Rattle.walk.proofs.decision.decision_of.Tie as tie
+use Rattle.row.proofs.decision_of.Statement.{statement}
+use Rattle.row.proofs.decision_of.Tie as tie
 
 precedence-by-requires : tie.Need-precedence-by-requires
 precedence-by-requires c κs = search needs

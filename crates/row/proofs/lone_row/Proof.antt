@@ -1,12 +1,12 @@
--- `walk::decision::lone_row` meets its contract. Assumes nothing.
+-- `row::lone_row` meets its contract. Assumes nothing.
 use mathlib.Core.Path.{ap, _∙_}
 use Rattle.tree.specs.Trees.{treeAt}
 use Rattle.fixup.specs.declared.context.FixupContext.{FixupContext}
 use Rattle.fixup.specs.Fixup.{effective}
-use Rattle.walk.proofs.Decisions.{lone-by}
+use Rattle.row.proofs.Decisions.{lone-by}
 use borrow.Author.Needs.{needs}
-use Rattle.walk.proofs.decision.lone_row.Statement.{statement}
-use Rattle.walk.proofs.decision.lone_row.Tie as tie
+use Rattle.row.proofs.lone_row.Statement.{statement}
+use Rattle.row.proofs.lone_row.Tie as tie
 
 none-requires : tie.Need-none-requires
 none-requires c κs = search needs
