@@ -2,10 +2,10 @@
 //! slowest trees that a search finds.
 
 use crate::clock::Clock;
-use crate::sets::{numbered, BARE, LONGEST_PATH, NAME, RANGE_TO};
+use crate::sets::{numbered, BARE, NAME, RANGE_TO};
 use crate::sides::{Prepared, Side};
 use oracle::forms::{operator::*, *};
-use oracle::generate::{call_of, planted, Dice, Draft, Stem, NESTS, NEXTS};
+use oracle::generate::{call_of, planted, Dice, Draft, Stem, LONGEST_PATH, NESTS, NEXTS};
 use oracle::{accept, NodeTable};
 
 const GROUP_OF: Stem = Stem::one(GROUP, 0, 0);

@@ -3,6 +3,7 @@
 use oracle::forms::{operator::*, *};
 use oracle::generate::{
     levels, planted, Dice, Draft, Family, Fill, Label, Order, Slot, Stem, LONGEST_NEST,
+    LONGEST_PATH,
 };
 use oracle::{accept, NodeTable};
 
@@ -57,7 +58,6 @@ pub const SETS: [Set; 10] = [
 
 const SEED: u64 = 1;
 const LARGEST: u16 = 4_096;
-pub const LONGEST_PATH: usize = 128;
 
 /// One that leans left, one that is loose, and one that takes no chains.
 const OPERATORS: [u16; 3] = [SUB, AND, EQ];

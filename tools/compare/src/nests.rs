@@ -4,7 +4,7 @@
 
 use crate::spines::{compare_rows, described, Theirs, CONTEXTS};
 use oracle::direct::context_of_root;
-use oracle::generate::{levels, Dice, Draft, Family, Order, Spines, LONGEST_NEST, NESTS};
+use oracle::generate::{Family, Spines, LONGEST_NEST, NESTS};
 use oracle::{keeping, NodeTable};
 
 /// The crate's rows with the answers of scan_right kept.
@@ -27,7 +27,8 @@ pub fn compare() -> u64 {
     let three = Spines::with_some_forms(3);
     let some = (0..three.len()).step_by(STEP).map(|index| three.tree(0, index));
     different += hold("some spines of three forms", some);
-    different += hold("nests that the crate finishes", short_nests());
+    let short = NESTS.iter().flat_map(|nest| nest.doubling(LONGEST_NEST));
+    different += hold("nests that the crate finishes", short);
     for (name, spines) in [
         ("two forms by turns", Spines::of_two_turns()),
         ("three forms by turns", Spines::of_three_turns()),
@@ -35,7 +36,7 @@ pub fn compare() -> u64 {
         let nests = (0..spines.len()).map(|index| spines.nest(0, index));
         different += compare_rows(&described(name, &spines), nests, KEPT);
     }
-    let long = NESTS.iter().map(|nest| numbered(&nest.draft(126)));
+    let long = NESTS.iter().map(|nest| nest.longest(0));
     different + compare_rows("the nests of docs/PERFORMANCE.md", long, KEPT)
 }
 
@@ -53,16 +54,4 @@ fn hold(name: &str, trees: impl Iterator<Item = NodeTable>) -> u64 {
     }
     println!("answers kept or not, {name}: trees {count}, different {different}");
     different
-}
-
-/// Each length of the nests that the crate comes to an end with.
-fn short_nests() -> impl Iterator<Item = NodeTable> {
-    let drafts = NESTS.iter().flat_map(|nest| {
-        (1..).map(|length| nest.draft(length)).take_while(|draft| levels(draft) <= LONGEST_NEST)
-    });
-    drafts.map(|draft| numbered(&draft))
-}
-
-fn numbered(draft: &Draft) -> NodeTable {
-    draft.number(0, Order::Printing, &mut Dice::new(0, 0))
 }

@@ -3,14 +3,12 @@
 
 use super::dice::Dice;
 use super::draft::Order;
+use super::nests::LONGEST_PATH;
 use super::small::every_stem;
 use super::spines::{ENDS, NEXTS};
 use super::stem::{planted, Fill, Stem, NAME, TYPE};
 use crate::forms::{self, operator::*, *};
 use crate::table::NodeTable;
-
-/// The most nodes that a path may hold.
-const LONGEST_PATH: usize = 128;
 
 /// All spines over sets of next operators, forms and ends, by number.
 pub struct Spines {

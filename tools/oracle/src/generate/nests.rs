@@ -1,9 +1,15 @@
 //! Nests: forms by turns, each the right operand of the one before. The crate's
 //! work on some of them doubles with each level.
 
-use super::draft::Draft;
+use super::curb::levels;
+use super::dice::Dice;
+use super::draft::{Draft, Order};
 use super::stem::{planted, Fill, Stem};
 use crate::forms::{operator::*, *};
+use crate::table::NodeTable;
+
+/// The most nodes that a path may hold.
+pub const LONGEST_PATH: usize = 128;
 
 /// What stands above a nest, what its levels are by turns, and its end.
 pub struct Nest {
@@ -60,5 +66,22 @@ impl Nest {
     pub fn draft(&self, levels: usize) -> Draft {
         let turns = self.turns.iter().copied().cycle().take(levels);
         planted([self.above].into_iter().chain(turns).chain([self.end]))
+    }
+
+    /// The nest with so many levels, in a context.
+    pub fn tree(&self, context: u16, levels: usize) -> NodeTable {
+        self.draft(levels).number(context, Order::Printing, &mut Dice::new(0, 0))
+    }
+
+    /// The nest with as many levels as a path may hold.
+    pub fn longest(&self, context: u16) -> NodeTable {
+        self.tree(context, LONGEST_PATH - 1 - self.end.depth())
+    }
+
+    /// The nest with each number of levels that doubles the crate's work at most so
+    /// often, the shortest first.
+    pub fn doubling(&self, most: u32) -> impl Iterator<Item = NodeTable> + '_ {
+        let fits = move |&length: &usize| levels(&self.draft(length)) <= most;
+        (1..).take_while(fits).map(|length| self.tree(0, length))
     }
 }
