@@ -172,16 +172,20 @@ fn compare(
 }
 
 const USAGE: &str = "usage:
-  compare [SEED]   all questions and rows, on random and on small trees
-  compare spines   rows of all right spines of one, two and three forms
-  compare nests    rows of nests of 128 levels, with the crate's scans kept";
+  compare [SEED]           all questions and rows, on random and on small trees
+  compare spines [FORMS]   rows of all right spines of one to four forms, or of so many
+  compare nests            rows of nests of 128 levels, with the crate's scans kept";
 
 fn main() -> ExitCode {
     let arguments: Vec<String> = std::env::args().skip(1).collect();
     let arguments: Vec<&str> = arguments.iter().map(String::as_str).collect();
     let different = match arguments[..] {
         [] => Some(compare_all(1)),
-        ["spines"] => Some(spines::compare()),
+        ["spines"] => Some((1..=spines::LONGEST).map(spines::compare).sum()),
+        ["spines", forms] => {
+            let forms = forms.parse().ok().filter(|forms| (1..=spines::LONGEST).contains(forms));
+            forms.map(spines::compare)
+        }
         ["nests"] => Some(nests::compare()),
         [seed] => seed.parse().ok().map(compare_all),
         _ => None,

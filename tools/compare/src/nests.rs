@@ -29,12 +29,9 @@ pub fn compare() -> u64 {
     different += hold("some spines of three forms", some);
     let short = NESTS.iter().flat_map(|nest| nest.doubling(LONGEST_NEST));
     different += hold("nests that the crate finishes", short);
-    for (name, spines) in [
-        ("two forms by turns", Spines::of_two_turns()),
-        ("three forms by turns", Spines::of_three_turns()),
-    ] {
+    for spines in [Spines::with_few_ends(2), Spines::over_arms(3)] {
         let nests = (0..spines.len()).map(|index| spines.nest(0, index));
-        different += compare_rows(&described(name, &spines), nests, KEPT);
+        different += compare_rows(&described("nests by turns", &spines), nests, KEPT);
     }
     let long = NESTS.iter().map(|nest| nest.longest(0));
     different + compare_rows("the nests of docs/PERFORMANCE.md", long, KEPT)

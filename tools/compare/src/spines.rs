@@ -12,22 +12,26 @@ pub type Theirs = fn(&[Context], u16, &[u16]) -> Vec<Vec<Row>>;
 
 pub const CONTEXTS: [u16; 4] = [0, 1, 2, 3];
 
-/// Spines of one, two and three forms. Gives how often rows differ.
-pub fn compare() -> u64 {
-    let all = |name, spines: Spines| {
-        let trees = (0..spines.len()).map(|index| spines.tree(0, index));
-        compare_rows(&described(name, &spines), trees, oracle::rows)
+/// The most forms of the spines that are compared.
+pub const LONGEST: u32 = 4;
+
+/// Spines of so many forms. Gives how often rows differ.
+pub fn compare(length: u32) -> u64 {
+    let spines = match length {
+        1 => Spines::every(1),
+        2 => Spines::with_some_ends(2),
+        3 => Spines::with_some_forms(3),
+        _ => Spines::over_arms(length),
     };
-    all("one form", Spines::every(1))
-        + all("two forms", Spines::with_some_ends(2))
-        + all("three forms", Spines::with_some_forms(3))
+    let trees = (0..spines.len()).map(|index| spines.tree(0, index));
+    compare_rows(&described("right spines", &spines), trees, oracle::rows)
 }
 
 /// The name with the sizes of a set of spines.
 pub fn described(name: &str, spines: &Spines) -> String {
-    let Spines { nexts, forms, ends, .. } = spines;
+    let Spines { nexts, forms, length, ends } = spines;
     let (nexts, forms, ends) = (nexts.len(), forms.len(), ends.len());
-    format!("{name} of {forms}, ends {ends}, next operators {nexts}")
+    format!("{name}: {length} of {forms} forms, ends {ends}, next operators {nexts}")
 }
 
 /// Rows of trees in all four contexts, ours beside the crate's. Gives how often they
@@ -49,6 +53,6 @@ pub fn compare_rows(name: &str, trees: impl Iterator<Item = NodeTable>, theirs: 
         }
     }
     let seconds = start.elapsed().as_secs();
-    println!("{name}: files {files}, rows {rows}, different {different}, {seconds} s");
+    println!("{name}; files {files}, rows {rows}, different {different}, {seconds} s");
     different
 }

@@ -29,13 +29,13 @@ fn spines() -> [Spines; 5] {
     let (nexts, ends) = (NEXTS.to_vec(), ENDS.to_vec());
     [
         // One form for each kind, all next operators.
-        Spines { length: 1, ..Spines::of_two_turns() },
+        Spines::with_few_ends(1),
         // All forms.
         Spines { nexts: nexts.clone(), ends: ends.clone(), ..Spines::every(1) },
         // All ends.
         Spines { nexts: nexts.clone(), forms: FORMS.to_vec(), ..Spines::every(1) },
         Spines { nexts: nexts.clone(), ends: ends.clone(), ..Spines::with_some_forms(2) },
-        Spines { nexts: nexts[..5].to_vec(), ends, ..Spines::of_three_turns() },
+        Spines { nexts: nexts[..5].to_vec(), ends, ..Spines::over_arms(3) },
     ]
 }
 

@@ -19,7 +19,7 @@ struct Tally {
     most_nodes: u16,
     large: u64,
     different: u64,
-    /// The longest that the program took for a file.
+    /// The longest that the program took for a file, its start and its end included.
     longest: Duration,
     /// The shortest file with a difference.
     shortest: Option<Vec<u8>>,
@@ -39,7 +39,7 @@ impl Tally {
         self.replies[usize::from(reply)] += 1;
         let (printed, mut time) = run(program, &file);
         // A busy machine lets programs wait: what seems longest is timed again.
-        for _ in 0..3 {
+        for _ in 0..9 {
             if time > self.longest {
                 time = time.min(run(program, &file).1);
             }
@@ -71,7 +71,7 @@ impl Tally {
         let refused: Vec<String> = self.replies[1..].iter().map(u64::to_string).collect();
         println!(
             "{name}: files {}, different {}, accepted {}, rows {}, most nodes {}, of more than \
-             1,000 nodes {}, longest run {:.1} ms\n  refused by 1 to 11: {}",
+             1,000 nodes {}, longest run {:.2} ms\n  refused by 1 to 11: {}",
             self.files,
             self.different,
             self.replies[0],
@@ -113,7 +113,7 @@ fn program() -> PathBuf {
 /// each so many-th, and gives how often what it prints differs.
 pub fn compare_nests(step: u64) -> u64 {
     let mut nests = Vec::new();
-    for spines in [Spines::of_two_turns(), Spines::of_three_turns()] {
+    for spines in [Spines::with_few_ends(2), Spines::over_arms(3)] {
         let indexes = (0..spines.len()).step_by(step as usize).enumerate();
         nests.extend(indexes.map(|(at, index)| spines.nest((at % 4) as u16, index)));
     }

@@ -38,15 +38,14 @@ impl Spines {
         Spines { forms: SOME_FORMS.to_vec(), ..Spines::with_some_ends(length) }
     }
 
-    /// Two forms that take turns in a nest, with a few ends.
-    pub fn of_two_turns() -> Self {
-        Spines { ends: TURNS_ENDS.to_vec(), ..Spines::with_some_forms(2) }
+    /// The same with a few ends, those that differ for scan_right.
+    pub fn with_few_ends(length: u32) -> Self {
+        Spines { ends: FEW_ENDS.to_vec(), ..Spines::with_some_forms(length) }
     }
 
-    /// Three forms that take turns in a nest, one for each arm of scan_right and for
-    /// each order that an operator's level and a next operator's can have.
-    pub fn of_three_turns() -> Self {
-        Spines { forms: ARMS.to_vec(), length: 3, ..Spines::of_two_turns() }
+    /// The same with one form for each arm of scan_right.
+    pub fn over_arms(length: u32) -> Self {
+        Spines { forms: ARMS.to_vec(), ..Spines::with_few_ends(length) }
     }
 
     /// How many spines there are, without contexts.
@@ -163,8 +162,8 @@ const OTHER_ENDS: [Stem; 13] = [
     Stem::two(INDEX, 0, 0).named(),
 ];
 
-/// Ends that differ for scan_right.
-const TURNS_ENDS: [Stem; 7] = [
+/// What differs for scan_right.
+const FEW_ENDS: [Stem; 7] = [
     Stem::leaf(PATH, 0, 0),
     Stem::leaf(BLOCK, 0, 1),
     Stem::leaf(RANGE, 0, 0),
