@@ -13,7 +13,7 @@ pub type Theirs = fn(&[Context], u16, &[u16]) -> Vec<Vec<Row>>;
 pub const CONTEXTS: [u16; 4] = [0, 1, 2, 3];
 
 /// The most forms of the spines that are compared.
-pub const LONGEST: u32 = 4;
+pub const LONGEST: u32 = 5;
 
 /// Spines of so many forms. Gives how often rows differ.
 pub fn compare(length: u32) -> u64 {
@@ -21,7 +21,9 @@ pub fn compare(length: u32) -> u64 {
         1 => Spines::every(1),
         2 => Spines::with_some_ends(2),
         3 => Spines::with_some_forms(3),
-        _ => Spines::over_arms(length),
+        4 => Spines::over_arms(4),
+        // Without a next operator, where an operand may have to be asked again.
+        _ => Spines { nexts: vec![None], ..Spines::over_arms(length) },
     };
     let trees = (0..spines.len()).map(|index| spines.tree(0, index));
     compare_rows(&described("right spines", &spines), trees, oracle::rows)
