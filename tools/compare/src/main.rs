@@ -173,7 +173,7 @@ fn compare(
 
 const USAGE: &str = "usage:
   compare [SEED]           all questions and rows, on random and on small trees
-  compare spines [FORMS]   rows of all right spines of one to five forms, or of so many
+  compare spines [FORMS]   rows of right spines of one to five forms, or of so many
   compare nests            rows of nests of 128 levels, with the crate's scans kept";
 
 fn main() -> ExitCode {
