@@ -5,6 +5,8 @@
 //! what it takes to find a place.
 //!
 //! With ORACLE_MUTANT=FILE:N the Nth change of src/mutation.rs is made to FILE.
+//! With the feature kept_scans fixup.rs's scan_right gets another name, and
+//! src/fixup/kept.rs stands in its place.
 
 #[path = "src/mutation.rs"]
 #[allow(dead_code)]
@@ -44,15 +46,23 @@ fn main() {
                 text = with_line(&text, place, line);
             }
         }
+        if file == "fixup" && env::var_os("CARGO_FEATURE_KEPT_SCANS").is_some() {
+            assert_once(&text, "fn scan_right(");
+            text = text.replace("fn scan_right(", "fn scan_anew(");
+        }
         fs::write(Path::new(&out).join(format!("{file}.rs")), text).expect("a writable OUT_DIR");
     }
 }
 
 /// The text with a line behind the first opening brace after a place.
 fn with_line(text: &str, place: &str, line: &str) -> String {
-    let times = text.matches(place).count();
-    assert!(times == 1, "expected once in expr.rs, found {times} times: {place}");
+    assert_once(text, place);
     let head = text.find(place).expect("found just now");
     let at = head + text[head..].find('{').expect("the body of a function") + 1;
     format!("{}\n        {line}{}", &text[..at], &text[at..])
+}
+
+fn assert_once(text: &str, place: &str) {
+    let times = text.matches(place).count();
+    assert!(times == 1, "expected once in prettyplease's file, found {times} times: {place}");
 }

@@ -2,57 +2,15 @@
 //! slowest trees that a search finds.
 
 use crate::clock::Clock;
-use crate::sets::{numbered, planted, BARE, LARGEST, LONGEST_PATH, NAME, RANGE_TO};
+use crate::sets::{numbered, BARE, NAME, RANGE_TO};
 use crate::sides::{Prepared, Side};
 use oracle::forms::{operator::*, *};
-use oracle::generate::{Dice, Draft, Label, Slot, Stem, NEXTS};
+use oracle::generate::{call_of, planted, Dice, Draft, Stem, LONGEST_PATH, NESTS, NEXTS};
 use oracle::{accept, NodeTable};
-
-/// What stands above a nest, what its levels are by turns, and its end.
-struct Nest {
-    name: &'static str,
-    above: Stem,
-    turns: &'static [Stem],
-    end: Stem,
-}
 
 const GROUP_OF: Stem = Stem::one(GROUP, 0, 0);
 const MINUS: Stem = Stem::one(UNARY, 0, 2);
 const PLUS: Stem = Stem::right(BINARY, 0, ADD);
-
-const NESTS: [Nest; 6] = [
-    Nest {
-        name: "`..` by its end, left of `=`",
-        above: Stem::left(ASSIGN, 0, 0),
-        turns: &[RANGE_TO],
-        end: NAME,
-    },
-    Nest {
-        name: "`..` by its end, below a Field",
-        above: Stem::one(FIELD, 0, 0),
-        turns: &[RANGE_TO],
-        end: BARE,
-    },
-    Nest {
-        name: "`+`, Group by turns, below a Field",
-        above: Stem::one(FIELD, 0, 0),
-        turns: &[PLUS, GROUP_OF],
-        end: BARE,
-    },
-    Nest {
-        name: "`-`, Group, `+`, Group by turns, below a Field",
-        above: Stem::one(FIELD, 0, 0),
-        turns: &[MINUS, GROUP_OF, PLUS, GROUP_OF],
-        end: BARE,
-    },
-    Nest {
-        name: "`..`, `-` by turns, left of `+=`",
-        above: Stem::left(BINARY, 0, ADD_ASSIGN),
-        turns: &[RANGE_TO, MINUS],
-        end: NAME,
-    },
-    Nest { name: "`..` by its end, below `-`", above: MINUS, turns: &[RANGE_TO], end: BARE },
-];
 
 const LEVELS: [usize; 6] = [4, 8, 16, 32, 64, 126];
 
@@ -67,14 +25,15 @@ pub fn time_nests(folder: Option<&str>) {
     println!("|---|---|{}", "---:|".repeat(LEVELS.len()));
     for (number, nest) in NESTS.iter().enumerate() {
         if let Some(folder) = folder {
-            write(folder, &format!("nest{number}"), &nest.tree(LEVELS[5]));
+            write(folder, &format!("nest{number}"), &accepted(&nest.draft(LEVELS[5])));
         }
-        let ours = LEVELS.map(|levels| format!("{:.0}", a_node(&nest.tree(levels), Side::Ours)));
+        let ours = LEVELS
+            .map(|levels| format!("{:.0}", a_node(&accepted(&nest.draft(levels)), Side::Ours)));
         println!("| {} | ours | {} |", nest.name, ours.join(" | "));
         // A nest of more levels takes it at least as much longer as one of two levels less took.
         let (mut last, mut growth): (Option<(usize, f64)>, f64) = (None, 1.0);
         let theirs = LEVELS.map(|levels| {
-            let tree = nest.tree(levels);
+            let tree = accepted(&nest.draft(levels));
             if let Some((before, time)) = last {
                 if time * growth.powi((levels - before) as i32) > PATIENCE {
                     return "-".to_string();
@@ -90,13 +49,6 @@ pub fn time_nests(folder: Option<&str>) {
             format!("{a_node:.0}")
         });
         println!("| | the crate | {} |", theirs.join(" | "));
-    }
-}
-
-impl Nest {
-    fn tree(&self, levels: usize) -> NodeTable {
-        let turns = self.turns.iter().cycle().take(levels);
-        accepted(&planted([&self.above].into_iter().chain(turns).chain([&self.end])))
     }
 }
 
@@ -152,7 +104,7 @@ pub fn search_slowest(folder: Option<&str>) {
                 for end in [NAME, BARE, Stem::leaf(RETURN, 0, 0)] {
                     let turns = [first, second].into_iter().cycle().take(LONGEST_PATH - 3);
                     let stems: Vec<Stem> = [above].into_iter().chain(turns).chain([end]).collect();
-                    let tree = numbered(&planted(stems.iter()));
+                    let tree = numbered(&planted(stems.iter().copied()));
                     if accept::refusal(&tree) == 0 {
                         found.push((a_node(&tree, Side::Ours), stems));
                     }
@@ -207,20 +159,5 @@ fn write(folder: &str, name: &str, tree: &NodeTable) {
 
 /// A call with one nest for each argument, as often as there is room.
 fn arguments(stems: &[Stem]) -> Draft {
-    let mut draft = Draft::new(Label::of(CALL));
-    draft.put(Slot { owner: 0, place: 0 }, Label::of(PATH));
-    let mut rest = Slot { owner: 0, place: 1 };
-    let nodes: usize = stems.iter().map(Stem::nodes).sum();
-    while draft.nodes.len() + 1 + nodes <= usize::from(LARGEST) {
-        let link = draft.put(rest, Label::of(LINK));
-        let mut slot = Slot { owner: link, place: 0 };
-        for stem in stems {
-            match stem.plant(&mut draft, Some(slot)).first() {
-                Some(&next) => slot = next,
-                None => break,
-            }
-        }
-        rest = Slot { owner: link, place: 1 };
-    }
-    draft
+    call_of(&mut std::iter::repeat(stems.to_vec()).peekable())
 }

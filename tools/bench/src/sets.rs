@@ -1,7 +1,10 @@
 //! The trees that are timed.
 
 use oracle::forms::{operator::*, *};
-use oracle::generate::{levels, Dice, Draft, Family, Fill, Label, Order, Slot, Stem, LONGEST_NEST};
+use oracle::generate::{
+    levels, planted, Dice, Draft, Family, Fill, Label, Order, Slot, Stem, LONGEST_NEST,
+    LONGEST_PATH,
+};
 use oracle::{accept, NodeTable};
 
 /// A named set of trees.
@@ -54,8 +57,7 @@ pub const SETS: [Set; 10] = [
 ];
 
 const SEED: u64 = 1;
-pub const LARGEST: u16 = 4_096;
-pub const LONGEST_PATH: usize = 128;
+const LARGEST: u16 = 4_096;
 
 /// One that leans left, one that is loose, and one that takes no chains.
 const OPERATORS: [u16; 3] = [SUB, AND, EQ];
@@ -82,26 +84,17 @@ fn small(family: Family) -> Vec<NodeTable> {
 /// Stems by turns, each in the open place of the one before, and a name at the
 /// end of the longest path that is accepted.
 fn chain(stems: &[Stem]) -> NodeTable {
-    let above = stems.iter().cycle().take(LONGEST_PATH - 1);
-    numbered(&planted(above.chain([&NAME])))
+    let above = stems.iter().copied().cycle().take(LONGEST_PATH - 1);
+    numbered(&planted(above.chain([NAME])))
 }
 
 /// Ranges nested by their ends below a stem: as many as double the crate's work
 /// so often as differential runs allow.
 fn nest(above: Stem, end: Stem) -> NodeTable {
     let draft = (1..)
-        .map(|length| planted([&above].into_iter().chain(vec![&RANGE_TO; length]).chain([&end])))
+        .map(|length| planted([above].into_iter().chain(vec![RANGE_TO; length]).chain([end])))
         .find(|draft| levels(draft) == LONGEST_NEST);
     numbered(&draft.expect("longer nests double more"))
-}
-
-pub fn planted<'a>(stems: impl Iterator<Item = &'a Stem>) -> Draft {
-    let mut draft = Draft::default();
-    let mut slot = None;
-    for stem in stems {
-        slot = stem.plant(&mut draft, slot).first().copied();
-    }
-    draft
 }
 
 /// A call with as many arguments as there is room for. An argument is a node with

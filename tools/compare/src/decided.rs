@@ -54,6 +54,21 @@ impl Decided {
     }
 }
 
+/// What differs where the tree goes in as a tree file, through tezhukor_load.
+pub fn differences_of_file(tree: &NodeTable, theirs: &[Row]) -> Vec<String> {
+    let mut cells = vec![0; tree.cells.len()];
+    match ours::load(&table::write(tree), &mut cells) {
+        Ok((context, count)) => {
+            let loaded = NodeTable { context, count, cells };
+            if loaded != *tree {
+                return vec![format!("{loaded:?} is loaded")];
+            }
+            Decided::new(context, &loaded, 0).differences(tree, theirs)
+        }
+        Err(refusal) => vec![format!("refused by {refusal}")],
+    }
+}
+
 /// What a cell holds when it is lent; no row has such a number.
 fn pattern(at: usize) -> u16 {
     0xA000 | (at & 0x0FFF) as u16

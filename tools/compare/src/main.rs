@@ -4,7 +4,9 @@
 mod contexts;
 mod decided;
 mod in_context;
+mod nests;
 mod rows;
+mod spines;
 
 use decided::Decided;
 use in_context::{any, Cases, QUESTIONS};
@@ -169,15 +171,39 @@ fn compare(
     tally.different
 }
 
+const USAGE: &str = "usage:
+  compare [SEED]           all questions and rows, on random and on small trees
+  compare spines [FORMS]   rows of right spines of one to five forms, or of so many
+  compare nests            rows of nests of 128 levels, with the crate's scans kept";
+
 fn main() -> ExitCode {
-    let seed = match std::env::args().nth(1).map(|seed| seed.parse()) {
-        None => 1,
-        Some(Ok(seed)) => seed,
-        Some(Err(_)) => {
-            eprintln!("usage: compare [SEED]");
-            return ExitCode::FAILURE;
+    let arguments: Vec<String> = std::env::args().skip(1).collect();
+    let arguments: Vec<&str> = arguments.iter().map(String::as_str).collect();
+    let different = match arguments[..] {
+        [] => Some(compare_all(1)),
+        ["spines"] => Some((1..=spines::LONGEST).map(spines::compare).sum()),
+        ["spines", forms] => {
+            let forms = forms.parse().ok().filter(|forms| (1..=spines::LONGEST).contains(forms));
+            forms.map(spines::compare)
         }
+        ["nests"] => Some(nests::compare()),
+        [seed] => seed.parse().ok().map(compare_all),
+        _ => None,
     };
+    match different {
+        None => {
+            eprintln!("{USAGE}");
+            ExitCode::FAILURE
+        }
+        Some(different) => {
+            println!("different {different}");
+            ExitCode::from(u8::from(different > 0))
+        }
+    }
+}
+
+/// All questions and rows, on the trees of a seed and on all small ones.
+fn compare_all(seed: u64) -> u64 {
     let mut different = contexts::compare();
     let cases = &mut Cases::new();
     for (family, trees) in [
@@ -201,10 +227,5 @@ fn main() -> ExitCode {
     }
     println!("contexts met {} of {}", cases.met(), 1 << 18);
     println!("scan_right's precedences and offsets met {} of 192", cases.arguments_met());
-    println!("different {different}");
-    if different == 0 {
-        ExitCode::SUCCESS
-    } else {
-        ExitCode::FAILURE
-    }
+    different
 }

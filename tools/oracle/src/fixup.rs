@@ -2,6 +2,13 @@
 
 include!(concat!(env!("OUT_DIR"), "/fixup.rs"));
 
+#[cfg(feature = "kept_scans")]
+mod kept;
+#[cfg(feature = "kept_scans")]
+pub use kept::keeping;
+#[cfg(feature = "kept_scans")]
+use kept::scan_right;
+
 impl FixupContext {
     /// The context that a tree's root gets, by document 01's number for it.
     pub(crate) fn of_root(context: u16) -> Self {

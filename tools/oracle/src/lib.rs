@@ -43,5 +43,7 @@ pub use direct::{
     leftmost_precedence_of, parenthesize_of, precedence_of, rightmost_precedence_of, scan_left_of,
     scan_right_of,
 };
+#[cfg(feature = "kept_scans")]
+pub use fixup::keeping;
 pub use recorder::Row;
 pub use table::NodeTable;

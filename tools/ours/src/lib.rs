@@ -122,6 +122,13 @@ extern "C" {
         precedence: u16,
     ) -> u16;
 
+    fn tezhukor_load(
+        file: *const u8,
+        file_length: usize,
+        table: *mut u16,
+        table_length: usize,
+    ) -> u32;
+
     fn tezhukor_decide(
         context: u16,
         count: u16,
@@ -220,6 +227,18 @@ pub fn context(question: u16, from: Context, booleans: [bool; 2], precedence: u1
     })
 }
 
+/// Loads a tree file into a table, and gives its context and count or the refusal.
+pub fn load(file: &[u8], table: &mut [u16]) -> Result<(u16, u16), u16> {
+    // SAFETY: pointers and lengths are those of slices, of which none overlaps
+    // another; the function demands nothing else of its arguments.
+    let reply =
+        unsafe { tezhukor_load(file.as_ptr(), file.len(), table.as_mut_ptr(), table.len()) };
+    match (reply >> 16) as u16 {
+        0 => Ok(((reply / 8_192) as u16, (reply % 8_192) as u16)),
+        refusal => Err(refusal),
+    }
+}
+
 /// Writes the rows of all nodes of a table, in one of document 01's contexts, and
 /// gives the reply number.
 pub fn decide(
@@ -229,8 +248,7 @@ pub fn decide(
     rows: &mut [u16],
     scratch: &mut [u16],
 ) -> u16 {
-    // SAFETY: pointers and lengths are those of slices, of which none overlaps
-    // another; the function demands nothing else of its arguments.
+    // SAFETY: as above.
     unsafe {
         tezhukor_decide(
             context,

@@ -1,5 +1,6 @@
 //! The program `parens` on many tree files, and files with recorded rows.
 
+mod chosen;
 mod damage;
 mod files;
 mod nests;
@@ -10,6 +11,7 @@ use std::process::ExitCode;
 
 const USAGE: &str = "usage:
   scale parens FILES [SEED]   target/bin/parens on so many files, beside the crate's own rows
+  scale nests [STEP]          the same on nests of 128 levels, each so many-th (1 if not given)
   scale record                writes crates/recorded/data/rows";
 
 fn main() -> ExitCode {
@@ -25,6 +27,8 @@ fn main() -> ExitCode {
         ["parens", files, seed] => {
             number(files).zip(number(seed)).map(|(n, s)| parens::compare(n, s))
         }
+        ["nests"] => Some(parens::compare_nests(1)),
+        ["nests", step] => number(step).map(parens::compare_nests),
         _ => None,
     };
     match different {

@@ -1,10 +1,24 @@
-//! How long the nests of a table are.
+//! Nests of a table that double the crate's work.
 
 use oracle::generate::{self, Draft, Label, Slot};
-use oracle::NodeTable;
+use oracle::{keeping, Answers, NodeTable};
+
+/// So many doubling nodes of a right spine take the crate a tenth of a second.
+pub const FINISHED: u32 = 20;
+
+/// The crate's answers. Those of its scan_right are kept where it would not come to an
+/// end soon.
+pub fn answers(table: &NodeTable) -> Answers {
+    let ask = || oracle::answers(table.context, table.count, &table.cells);
+    if levels(table) <= FINISHED {
+        ask()
+    } else {
+        keeping(ask)
+    }
+}
 
 /// The doubling nodes of a right spine of an accepted table, the most there are.
-pub fn levels(table: &NodeTable) -> u32 {
+fn levels(table: &NodeTable) -> u32 {
     let nodes: Vec<&[u16]> = table.cells.chunks(5).collect();
     let label = |at: usize| Label::new(nodes[at][0], nodes[at][1], nodes[at][2]);
     let mut slots = vec![None; nodes.len()];

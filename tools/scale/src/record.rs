@@ -11,9 +11,9 @@
 //! - when not refused, five cells of u16 a node: its row, zeros for a type or a link
 
 use crate::damage::damage;
-use crate::{files, nests};
-use oracle::generate::{Dice, Family, SmallTrees, LONGEST_NEST};
-use oracle::{answers, table, NodeAnswers, NodeTable};
+use crate::{chosen, files, nests};
+use oracle::generate::{Dice, Family, SmallTrees};
+use oracle::{table, NodeTable};
 use std::path::PathBuf;
 
 const SEED: u64 = 11;
@@ -69,6 +69,9 @@ pub fn record() {
         records.add(5 * tree.count, &table::write(tree));
         records.add(5 * tree.count - 1, &table::write(tree));
     }
+    for tree in chosen::trees() {
+        records.add(LENT, &table::write(&tree));
+    }
     let path = PathBuf::from(env!("CARGO_MANIFEST_DIR")).join("../../crates/recorded/data/rows");
     std::fs::write(path, records.bytes).expect("crates/recorded/data is there");
     println!("rows\naccepted {}", records.replies[0]);
@@ -95,14 +98,8 @@ impl Records {
         }
         self.bytes.extend(file);
         if let Ok(tree) = decided {
-            assert!(nests::levels(&tree) <= LONGEST_NEST);
-            for node in answers(tree.context, tree.count, &tree.cells).nodes {
-                let row = match node {
-                    NodeAnswers::Expression(expression) => expression.row.cells(),
-                    NodeAnswers::Type(_) | NodeAnswers::Link => [0; 5],
-                };
-                self.bytes.extend(row.iter().flat_map(|cell| cell.to_le_bytes()));
-            }
+            let rows = nests::answers(&tree).rows();
+            self.bytes.extend(rows.iter().flat_map(|cell| cell.to_le_bytes()));
         }
     }
 }

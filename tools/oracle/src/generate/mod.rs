@@ -6,6 +6,8 @@
 mod curb;
 mod dice;
 mod draft;
+mod every_spine;
+mod nests;
 mod random;
 mod small;
 mod spines;
@@ -14,10 +16,12 @@ mod stem;
 pub use curb::{levels, LONGEST_NEST};
 pub use dice::Dice;
 pub use draft::{Draft, Label, Order, Slot};
+pub use every_spine::Spines;
+pub use nests::{Nest, LONGEST_PATH, NESTS};
 pub use random::{random, Profile};
 pub use small::SmallTrees;
 pub use spines::{spine, ENDS, NEXTS};
-pub use stem::{Fill, Stem};
+pub use stem::{call_of, planted, Fill, Stem};
 
 use crate::table::NodeTable;
 

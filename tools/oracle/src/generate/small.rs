@@ -124,7 +124,7 @@ impl SmallTrees {
 }
 
 /// All stems.
-fn every_stem() -> Vec<Stem> {
+pub(super) fn every_stem() -> Vec<Stem> {
     use Fill::{Argument, Hole, Nothing};
     let mut types = Vec::new();
     for form in TYPE_ARRAY..=TYPE_VERBATIM {

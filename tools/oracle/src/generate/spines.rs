@@ -3,8 +3,8 @@
 
 use super::curb::curb;
 use super::dice::Dice;
-use super::draft::{Draft, Label, Order};
-use super::stem::{Fill, Stem, NAME, TYPE};
+use super::draft::{Label, Order};
+use super::stem::{planted, Fill, Stem, NAME, TYPE};
 use crate::forms::{operator::*, *};
 use crate::table::NodeTable;
 
@@ -161,11 +161,7 @@ pub fn spine(dice: &mut Dice, index: u64) -> NodeTable {
     let length = dice.below(longest + 1);
     stems.extend(run(dice, &[length]));
     stems.push(end);
-    let mut draft = Draft::default();
-    let mut slot = None;
-    for stem in stems {
-        slot = varied(dice, stem).plant(&mut draft, slot).first().copied();
-    }
+    let mut draft = planted(stems.into_iter().map(|stem| varied(dice, stem)));
     curb(&mut draft);
     draft.number(context as u16, Order::any(dice), dice)
 }

@@ -2,6 +2,10 @@
 
 use super::draft::{Draft, Label, Slot};
 use crate::forms::*;
+use std::iter::Peekable;
+
+/// The most nodes that a tree file may have.
+const MOST_NODES: usize = 4_096;
 
 /// What stands in a place of a stem's node.
 #[derive(Copy, Clone, PartialEq, Eq, Debug)]
@@ -87,6 +91,16 @@ impl Stem {
         1 + self.fills.iter().map(filled).sum::<usize>()
     }
 
+    /// How many nodes its longest path holds, without further expressions.
+    pub fn depth(&self) -> usize {
+        let below = |fill: &Fill| match fill {
+            Fill::Nothing | Fill::Hole | Fill::Argument => 0,
+            Fill::Leaf(_) => 1,
+            Fill::Over(_) => 2,
+        };
+        1 + self.fills.iter().map(below).max().unwrap_or(0)
+    }
+
     /// How many further expressions it has.
     pub fn holes(&self) -> usize {
         let open = |fill: &Fill| matches!(fill, Fill::Hole | Fill::Argument);
@@ -123,4 +137,32 @@ impl Stem {
         }
         holes
     }
+}
+
+/// A tree of stems, each in the first further place of the one before.
+pub fn planted(stems: impl IntoIterator<Item = Stem>) -> Draft {
+    let mut draft = Draft::default();
+    plant_below(&mut draft, None, stems);
+    draft
+}
+
+fn plant_below(draft: &mut Draft, mut slot: Option<Slot>, stems: impl IntoIterator<Item = Stem>) {
+    for stem in stems {
+        slot = stem.plant(draft, slot).first().copied();
+    }
+}
+
+/// A call with stems planted for each argument, taken as long as there is room.
+pub fn call_of(arguments: &mut Peekable<impl Iterator<Item = Vec<Stem>>>) -> Draft {
+    let mut draft = Draft::new(Label::of(CALL));
+    draft.put(Slot { owner: 0, place: 0 }, Label::of(PATH));
+    let mut rest = Slot { owner: 0, place: 1 };
+    let nodes = |stems: &Vec<Stem>| 1 + stems.iter().map(Stem::nodes).sum::<usize>();
+    while let Some(stems) = arguments.next_if(|next| draft.nodes.len() + nodes(next) <= MOST_NODES)
+    {
+        let link = draft.put(rest, Label::of(LINK));
+        plant_below(&mut draft, Some(Slot { owner: link, place: 0 }), stems);
+        rest = Slot { owner: link, place: 1 };
+    }
+    draft
 }
