@@ -10,7 +10,7 @@ use expr::Side;
 use expr::first_operand;
 use expr::second_operand;
 use fixup::context::FixupContext;
-use rules::refusal::check;
+use one_pass::check;
 use tree::form::class_of;
 use tree::shape::form_at;
 use tree::table::operand_number;
