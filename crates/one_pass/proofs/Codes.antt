@@ -3,13 +3,14 @@ use mathlib.Core.Path.{_≡_, refl, sym, _∙_}
 use mathlib.Core.Bool.{Bool, true, false, not, _&&_, _||_}
 use mathlib.Core.List.{List, [], _∷_}
 use mathlib.Core.Logic.{_⊎_, inl, inr, ⊎-elim}
-use Prim.Native.Nat.{ℕ, _+_, _*_, _/_, _%_, _≤_, _<_, max}
+use Prim.Native.Nat.{ℕ, _+_, _*_, _/_, _%_, _^_, _≤_, _<_, max}
 use native.Mathlib.Omega.{arith}
 use native.Mathlib.Decide.{decLe, ℕ-discrete}
 use lib.Dec.{eqb, leb}
 use borrow.Author.Tests.{eqb-true, eqb-false, eq-eqb, ne-eqb, leb-true, le-leb, lt-leb, not-false, not-true}
 use Rattle.laws.specs.Choice.{pick, lookup, isOneOf}
-use Rattle.laws.proofs.Choice.{and-true, true-not-false}
+use Rattle.laws.proofs.Choice.{and-true, true-of}
+use Rattle.laws.proofs.Each.{all-at}
 use Rattle.places.specs.declared.place.Place.{Place}
 use Rattle.places.specs.declared.place.Place.the-variants.{Nothing, Required, Optional, List as ListOf, Item, Next}
 use Rattle.tree.specs.Forms.{classOf, highestAttributes, highestDetail, allowed}
@@ -20,11 +21,19 @@ use Rattle.one_pass.specs.Rows.{codeIs, fitsBy, codeBy, suits, RowAt}
 use Rattle.one_pass.specs.Marks.{Fits, markBy, Closes, Marks}
 
 -- the number that `fits` looks at holds the code and the kind
-pub fits-at : (code kind : ℕ) → kind < 8 → fitsBy ((8 * code + kind) / 8) ((8 * code + kind) % 8) ≡ true → fitsBy code kind ≡ true
+fits-at : (code kind : ℕ) → kind < 8 → fitsBy ((8 * code + kind) / 8) ((8 * code + kind) % 8) ≡ true → fitsBy code kind ≡ true
 fits-at code kind h e =
     let p : (8 * code + kind) / 8 ≡ code = omega arith in
     let q : (8 * code + kind) % 8 ≡ kind = omega arith in
     rw (p, q) at e
+
+-- the bits of `fits`, each by one computed test
+pub fits-bit : (code kind : ℕ) → code < 8 → kind < 8 → eqb (437140555961729537 / 2 ^ (8 * code + kind) % 2) 1 ≡ true → fitsBy code kind ≡ true
+unfolding fitsBy pick
+fits-bit code kind h k e = fits-at code kind k (true-of (rw e at (all-at test 64 tt (8 * code + kind) (omega arith))))
+  where
+    test : ℕ → Bool
+    test x = not (eqb (437140555961729537 / 2 ^ x % 2) 1) || fitsBy (x / 8) (x % 8)
 
 or-true : (a b : Bool) → a || b ≡ true → (a ≡ true) ⊎ (b ≡ true)
 or-true true b e = inl refl
@@ -149,42 +158,42 @@ unfolding badOutput
 row-by cells i form detail row ef ed s n = (rw (← ef, ← ed) s, rw (← ef, n))
 
 -- what `mark_at` has found
-module _ (cells : List ℕ) (i one two row : ℕ) (at : RowAt cells i row) (attributes : attributesAt cells i ≤ row / 4 % 4) (detail : detailAt cells i ≤ row / 1024)
-    (fit : fitsBy (row / 16 % 8) (one % 8) ≡ true) where
+module _ (cells : List ℕ) (i one row : ℕ) (at : RowAt cells i row) (fit : fitsBy (row / 16 % 8) (one % 8) ≡ true) where
   own : Says (formAt cells i) (detailAt cells i) row
   own = says (formAt cells i) (detailAt cells i) row (at .0)
 
-  numbers : badNumbers cells i ≡ false
+  numbers : attributesAt cells i ≤ row / 4 % 4 → detailAt cells i ≤ row / 1024 → badNumbers cells i ≡ false
   unfolding badNumbers allowed
-  numbers = rw (← own .class, ← own .attributes, ← own .details, ne-eqb _ _ (own .some), le-leb _ _ attributes, le-leb _ _ detail)
+  numbers a d = rw (← own .class, ← own .attributes, ← own .details, ne-eqb _ _ (own .some), le-leb _ _ a, le-leb _ _ d)
 
   first : Fits (firstPlace (formAt cells i) (detailAt cells i)) (one % 8) (one % 8)
   first = fits-place (row / 16 % 8) (one % 8) fit (firstPlace (formAt cells i) (detailAt cells i)) (one % 8) (own .first)
 
-  second : fitsBy (codeBy row (one % 8)) (two % 8) ≡ true → Fits (secondPlace (formAt cells i) (detailAt cells i)) (one % 8) (two % 8)
-  unfolding codeBy pick firstPlace firstPlaces secondPlace secondPlaces lookup Fits
-  second h = go (ℕ-discrete (row % 4) 3)
+  -- a link's item
+  pub link-item : row % 4 ≡ 3 → (1 ≤ one % 8) × (one % 8 ≤ 2)
+  unfolding firstPlace firstPlaces lookup pick Fits
+  link-item e = rw (link-form (formAt cells i) (sym (own .class) ∙ e)) at first
+
+  second : (two : ℕ) → fitsBy (codeBy row (one % 8)) (two % 8) ≡ true → Fits (secondPlace (formAt cells i) (detailAt cells i)) (one % 8) (two % 8)
+  unfolding codeBy pick secondPlace secondPlaces lookup Fits
+  second two h = go (ℕ-discrete (row % 4) 3)
     where
       go : Dec (row % 4 ≡ 3) → Fits (secondPlace (formAt cells i) (detailAt cells i)) (one % 8) (two % 8)
       go (yes e) =
           let form = link-form (formAt cells i) (sym (own .class) ∙ e) in
-          let item : (1 ≤ one % 8) × (one % 8 ≤ 2) = rw form at first in
-          let low = item .0 in
-          let high = item .1 in
+          let low = link-item e .0 in
+          let high = link-item e .1 in
           rw form (⊎-elim (λ z. inl z) (λ z. inr (high, (omega arith, omega arith))) (by-choice (one % 8 + 4) (two % 8) (rw (eq-eqb (row % 4) 3 e) at h) (omega arith) (omega arith)))
       go (no e) = fits-place (row / 128 % 8) (two % 8) (rw (ne-eqb (row % 4) 3 e) at h) (secondPlace (formAt cells i) (detailAt cells i)) (one % 8) (own .second)
 
-  marks-by : (r : ℕ) → Closes row one two r → Marks cells i one two r
+  pub marks-at : (two attributes detail : ℕ) → attributes ≡ attributesAt cells i → detail ≡ detailAt cells i
+      → attributes ≤ row / 4 % 4 → detail ≤ row / 1024 → (r : ℕ) → Closes row one two r → Marks cells i one two r
   unfolding empty
-  marks-by r k = record {
-    numbers = numbers;
+  marks-at two attributes detail ea ed a d r k = record {
+    numbers = numbers (rw (← ea) a) (rw (← ed) d);
     first = first;
-    second = second (k .0);
+    second = second two (k .0);
     full = own .full;
     output = at .1;
     is = rw (← own .class) (k .1);
   }
-
-pub marks-at : (cells : List ℕ) (i one two row attributes detail : ℕ) → attributes ≡ attributesAt cells i → detail ≡ detailAt cells i
-    → RowAt cells i row → attributes ≤ row / 4 % 4 → detail ≤ row / 1024 → fitsBy (row / 16 % 8) (one % 8) ≡ true → (r : ℕ) → Closes row one two r → Marks cells i one two r
-marks-at cells i one two row attributes detail ea ed at a d fit r k = marks-by cells i one two row at (rw (← ea) a) (rw (← ed) d) fit r k

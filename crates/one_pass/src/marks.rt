@@ -3,7 +3,7 @@
 use super::rows::fits;
 use tree::level::larger;
 ghost use mathlib.Core.Path.{_≡_};
-ghost use Prim.Native.Nat.{_≤_, _<_};
+ghost use Prim.Native.Nat.{_%_, _≤_, _<_};
 ghost use lib.ListN.{length};
 ghost use Rattle.one_pass.specs.Marks.{Took, Closes};
 
@@ -12,7 +12,7 @@ pub const TAKEN: u16 = 7;
 
 // The mark of a node with this row whose operands have these marks; 0 where the second does not fit.
 pub fn mark_by(row: u16, one: u16, two: u16) -> u16
-    requires { ⌜ (one ≤ 40000) × (two ≤ 40000) ⌝ }
+    requires { ⌜ (one ≤ 40000) × (two ≤ 40000) × (row % 4 ≡ 3 → one % 8 < 4) ⌝ }
     ensures { λ r. ⌜ ((r ≡ 0 → ⊥) → Closes row one two r) ⌝ }
 {
     let item = one % 8;

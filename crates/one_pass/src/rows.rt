@@ -4,76 +4,95 @@ use rules::refusal::has_bad_output;
 use tree::forms;
 ghost use mathlib.Core.Path.{_≡_};
 ghost use mathlib.Core.Bool.{true, not, _&&_};
-ghost use Prim.Native.Nat.{ℕ, _≤_, _<_};
+ghost use Prim.Native.Nat.{ℕ, _<_};
 ghost use lib.Dec.{eqb};
 ghost use Rattle.tree.specs.Forms.{ExprClosure, TypeImplTrait, TypePath, TypeTraitObject};
 ghost use Rattle.tree.specs.Table.{formAt, detailAt};
 ghost use Rattle.one_pass.specs.Rows.{fitsBy, suits, RowAt};
 
-// Whether a kind fits a place with this code: 0 nothing, 1 and 2 required, 3 and 4 optional, 5 and 6 a list, each of
-// expressions and of types, 7 an item.
+// The kinds that fit a place, by its code: byte n of it has a bit for each kind that fits code n. The codes are 0 nothing,
+// 1 and 2 required, 3 and 4 optional, 5 and 6 a list, each of expressions and of types, 7 an item.
+const KINDS: u64 = 0x0611_0905_0304_0201;
+
+// Whether a kind fits a place with this code.
 pub fn fits(code: u16, kind: u16) -> bool
-    requires { ⌜ (code ≤ 16) × (kind < 8) ⌝ }
+    requires { ⌜ (code < 8) × (kind < 8) ⌝ }
     ensures { λ r. ⌜ (r ≡ true → fitsBy code kind ≡ true) ⌝ }
 {
-    match 8 * code + kind {
-        0 | 9 | 18 | 24 | 32 | 34 | 40 | 43 | 48 | 52 | 57 => true,
-        25 | 58 => true,
-        _ => false,
-    }
+    let bit = (8 * code + kind) as u64;
+    (KINDS >> bit) % 2 == 1
 }
+
+// The rows of the forms 0 to 56. 0 where there is none, or where it takes more than the form to say it.
+const ROWS: [u16; 57] = [
+    0, // no form
+    9, // Array
+    153, // Assign
+    9, // Async
+    25, // Await
+    27801, // Binary
+    1033, // Block
+    1081, // Break
+    665, // Call
+    281, // Cast
+    0, // Closure
+    9, // Const
+    9, // Continue
+    1049, // Field
+    1033, // ForLoop
+    25, // Group
+    9, // If
+    153, // Index
+    9, // Infer
+    25, // Let
+    9, // Lit
+    1033, // Loop
+    2057, // Macro
+    9, // Match
+    665, // MethodCall
+    25, // Paren
+    9, // Path
+    1465, // Range
+    1049, // RawAddr
+    1049, // Reference
+    9, // Repeat
+    57, // Return
+    9, // Struct
+    25, // Try
+    9, // TryBlock
+    9, // Tuple
+    2073, // Unary
+    9, // Unsafe
+    1025, // Verbatim
+    1033, // While
+    57, // Yield
+    2, // type Array
+    66, // type FnPtr
+    2, // type Group
+    0, // type ImplTrait
+    2, // type Infer
+    2050, // type Macro
+    2, // type Never
+    2, // type Paren
+    0, // type Path
+    1058, // type Ptr
+    1058, // type Reference
+    2, // type Slice
+    0, // type TraitObject
+    2, // type Tuple
+    1026, // type Verbatim
+    115, // a link
+];
 
 // The row of a form, whatever its detail; 0 where there is none.
 fn row_of(form: u16) -> u16
     ensures { λ r. ⌜ ((r ≡ 0 → ⊥) → (detail : ℕ) → (suits form detail r && not (eqb form ExprClosure)) ≡ true) ⌝ }
 {
-    match form {
-        forms::EXPR_ARRAY
-        | forms::EXPR_ASYNC
-        | forms::EXPR_CONST
-        | forms::EXPR_IF
-        | forms::EXPR_INFER
-        | forms::EXPR_LIT
-        | forms::EXPR_MATCH
-        | forms::EXPR_PATH
-        | forms::EXPR_REPEAT
-        | forms::EXPR_STRUCT
-        | forms::EXPR_TRY_BLOCK
-        | forms::EXPR_UNSAFE => 9,
-        forms::EXPR_CONTINUE | forms::EXPR_TUPLE => 9,
-        forms::EXPR_BLOCK | forms::EXPR_FOR_LOOP | forms::EXPR_LOOP | forms::EXPR_WHILE => 1033,
-        forms::EXPR_MACRO => 2057,
-        forms::EXPR_VERBATIM => 1025,
-        forms::EXPR_AWAIT
-        | forms::EXPR_GROUP
-        | forms::EXPR_LET
-        | forms::EXPR_PAREN
-        | forms::EXPR_TRY => 25,
-        forms::EXPR_FIELD | forms::EXPR_RAW_ADDR => 1049,
-        forms::EXPR_REFERENCE => 1049,
-        forms::EXPR_UNARY => 2073,
-        forms::EXPR_ASSIGN | forms::EXPR_INDEX => 153,
-        forms::EXPR_BINARY => 27801,
-        forms::EXPR_CAST => 281,
-        forms::EXPR_RETURN | forms::EXPR_YIELD => 57,
-        forms::EXPR_BREAK => 1081,
-        forms::EXPR_RANGE => 1465,
-        forms::EXPR_CALL | forms::EXPR_METHOD_CALL => 665,
-        forms::TYPE_ARRAY
-        | forms::TYPE_GROUP
-        | forms::TYPE_INFER
-        | forms::TYPE_NEVER
-        | forms::TYPE_SLICE
-        | forms::TYPE_TUPLE => 2,
-        forms::TYPE_PAREN => 2,
-        forms::TYPE_MACRO => 2050,
-        forms::TYPE_VERBATIM => 1026,
-        forms::TYPE_PTR => 1058,
-        forms::TYPE_REFERENCE => 1058,
-        forms::TYPE_FN_PTR => 66,
-        forms::LINK => 115,
-        _ => 0,
+    if form > 56 {
+        return 0;
     }
+    let at = form as usize;
+    ROWS[at]
 }
 
 // The row of a path type, by its detail; 0 for one without a segment.

@@ -3,7 +3,7 @@ use mathlib.Core.Path.{refl}
 use native.Mathlib.Omega.{arith}
 use borrow.Author.Tests.{not-false}
 use Rattle.one_pass.proofs.Fine.{cell-form, cell-other}
-use Rattle.one_pass.proofs.Codes.{marks-at}
+use Rattle.one_pass.proofs.Codes.{link-item, marks-at}
 use borrow.Author.Needs.{needs}
 use Rattle.one_pass.proofs.mark_at.Statement.{statement}
 use Rattle.one_pass.proofs.mark_at.Tie as tie
@@ -63,14 +63,18 @@ returns-4 : tie.Need-returns-4
 returns-4 c = λ h. absurd (h refl)
 
 mark-by-requires : tie.Need-mark-by-requires
-mark-by-requires c κs = search needs
+mark-by-requires c κs =
+    let s = c .before .before .before .before .before .before .before .before .before .before in
+    let a = s .args in
+    let p = s .pre in
+    (p .2, p .3, λ e. let q = link-item (a .table .now) (a .node) (a .one) _ (c .before .before .before .before .before .before .row-at .ensures (c .before .before .before .before .before .if1 .left)) (c .before .fits2 .ensures (not-false _ (c .if4 .left))) e .1 in omega arith)
 
 returns-5 : tie.Need-returns-5
 returns-5 c =
     let s = c .before .before .before .before .before .before .before .before .before .before .before in
     let a = s .args in
     let p = s .pre in
-    λ h. marks-at (a .table .now) (a .node) (a .one) (a .two) _ _ _ (cell-other (a .table .now) (a .node) 1 (p .0)) (cell-other (a .table .now) (a .node) 2 (p .0)) (c .before .before .before .before .before .before .before .row-at .ensures (c .before .before .before .before .before .before .if1 .left)) (c .before .before .before .before .if2 .left) (c .before .before .before .if3 .left) (c .before .before .fits2 .ensures (not-false _ (c .before .if4 .left))) _ (c .mark-by .ensures h)
+    λ h. marks-at (a .table .now) (a .node) (a .one) _ (c .before .before .before .before .before .before .before .row-at .ensures (c .before .before .before .before .before .before .if1 .left)) (c .before .before .fits2 .ensures (not-false _ (c .before .if4 .left))) (a .two) _ _ (cell-other (a .table .now) (a .node) 1 (p .0)) (cell-other (a .table .now) (a .node) 2 (p .0)) (c .before .before .before .before .if2 .left) (c .before .before .before .if3 .left) _ (c .mark-by .ensures h)
 
 pub mark-at-spec : {M : Type 1} → statement M
 mark-at-spec =

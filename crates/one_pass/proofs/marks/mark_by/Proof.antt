@@ -1,5 +1,6 @@
 -- `one_pass::marks::mark_by` meets its contract. Assumes nothing.
 use mathlib.Core.Path.{refl}
+use native.Mathlib.Omega.{arith}
 use Rattle.one_pass.proofs.Codes.{link-closes, plain-closes}
 use borrow.Author.Needs.{needs}
 use Rattle.one_pass.proofs.marks.mark_by.Statement.{statement}
@@ -12,7 +13,9 @@ add-fits : tie.Need-add-fits
 add-fits c = search needs
 
 fits-requires : tie.Need-fits-requires
-fits-requires c κs = search needs
+fits-requires c κs =
+    let q = c .before .before .pre .2 (c .if1 .taken) in
+    (omega arith, omega arith)
 
 add-result : tie.Need-add-result
 add-result c = search needs
