@@ -12,11 +12,11 @@ use Rattle.laws.specs.Choice.{pick, lookup, isOneOf}
 use Rattle.laws.specs.Each.{some}
 use Rattle.laws.proofs.Choice.{and-true, true-not-false, pick-false}
 use Rattle.laws.proofs.Each.{some-none}
-use Rattle.rules.specs.declared.place.Place.the-variants.{Nothing, Required, List as ListOf, Item, Next}
+use Rattle.places.specs.declared.place.Place.the-variants.{Nothing, Required, List as ListOf, Item, Next}
 use Rattle.tree.specs.Forms.{ExprAssign, ExprAwait, ExprBinary, ExprCall, ExprCast, ExprField, ExprIndex, ExprLit, ExprMethodCall, ExprParen, ExprPath, ExprReference, ExprTry, ExprUnary, TypeInfer, TypeNever, TypePath, TypePtr, TypeReference, Link, anExpression, aType, aLink, classOf, highestAttributes, details, highestDetail, allowed}
 use Rattle.tree.specs.Table.{formAt, attributesAt, detailAt, firstAt, secondAt, classAt}
 use Rattle.tree.specs.Trees.{Label, Tree, none, node, labelAt, treeAt}
-use Rattle.rules.specs.Places.{outputPlace, argumentsPlace, firstPlaces, firstPlace, secondPlaces, secondPlace}
+use Rattle.places.specs.Places.{outputPlace, argumentsPlace, firstPlaces, firstPlace, secondPlaces, secondPlace}
 use Rattle.rules.specs.Refusals.{Accepted}
 use Rattle.tree.proofs.Unfold.{tree-zero, unfolds}
 use Rattle.rules.proofs.Accepted.{Within, Fits, count-bounds, root-expression, numbers-allowed, first-fits, second-fits, first-operand, second-operand}

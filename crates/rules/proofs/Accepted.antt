@@ -13,13 +13,13 @@ use Rattle.laws.specs.Choice.{pick}
 use Rattle.laws.specs.Each.{some}
 use Rattle.laws.proofs.Choice.{pick-true, pick-false, true-not-false, and-true, or-false}
 use Rattle.laws.proofs.Each.{some-none}
-use Rattle.rules.specs.declared.place.Place.{Place}
-use Rattle.rules.specs.declared.place.Place.the-variants.{Nothing, Required, Optional, List as ListOf, Item, Next}
+use Rattle.places.specs.declared.place.Place.{Place}
+use Rattle.places.specs.declared.place.Place.the-variants.{Nothing, Required, Optional, List as ListOf, Item, Next}
 use Rattle.tree.specs.Forms.{ExprBlock, ExprClosure, anExpression, aType, aLink, allowed}
 use Rattle.tree.specs.Table.{cellAt, formAt, attributesAt, detailAt, firstAt, secondAt, classAt}
 use Rattle.tree.specs.Trees.{operandOf, operandAt, treeAt, levels}
-use Rattle.rules.specs.Places.{firstPlace, secondPlace, wrongClass, wrongList, wrongItem, wrongNext, isRequired, wrongPresent, wrongAt}
-use Rattle.rules.specs.Refusals.{refusal3, refusal4, refusal6, refusal7, refusal8, refusal9, refusal10, refusal11, badNumbers, badOperands, misplaced, badOrder, owners, badOwner, empty, plainBlock, badOutput, Refusal, refuse, firstOf, nodeRefusals, refusal, Accepted}
+use Rattle.places.specs.Places.{firstPlace, secondPlace, wrongClass, wrongList, wrongItem, wrongNext, isRequired, wrongPresent, wrongAt, badOperands}
+use Rattle.rules.specs.Refusals.{refusal3, refusal4, refusal6, refusal7, refusal8, refusal9, refusal10, refusal11, badNumbers, misplaced, badOrder, owners, badOwner, empty, plainBlock, badOutput, Refusal, refuse, firstOf, nodeRefusals, refusal, Accepted}
 use Rattle.rules.proofs.Count.{count-fits}
 use Rattle.rules.proofs.First.{passed}
 use Rattle.rules.proofs.Owned.{OwnedOnce, owned-once}

@@ -4,4 +4,3 @@ pub mod First
 pub mod Count
 pub mod Owned
 pub mod Accepted
-pub mod Fine

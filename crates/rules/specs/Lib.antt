@@ -1,4 +1,2 @@
-pub mod Places
 pub mod Refusals
 pub mod Passes
-pub mod Marks

@@ -12,7 +12,7 @@ use Rattle.rules.specs.declared.refusal.Rule.the-variants.{Numbers, Oper
 use Rattle.tree.specs.Forms.{ExprBlock, ExprClosure, TypeImplTrait, TypePath, TypeTraitObject, anExpression, allowed}
 use Rattle.tree.specs.Table.{formAt, attributesAt, detailAt, firstAt, secondAt, classAt}
 use Rattle.tree.specs.Trees.{treeAt, levels}
-use Rattle.rules.specs.Places.{firstPlace, secondPlace, wrongAt}
+use Rattle.places.specs.Places.{badOperands}
 
 -- 3. "The context is above 3."
 unfoldable pub refusal3 : ℕ → Bool
@@ -30,11 +30,6 @@ unfoldable pub refusal6 : List ℕ → ℕ → Bool
 refusal6 cells count = some (badNumbers cells) count
 
 -- 7. "An operand is absent where required, present where forbidden, or of the wrong class; or node 1 is no expression."
-unfoldable pub badOperands : List ℕ → ℕ → ℕ → Bool
-badOperands cells count i =
-    wrongAt cells count i (firstPlace (formAt cells i) (detailAt cells i)) (firstAt cells i)
-    || wrongAt cells count i (secondPlace (formAt cells i) (detailAt cells i)) (secondAt cells i)
-
 unfoldable pub refusal7 : List ℕ → ℕ → Bool
 refusal7 cells count = not (eqb (classAt cells 1) anExpression) || some (badOperands cells count) count
 

@@ -1,27 +1,21 @@
-// The refusals 3, 4 and 6 to 11 of a context, a count and a node table, each a pass over the nodes, in their order, and one pass that answers for most tables.
-use super::marks::TAKEN;
-use super::marks::mark_of;
-use super::marks::misfits;
-use super::marks::take;
-use super::place::first_place;
-use super::place::is_wrong;
-use super::place::second_place;
+// The refusals 3, 4 and 6 to 11 of a context, a count and a node table, each a pass over the nodes, in their order.
+use places::has_bad_operands;
 use tree::form::class_of;
 use tree::form::is_allowed;
 use tree::forms;
+use tree::level::larger;
+use tree::level::own_level;
 use tree::table::cell;
 use tree::table::operand_number;
 ghost use mathlib.Core.Path.{_≡_};
-ghost use mathlib.Core.Bool.{true, not, _&&_};
-ghost use Prim.Native.Nat.{ℕ, _*_, _≤_, _<_, max};
+ghost use mathlib.Core.Bool.{not, _&&_};
+ghost use Prim.Native.Nat.{_≤_, _<_};
 ghost use lib.Dec.{eqb};
 ghost use lib.ListN.{length, getD};
 ghost use Rattle.laws.specs.Each.{some};
-ghost use Rattle.tree.specs.Table.{formAt};
-ghost use Rattle.tree.specs.Trees.{treeAt, ownLevel, levels};
-ghost use Rattle.rules.specs.Refusals.{refusal4, badNumbers, badOperands, refusal7, misplaced, badOrder, badOwner, refusal8, empty, plainBlock, badOutput, refusal11, broken, firstOf, nodeRefusals, refusal};
+ghost use Rattle.tree.specs.Trees.{treeAt, levels};
+ghost use Rattle.rules.specs.Refusals.{refusal4, badNumbers, refusal7, misplaced, badOrder, badOwner, refusal8, empty, plainBlock, badOutput, refusal11, broken, firstOf, nodeRefusals, refusal};
 ghost use Rattle.rules.specs.Passes.{counted, Counted, Levelled};
-ghost use Rattle.rules.specs.Marks.{Marks};
 
 // 4: the count is 0 or above 4,096, or the table is shorter than that many nodes.
 pub fn is_bad_count(count: u16, cells: usize) -> bool
@@ -60,19 +54,6 @@ fn has_bad_numbers(table: &[u16], node: u16) -> bool
         cell(table, node, 1),
         cell(table, node, 2),
     )
-}
-
-fn has_bad_operands(table: &[u16], count: u16, node: u16) -> bool
-    ensures { λ r. ⌜ r ≡ badOperands (now (table .entry)) count node ⌝ }
-{
-    let form = cell(table, node, 0);
-    let detail = cell(table, node, 2);
-    let first = first_place(form, detail);
-    if is_wrong(table, count, node, first, cell(table, node, 3)) {
-        return true;
-    }
-    let second = second_place(form, detail);
-    is_wrong(table, count, node, second, cell(table, node, 4))
 }
 
 // A present operand whose number is not above its owner's, or is above the count.
@@ -119,7 +100,8 @@ fn is_plain_block(table: &[u16], node: u16) -> bool
     cell(table, node, 2) == 0
 }
 
-fn has_bad_output(table: &[u16], node: u16) -> bool
+// 10, of one node.
+pub fn has_bad_output(table: &[u16], node: u16) -> bool
     ensures { λ r. ⌜ r ≡ badOutput (now (table .entry)) node ⌝ }
 {
     if cell(table, node, 0) != forms::EXPR_CLOSURE {
@@ -234,23 +216,6 @@ fn has_wrong_owners(table: &[u16], count: u16) -> bool
 
 // ---- 11
 
-pub fn larger(a: u16, b: u16) -> u16
-    ensures { λ r. ⌜ r ≡ max a b ⌝ }
-{
-    if a < b { b } else { a }
-}
-
-// 1 for an expression or a type, 0 for a link.
-pub fn own_level(table: &[u16], node: u16) -> u16
-    ensures { λ r. ⌜ r ≡ ownLevel (formAt (now (table .entry)) node) ⌝ }
-{
-    if class_of(cell(table, node, 0)) == 3 {
-        0
-    } else {
-        1
-    }
-}
-
 // How many nodes the longest path from a node holds, from those of the nodes after it.
 fn levels_at(table: &[u16], count: u16, node: u16, below: &[u16]) -> u16
     requires { ⌜ (1 ≤ node) × (node ≤ count) × (count ≤ 4096) × Levelled (now table) count node (now below) ⌝ }
@@ -301,114 +266,6 @@ fn find_refusal(table: &[u16], count: u16) -> u16
     if is_too_deep(table, count) { 11 } else { 0 }
 }
 
-// ---- one pass for all of 6 to 11: nothing is refused in most tables
-
-// The mark of a node whose operands have these marks; 0 where a rule is broken.
-fn mark_at(table: &[u16], node: u16, one: u16, two: u16) -> u16
-    requires { ⌜ (1 ≤ node) × (5 * node ≤ length (now table)) × (one ≤ 40000) × (two ≤ 40000) ⌝ }
-    ensures { λ r. ⌜ ((r ≡ 0 → ⊥) → Marks (now (table .entry)) node one two r) ⌝ }
-{
-    let at = 5 * ((node - 1) as usize);
-    let form = table[at];
-    let attributes = table[at + 1];
-    let detail = table[at + 2];
-    if !is_allowed(form, attributes, detail) {
-        return 0;
-    }
-    let item = one % 8;
-    let first = first_place(form, detail);
-    if misfits(first, item, item) {
-        return 0;
-    }
-    let second = second_place(form, detail);
-    if misfits(second, item, two % 8) {
-        return 0;
-    }
-    if is_empty(table, node) {
-        return 0;
-    }
-    if has_bad_output(table, node) {
-        return 0;
-    }
-    mark_of(class_of(form), item, larger(one / 8, two / 8))
-}
-
-// Whether each node but 1 has been taken by an owner.
-fn all_taken(marks: &[u16], count: u16) -> bool
-    requires { ⌜ (count ≤ 4096) × (count < length (now marks)) ⌝ }
-    ensures { λ r. ⌜ (r ≡ true → (j : ℕ) → 2 ≤ j → j ≤ count → getD (now (marks .entry)) j 0 ≡ 0) ⌝ }
-{
-    let mut done: u16 = 1;
-    while done < count {
-        let at = (done + 1) as usize;
-        if marks[at] != 0 {
-            return false;
-        }
-        done += 1;
-    }
-    true
-}
-
-// Whether it is certain that none of 6 to 11 applies: from the last node to the first, as operands come after their owners.
-fn is_fine(table: &[u16], count: u16, marks: &mut [u16]) -> bool
-    requires { ⌜ (1 ≤ count) × (count ≤ 4096) × (5 * count ≤ length (now table)) × (count < length (now marks)) ⌝ }
-    ensures { λ r. ⌜ (r ≡ true → firstOf (nodeRefusals count (now (table .entry))) ≡ 0) ⌝ }
-{
-    let mut node = count;
-    while 0 < node {
-        let one = take(marks, count, node, cell(table, node, 3));
-        if one == TAKEN {
-            return false;
-        }
-        let two = take(marks, count, node, cell(table, node, 4));
-        if two == TAKEN {
-            return false;
-        }
-        let mark = mark_at(table, node, one, two);
-        if mark == 0 {
-            return false;
-        }
-        let at = node as usize;
-        marks[at] = mark;
-        node -= 1;
-    }
-    let root = marks[1];
-    if root % 8 != 1 {
-        return false;
-    }
-    if 128 < root / 8 {
-        return false;
-    }
-    all_taken(marks, count)
-}
-
-// The first of 6 to 11 that applies, or 0.
-fn check_nodes(table: &[u16], count: u16) -> u16
-    requires { ⌜ (1 ≤ count) × (count ≤ 4096) × (5 * count ≤ length (now table)) ⌝ }
-    ensures { λ r. ⌜ r ≡ firstOf (nodeRefusals count (now (table .entry))) ⌝ }
-{
-    if count < 64 {
-        return check_few(table, count);
-    }
-    let mut marks = [0u16; 4097];
-    if is_fine(table, count, &mut marks) {
-        return 0;
-    }
-    find_refusal(table, count)
-}
-
-// The same with an array that is quickly made.
-fn check_few(table: &[u16], count: u16) -> u16
-    requires { ⌜ (1 ≤ count) × (count < 64) × (5 * count ≤ length (now table)) ⌝ }
-    ensures { λ r. ⌜ r ≡ firstOf (nodeRefusals count (now (table .entry))) ⌝ }
-{
-    let mut marks = [0u16; 64];
-    if is_fine(table, count, &mut marks) {
-        return 0;
-    }
-    find_refusal(table, count)
-}
-
 // The number of the first refusal that applies to a context, a count and a table, or 0.
 pub fn check(context: u16, count: u16, table: &[u16]) -> u16
     ensures { λ r. ⌜ r ≡ refusal context count (now (table .entry)) ⌝ }
@@ -419,5 +276,5 @@ pub fn check(context: u16, count: u16, table: &[u16]) -> u16
     if is_bad_count(count, table.len()) {
         return 4;
     }
-    check_nodes(table, count)
+    find_refusal(table, count)
 }

@@ -3,8 +3,8 @@ mod codes; // codes.rt: the codes of the tokens
 mod plainness; // plainness.rt: whether a table is plain
 mod signs; // signs.rt: a node's own tokens
 
+use one_pass::check;
 use plainness::is_plain_table;
-use rules::refusal::check;
 use signs::Few;
 use signs::one_if;
 use signs::signs_at;

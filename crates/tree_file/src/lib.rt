@@ -97,7 +97,7 @@ fn load_nodes(file: &[u8], context: u16, count: u16, at: usize, table: &mut [u16
     if end < file.len() {
         return Loaded::Refused(5);
     }
-    let refused = rules::refusal::check(context, count, &own[..cells]);
+    let refused = one_pass::check(context, count, &own[..cells]);
     if refused != 0 {
         return Loaded::Refused(refused);
     }

@@ -4,8 +4,8 @@ use mathlib.Core.Bool.{true}
 use Rattle.laws.specs.Choice.{pick, lookup}
 use Rattle.laws.specs.Each.{some}
 use Rattle.tree.specs.Forms.{classOf, highestAttributes, details, highestDetail, allowed}
-use Rattle.rules.specs.Places.{outputPlace, argumentsPlace, firstPlaces, firstPlace, secondPlaces, secondPlace, wrongClass, wrongList, wrongItem, wrongNext, isRequired, wrongPresent, wrongAt}
-use Rattle.rules.specs.Refusals.{refusal3, refusal4, badNumbers, refusal6, badOperands, refusal7, misplaced, badOrder, owners, badOwner, refusal8, empty, refusal9, plainBlock, badOutput, refusal10, refusal11, firstOf, nodeRefusals, refusal}
+use Rattle.places.specs.Places.{outputPlace, argumentsPlace, firstPlaces, firstPlace, secondPlaces, secondPlace, wrongClass, wrongList, wrongItem, wrongNext, isRequired, wrongPresent, wrongAt, badOperands}
+use Rattle.rules.specs.Refusals.{refusal3, refusal4, badNumbers, refusal6, refusal7, misplaced, badOrder, owners, badOwner, refusal8, empty, refusal9, plainBlock, badOutput, refusal10, refusal11, firstOf, nodeRefusals, refusal}
 use Rattle.tree.specs.Shapes.{presence}
 use Rattle.tree.specs.Table.{cellAt}
 use Rattle.tree.specs.Trees.{labelAt, operandOf, treeTo, treeAt, ownLevel, levels}

@@ -19,13 +19,13 @@ returns-2 : tie.Need-returns-2
 unfolding refusal refusal3
 returns-2 c = sym (skip _ _ (le-ltb _ _ (c .before .before .if1 .left)) ∙ stop _ _ (sym (c .before .is-bad-count .ensures) ∙ c .if2 .taken))
 
-check-nodes-requires : tie.Need-check-nodes-requires
-check-nodes-requires c κs = count-fits _ _ (sym (c .before .is-bad-count .ensures) ∙ c .if2 .left)
+find-refusal-requires : tie.Need-find-refusal-requires
+find-refusal-requires c κs = count-fits _ _ (sym (c .before .is-bad-count .ensures) ∙ c .if2 .left) .1
 
 returns-3 : tie.Need-returns-3
 unfolding refusal refusal3
-returns-3 c = c .check-nodes .ensures ∙ sym (skip _ _ (le-ltb _ _ (c .before .before .before .if1 .left)) ∙ skip _ _ (sym (c .before .before .is-bad-count .ensures) ∙ c .before .if2 .left))
+returns-3 c = c .find-refusal .ensures ∙ sym (skip _ _ (le-ltb _ _ (c .before .before .before .if1 .left)) ∙ skip _ _ (sym (c .before .before .is-bad-count .ensures) ∙ c .before .if2 .left))
 
 pub check-spec : {M : Type 1} → statement M
 check-spec =
-    tie.close (tie.spec returns is-bad-count-requires returns-2 check-nodes-requires returns-3)
+    tie.close (tie.spec returns is-bad-count-requires returns-2 find-refusal-requires returns-3)

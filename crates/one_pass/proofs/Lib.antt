@@ -1,0 +1,3 @@
+pub mod Arms
+pub mod Codes
+pub mod Fine

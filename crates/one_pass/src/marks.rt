@@ -1,0 +1,54 @@
+// Marks: what the pass over all nodes knows of a node when it comes to the node's owner. A mark is a kind and eight times
+// the levels below; a kind is 1 for an expression, 2 for a type, 3 or 4 for a link whose item is an expression or a type.
+use super::rows::fits;
+use tree::level::larger;
+ghost use mathlib.Core.Path.{_≡_};
+ghost use Prim.Native.Nat.{_%_, _≤_, _<_};
+ghost use lib.ListN.{length};
+ghost use Rattle.one_pass.specs.Marks.{Took, Closes};
+
+// In place of the mark of an operand that is misplaced, or that another owner has taken.
+pub const TAKEN: u16 = 7;
+
+// The mark of a node with this row whose operands have these marks; 0 where the second does not fit.
+pub fn mark_by(row: u16, one: u16, two: u16) -> u16
+    requires { ⌜ (one ≤ 40000) × (two ≤ 40000) × (row % 4 ≡ 3 → one % 8 < 4) ⌝ }
+    ensures { λ r. ⌜ ((r ≡ 0 → ⊥) → Closes row one two r) ⌝ }
+{
+    let item = one % 8;
+    let kind = two % 8;
+    let levels = larger(one, two) / 8;
+    if row % 4 == 3 {
+        if fits(item + 4, kind) {
+            return item + 2 + 8 * levels;
+        }
+        return 0;
+    }
+    if fits(row / 128 % 8, kind) {
+        return row % 4 + 8 * (levels + 1);
+    }
+    0
+}
+
+// The mark of an operand, which is 0 from then on; 0 for an operand that is absent.
+pub fn take(marks: &mut [u16], count: u16, node: u16, operand: u16) -> u16
+    requires { ⌜ count < length (now marks) ⌝ }
+    ensures { λ r. ⌜ Took count node operand (now (marks .entry)) r (now (marks .exit)) ⌝ }
+{
+    if operand == 0 {
+        return 0;
+    }
+    if operand <= node {
+        return TAKEN;
+    }
+    if count < operand {
+        return TAKEN;
+    }
+    let at = operand as usize;
+    let mark = marks[at];
+    if mark == 0 {
+        return TAKEN;
+    }
+    marks[at] = 0;
+    mark
+}

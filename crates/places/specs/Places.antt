@@ -1,0 +1,117 @@
+-- Document 01, 'Operands': what may stand at the two operand places of a node, and when an operand does not fit its place (7).
+use mathlib.Core.Bool.{Bool, true, false, not, _&&_, _||_}
+use mathlib.Core.List.{List, [], _∷_}
+use Prim.Native.Nat.{ℕ}
+use lib.Dec.{eqb, leb}
+use Rattle.laws.specs.Choice.{pick, Row, row, lookup}
+use Rattle.places.specs.declared.place.Place.{Place}
+use Rattle.places.specs.declared.place.Place.the-variants.{Nothing, Required, Optional, List as ListOf, Item, Next}
+use Rattle.tree.specs.Forms.{ExprAssign, ExprAwait, ExprBinary, ExprBreak, ExprCall, ExprCast, ExprClosure, ExprField, ExprGroup, ExprIndex, ExprLet, ExprMethodCall, ExprParen, ExprRange, ExprRawAddr, ExprReference, ExprReturn, ExprTry, ExprUnary, ExprYield, TypeFnPtr, TypeImplTrait, TypePath, TypePtr, TypeReference, TypeTraitObject, Link, anExpression, aType, aLink}
+use Rattle.tree.specs.Table.{formAt, detailAt, firstAt, secondAt, classAt}
+
+-- "Types Path, ImplTrait and TraitObject with 3: optional first, the output type."
+unfoldable pub outputPlace : ℕ → Place
+outputPlace detail = pick (eqb detail 3) (Optional aType) Nothing
+
+-- "Path type with 2: second a type list or 0."
+unfoldable pub argumentsPlace : ℕ → Place
+argumentsPlace detail = pick (eqb detail 2) (ListOf aType) Nothing
+
+-- the first place, by form; "All others: none."
+unfoldable pub firstPlaces : ℕ → List (Row Place)
+firstPlaces detail =
+    -- "Assign, Binary, Index: both."
+    row (ExprAssign ∷ ExprBinary ∷ ExprIndex ∷ []) (Required anExpression) ∷
+    -- "Cast: expression, type."
+    row (ExprCast ∷ []) (Required anExpression) ∷
+    -- "Await, Closure (body), Field, Group, Let, Paren, RawAddr, Reference, Try, Unary: first only"
+    row
+    (ExprAwait ∷ ExprClosure ∷ ExprField ∷ ExprGroup ∷ ExprLet ∷ ExprParen ∷ ExprRawAddr ∷ ExprTry ∷ ExprUnary ∷ [])
+    (Required anExpression) ∷
+    row (ExprReference ∷ []) (Required anExpression) ∷
+    -- "also types Ptr and Reference"
+    row (TypePtr ∷ []) (Required aType) ∷
+    row (TypeReference ∷ []) (Required aType) ∷
+    -- "Break, Return, Yield, and FnPtr (output): optional first."
+    row (ExprBreak ∷ ExprReturn ∷ ExprYield ∷ []) (Optional anExpression) ∷
+    row (TypeFnPtr ∷ []) (Optional aType) ∷
+    -- "Range: each optional."
+    row (ExprRange ∷ []) (Optional anExpression) ∷
+    -- "Call, MethodCall: first"
+    row (ExprCall ∷ ExprMethodCall ∷ []) (Required anExpression) ∷
+    row (TypeImplTrait ∷ TypePath ∷ TypeTraitObject ∷ []) (outputPlace detail) ∷
+    -- "56 is a list link: first an item"
+    row (Link ∷ []) Item ∷
+    []
+
+unfoldable pub firstPlace : ℕ → ℕ → Place
+firstPlace form detail = lookup (firstPlaces detail) Nothing form
+
+-- the second place, by form; "All others: none."
+unfoldable pub secondPlaces : ℕ → List (Row Place)
+secondPlaces detail =
+    -- "Assign, Binary, Index: both."
+    row (ExprAssign ∷ ExprBinary ∷ ExprIndex ∷ []) (Required anExpression) ∷
+    -- "Cast: expression, type."
+    row (ExprCast ∷ []) (Required aType) ∷
+    -- "Range: each optional."
+    row (ExprRange ∷ []) (Optional anExpression) ∷
+    -- "Call, MethodCall: first, and second an expression list or 0."
+    row (ExprCall ∷ ExprMethodCall ∷ []) (ListOf anExpression) ∷
+    row (TypePath ∷ []) (argumentsPlace detail) ∷
+    -- "second the next link or 0"
+    row (Link ∷ []) Next ∷
+    []
+
+unfoldable pub secondPlace : ℕ → ℕ → Place
+secondPlace form detail = lookup (secondPlaces detail) Nothing form
+
+-- ---- when an operand does not fit
+
+-- o is a node of another class. "An operand above the count has no class"
+unfoldable pub wrongClass : List ℕ → ℕ → ℕ → ℕ → Bool
+wrongClass cells count class o = leb o count && not (eqb (classAt cells o) class)
+
+-- o is no link, or its item is of another class. "In a list the first link's item must be of the list's class"
+unfoldable pub wrongList : List ℕ → ℕ → ℕ → ℕ → Bool
+wrongList cells count class o = leb o count && (not (eqb (classAt cells o) aLink) || wrongClass cells count class (firstAt cells o))
+
+-- an item is an expression or a type
+unfoldable pub wrongItem : List ℕ → ℕ → ℕ → Bool
+wrongItem cells count o = wrongClass cells count anExpression o && wrongClass cells count aType o
+
+-- "and each next link's item of the class of the item before it"; an item above the count has no class to compare with
+unfoldable pub wrongNext : List ℕ → ℕ → ℕ → ℕ → Bool
+wrongNext cells count i o =
+    pick
+    (leb (firstAt cells i) count)
+    (wrongList cells count (classAt cells (firstAt cells i)) o)
+    (wrongClass cells count aLink o)
+
+-- the places that must have an operand
+unfoldable pub isRequired : Place → Bool
+isRequired Nothing = false
+isRequired (Required class) = true
+isRequired (Optional class) = false
+isRequired (ListOf class) = false
+isRequired Item = true
+isRequired Next = false
+
+-- an operand that is present at a place of node i: "present where forbidden, or of the wrong class"
+unfoldable pub wrongPresent : List ℕ → ℕ → ℕ → Place → ℕ → Bool
+wrongPresent cells count i Nothing o = true
+wrongPresent cells count i (Required class) o = wrongClass cells count class o
+wrongPresent cells count i (Optional class) o = wrongClass cells count class o
+wrongPresent cells count i (ListOf class) o = wrongList cells count class o
+wrongPresent cells count i Item o = wrongItem cells count o
+wrongPresent cells count i Next o = wrongNext cells count i o
+
+-- the number o at a place of node i: "An operand is absent where required, present where forbidden, or of the wrong class"
+unfoldable pub wrongAt : List ℕ → ℕ → ℕ → Place → ℕ → Bool
+wrongAt cells count i place o = pick (eqb o 0) (isRequired place) (wrongPresent cells count i place o)
+
+-- 7, of node i. "An operand is absent where required, present where forbidden, or of the wrong class"
+unfoldable pub badOperands : List ℕ → ℕ → ℕ → Bool
+badOperands cells count i =
+    wrongAt cells count i (firstPlace (formAt cells i) (detailAt cells i)) (firstAt cells i)
+    || wrongAt cells count i (secondPlace (formAt cells i) (detailAt cells i)) (secondAt cells i)
