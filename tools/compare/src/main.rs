@@ -177,9 +177,7 @@ const USAGE: &str = "usage:
   compare nests            rows of nests of 128 levels, with the crate's scans kept";
 
 fn main() -> ExitCode {
-    let arguments: Vec<String> = std::env::args().skip(1).collect();
-    let arguments: Vec<&str> = arguments.iter().map(String::as_str).collect();
-    let different = match arguments[..] {
+    oracle::command::run(USAGE, |words| match *words {
         [] => Some(compare_all(1)),
         ["spines"] => Some((1..=spines::LONGEST).map(spines::compare).sum()),
         ["spines", forms] => {
@@ -189,17 +187,7 @@ fn main() -> ExitCode {
         ["nests"] => Some(nests::compare()),
         [seed] => seed.parse().ok().map(compare_all),
         _ => None,
-    };
-    match different {
-        None => {
-            eprintln!("{USAGE}");
-            ExitCode::FAILURE
-        }
-        Some(different) => {
-            println!("different {different}");
-            ExitCode::from(u8::from(different > 0))
-        }
-    }
+    })
 }
 
 /// All questions and rows, on the trees of a seed and on all small ones.

@@ -7,6 +7,7 @@
 //!   for each expression, recorded while the crate's `Printer::expr` prints.
 //! - [`direct`] asks single functions, the private ones of fixup.rs included.
 //! - [`generate`] makes accepted trees.
+//! - [`command`] ends a command that compares.
 //!
 //! `stand_in` and the path crates `syn` and `proc_macro2` stand in for what the
 //! four files lean on; `build.rs` takes the files and puts five recording lines
@@ -14,6 +15,7 @@
 
 pub mod accept;
 mod answers;
+pub mod command;
 pub mod digest;
 pub mod direct;
 pub mod forms;

@@ -30,21 +30,9 @@ OURS: absent, programs (target/bin/tokens and target/bin/reading), or with the f
       library (the static library of answers)";
 
 fn main() -> ExitCode {
-    let arguments: Vec<String> = std::env::args().skip(1).collect();
-    let arguments: Vec<&str> = arguments.iter().map(String::as_str).collect();
-    match run(&arguments) {
-        None => {
-            eprintln!("{USAGE}");
-            ExitCode::FAILURE
-        }
-        Some(different) => {
-            println!("different {different}");
-            ExitCode::from(u8::from(different > 0))
-        }
-    }
+    oracle::command::run(USAGE, run)
 }
 
-/// How many differences a command finds; none if there is no such command.
 fn run(arguments: &[&str]) -> Option<u64> {
     let number = |text: &&str| text.parse::<u64>().ok();
     match arguments {

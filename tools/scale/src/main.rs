@@ -15,30 +15,18 @@ const USAGE: &str = "usage:
   scale record                writes crates/recorded/data/rows";
 
 fn main() -> ExitCode {
-    let arguments: Vec<String> = std::env::args().skip(1).collect();
-    let arguments: Vec<&str> = arguments.iter().map(String::as_str).collect();
     let number = |text: &str| text.parse::<u64>().ok().filter(|&number| number > 0);
-    if arguments == ["record"] {
-        record::record();
-        return ExitCode::SUCCESS;
-    }
-    let different = match arguments[..] {
+    oracle::command::run(USAGE, |words| match *words {
         ["parens", files] => number(files).map(|files| parens::compare(files, 1)),
         ["parens", files, seed] => {
             number(files).zip(number(seed)).map(|(n, s)| parens::compare(n, s))
         }
         ["nests"] => Some(parens::compare_nests(1)),
         ["nests", step] => number(step).map(parens::compare_nests),
+        ["record"] => {
+            record::record();
+            Some(0)
+        }
         _ => None,
-    };
-    match different {
-        None => {
-            eprintln!("{USAGE}");
-            ExitCode::FAILURE
-        }
-        Some(different) => {
-            println!("different {different}");
-            ExitCode::from(u8::from(different > 0))
-        }
-    }
+    })
 }
