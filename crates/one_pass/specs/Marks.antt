@@ -56,9 +56,13 @@ pub data Took (count n o : ℕ) (xs : List ℕ) : ℕ → List ℕ → Type 0 wh
   taken : n < o → o ≤ count → (getD xs o 0 ≡ 0 → ⊥) → Took count n o xs (getD xs o 0) (set xs o 0)
   refused : Took count n o xs 7 xs
 
--- the second operand fits where the row says, and this is the node's mark
+-- the numbers are allowed by the row, and the first operand fits where the row says
+abbrev pub Opens : ℕ → ℕ → ℕ → ℕ → Type 0
+Opens row attributes detail one = (attributes ≤ row / 4 % 4) × (detail ≤ row / 1024) × (fitsBy (row / 16 % 8) (one % 8) ≡ true)
+
+-- there is a row, the second operand fits where it says, and this is the node's mark
 abbrev pub Closes : ℕ → ℕ → ℕ → ℕ → Type 0
-Closes row one two mark = (fitsBy (codeBy row (one % 8)) (two % 8) ≡ true) × (mark ≡ markBy (row % 4) (one % 8) (max (one / 8) (two / 8)))
+Closes row one two mark = (row % 4 ≡ 0 → ⊥) × (fitsBy (codeBy row one) (two % 8) ≡ true) × (mark ≡ markBy (row % 4) (one % 8) (max (one / 8) (two / 8)))
 
 -- node i with operands of these marks breaks no rule that looks at one node, and has this mark itself
 pub record Marks (cells : List ℕ) (i one two mark : ℕ) : Type 0 where

@@ -3,10 +3,10 @@ mod marks; // marks.rt: what the pass knows of a node
 mod rows; // rows.rt: what the pass knows of a form
 
 use marks::TAKEN;
-use marks::mark_by;
+use marks::mark_with;
 use marks::take;
-use rows::fits;
-use rows::row_at;
+use rows::rare_row;
+use rows::row_of;
 use rules::refusal::is_bad_count;
 ghost use mathlib.Core.Path.{_≡_};
 ghost use mathlib.Core.Bool.{true};
@@ -21,21 +21,20 @@ fn mark_at(table: &[u16], node: u16, one: u16, two: u16) -> u16
     ensures { λ r. ⌜ ((r ≡ 0 → ⊥) → Marks (now (table .entry)) node one two r) ⌝ }
 {
     let at = 5 * ((node - 1) as usize);
+    let form = table[at];
+    let attributes = table[at + 1];
     let detail = table[at + 2];
-    let row = row_at(table, node, table[at], detail);
-    if row == 0 {
-        return 0;
+    let mark = mark_with(row_of(form), attributes, detail, one, two);
+    if mark != 0 {
+        return mark;
     }
-    if row / 4 % 4 < table[at + 1] {
-        return 0;
-    }
-    if row / 1024 < detail {
-        return 0;
-    }
-    if !fits(row / 16 % 8, one % 8) {
-        return 0;
-    }
-    mark_by(row, one, two)
+    mark_with(
+        rare_row(table, node, form, detail),
+        attributes,
+        detail,
+        one,
+        two,
+    )
 }
 
 // Whether each node but 1 has been taken by an owner.
