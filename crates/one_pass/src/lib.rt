@@ -10,7 +10,7 @@ use rows::row_of;
 use rules::refusal::is_bad_count;
 ghost use mathlib.Core.Path.{_≡_};
 ghost use mathlib.Core.Bool.{true};
-ghost use Prim.Native.Nat.{ℕ, _*_, _≤_, _<_};
+ghost use Prim.Native.Nat.{ℕ, _+_, _*_, _≤_, _<_};
 ghost use lib.ListN.{length, getD};
 ghost use Rattle.rules.specs.Refusals.{firstOf, nodeRefusals, refusal};
 ghost use Rattle.one_pass.specs.Marks.{Marks};
@@ -37,12 +37,35 @@ fn mark_at(table: &[u16], node: u16, one: u16, two: u16) -> u16
     )
 }
 
+// Whether four nodes from a number on have been taken by their owners.
+fn four_taken(marks: &[u16], at: usize) -> bool
+    requires { ⌜ at + 3 < length (now marks) ⌝ }
+    ensures { λ r. ⌜ (r ≡ true → (j : ℕ) → at ≤ j → j < at + 4 → getD (now (marks .entry)) j 0 ≡ 0) ⌝ }
+{
+    if marks[at] != 0 {
+        return false;
+    }
+    if marks[at + 1] != 0 {
+        return false;
+    }
+    if marks[at + 2] != 0 {
+        return false;
+    }
+    marks[at + 3] == 0
+}
+
 // Whether each node but 1 has been taken by an owner.
 fn all_taken(marks: &[u16], count: u16) -> bool
     requires { ⌜ (count ≤ 4096) × (count < length (now marks)) ⌝ }
     ensures { λ r. ⌜ (r ≡ true → (j : ℕ) → 2 ≤ j → j ≤ count → getD (now (marks .entry)) j 0 ≡ 0) ⌝ }
 {
     let mut done: u16 = 1;
+    while done + 3 < count {
+        if !four_taken(marks, (done + 1) as usize) {
+            return false;
+        }
+        done += 4;
+    }
     while done < count {
         let at = (done + 1) as usize;
         if marks[at] != 0 {
