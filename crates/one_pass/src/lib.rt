@@ -78,17 +78,17 @@ fn all_taken(marks: &[u16], count: u16) -> bool
 
 // Whether it is certain that none of 6 to 11 applies: from the last node to the first, as operands come after their owners.
 fn is_fine(table: &[u16], count: u16, marks: &mut [u16]) -> bool
-    requires { ⌜ (1 ≤ count) × (count ≤ 4096) × (5 * count ≤ length (now table)) × (count < length (now marks)) ⌝ }
+    requires { ⌜ (1 ≤ count) × (count ≤ 4096) × (5 * count ≤ length (now table)) × (count < length (now marks)) × ((j : ℕ) → getD (now marks) j 0 ≡ 0) ⌝ }
     ensures { λ r. ⌜ (r ≡ true → firstOf (nodeRefusals count (now (table .entry))) ≡ 0) ⌝ }
 {
     let mut node = count;
     while 0 < node {
         let cells = 5 * ((node - 1) as usize);
-        let one = take(marks, count, node, table[cells + 3]);
+        let one = take(marks, count, table[cells + 3]);
         if one == TAKEN {
             return false;
         }
-        let two = take(marks, count, node, table[cells + 4]);
+        let two = take(marks, count, table[cells + 4]);
         if two == TAKEN {
             return false;
         }
@@ -110,7 +110,7 @@ fn is_fine(table: &[u16], count: u16, marks: &mut [u16]) -> bool
     all_taken(marks, count)
 }
 
-// The same with an array that is quickly made.
+// The same for fewer than 64 nodes, with an array that is quickly made.
 fn is_small_fine(table: &[u16], count: u16) -> bool
     requires { ⌜ (1 ≤ count) × (count < 64) × (5 * count ≤ length (now table)) ⌝ }
     ensures { λ r. ⌜ (r ≡ true → firstOf (nodeRefusals count (now (table .entry))) ≡ 0) ⌝ }
@@ -119,6 +119,7 @@ fn is_small_fine(table: &[u16], count: u16) -> bool
     is_fine(table, count, &mut marks)
 }
 
+// The same for up to 4,096 nodes.
 fn is_large_fine(table: &[u16], count: u16) -> bool
     requires { ⌜ (1 ≤ count) × (count ≤ 4096) × (5 * count ≤ length (now table)) ⌝ }
     ensures { λ r. ⌜ (r ≡ true → firstOf (nodeRefusals count (now (table .entry))) ≡ 0) ⌝ }

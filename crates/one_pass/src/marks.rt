@@ -6,7 +6,7 @@ ghost use mathlib.Core.Path.{_≡_};
 ghost use mathlib.Core.Bool.{true};
 ghost use Prim.Native.Nat.{_≤_, _<_};
 ghost use lib.ListN.{length};
-ghost use Rattle.one_pass.specs.Marks.{Took, Opens, Closes};
+ghost use Rattle.one_pass.specs.Marks.{Takes, Opens, Closes};
 
 // In place of the mark of an operand that is misplaced, or that another owner has taken.
 pub const TAKEN: u16 = 7;
@@ -57,16 +57,13 @@ pub fn mark_with(row: u16, attributes: u16, detail: u16, one: u16, two: u16) -> 
     0
 }
 
-// The mark of an operand, which is 0 from then on; 0 for an operand that is absent.
-pub fn take(marks: &mut [u16], count: u16, node: u16, operand: u16) -> u16
+// The mark of an operand, which is 0 from then on; 0 for an operand that is absent. Nodes that have not been looked at have 0.
+pub fn take(marks: &mut [u16], count: u16, operand: u16) -> u16
     requires { ⌜ count < length (now marks) ⌝ }
-    ensures { λ r. ⌜ Took count node operand (now (marks .entry)) r (now (marks .exit)) ⌝ }
+    ensures { λ r. ⌜ Takes count operand (now (marks .entry)) r (now (marks .exit)) ⌝ }
 {
     if operand == 0 {
         return 0;
-    }
-    if operand <= node {
-        return TAKEN;
     }
     if count < operand {
         return TAKEN;

@@ -1,5 +1,6 @@
 // What the one pass knows of a form: its row. A row is a class, 4 times the highest attributes, 16 and 128 times the codes of
-// the first and the second place, and 1,024 times the highest detail. The codes are those of `fits`.
+// the first and the second place, and 1,024 times the highest detail. 27,801, of binaries, is an expression (1) with
+// attributes up to 2 (8), an expression at each place (16 and 128) and a detail up to 27 (27,648).
 use rules::refusal::has_bad_output;
 use tree::forms;
 ghost use mathlib.Core.Path.{_≡_};
