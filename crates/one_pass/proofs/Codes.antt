@@ -7,7 +7,7 @@ use Prim.Native.Nat.{ℕ, _+_, _*_, _/_, _%_, _^_, _≤_, _<_, max}
 use native.Mathlib.Omega.{arith}
 use native.Mathlib.Decide.{decLe, ℕ-discrete}
 use lib.Dec.{eqb, leb}
-use borrow.Author.Tests.{eqb-true, eqb-false, eq-eqb, ne-eqb, leb-true, le-leb, lt-leb, not-false, not-true}
+use borrow.Author.Tests.{eqb-true, eqb-false, eq-eqb, ne-eqb, leb-true, le-leb, lt-leb, not-true}
 use Rattle.laws.specs.Choice.{pick, lookup, isOneOf}
 use Rattle.laws.proofs.Choice.{and-true, true-of}
 use Rattle.laws.proofs.Each.{all-at}
@@ -18,7 +18,7 @@ use Rattle.tree.specs.Table.{formAt, attributesAt, detailAt}
 use Rattle.places.specs.Places.{firstPlaces, firstPlace, secondPlaces, secondPlace}
 use Rattle.rules.specs.Refusals.{badNumbers, empty, badOutput}
 use Rattle.one_pass.specs.Rows.{codeIs, fitsBy, codeBy, suits, RowAt}
-use Rattle.one_pass.specs.Marks.{Fits, markBy, Closes, Marks}
+use Rattle.one_pass.specs.Marks.{Fits, markBy, Opens, Closes, Marks}
 
 -- the number that `fits` looks at holds the code and the kind
 fits-at : (code kind : ℕ) → kind < 8 → fitsBy ((8 * code + kind) / 8) ((8 * code + kind) % 8) ≡ true → fitsBy code kind ≡ true
@@ -114,13 +114,13 @@ module _ (code kind : ℕ) (h : fitsBy code kind ≡ true) where
 -- ---- the second operand, and the mark
 
 module _ (row one two most : ℕ) (is : most ≡ max one two) where
-  pub link-closes : row % 4 ≡ 3 → fitsBy (one % 8 + 4) (two % 8) ≡ true → Closes row one two (one % 8 + 2 + 8 * (most / 8))
+  pub link-closes : row % 4 ≡ 3 → fitsBy (one % 4 + 4) (two % 8) ≡ true → Closes row one two (one % 8 + 2 + 8 * (most / 8))
   unfolding codeBy markBy pick
-  link-closes e f = (rw (eq-eqb (row % 4) 3 e) f, rw (eq-eqb (row % 4) 3 e, is) (omega arith))
+  link-closes e f = (λ z. omega arith, rw (eq-eqb (row % 4) 3 e) f, rw (eq-eqb (row % 4) 3 e, is) (omega arith))
 
-  pub plain-closes : (row % 4 ≡ 3 → ⊥) → fitsBy (row / 128 % 8) (two % 8) ≡ true → Closes row one two (row % 4 + 8 * (most / 8 + 1))
+  pub plain-closes : (row % 4 ≡ 3 → ⊥) → (row % 4 ≡ 0 → ⊥) → fitsBy (row / 128 % 8) (two % 8) ≡ true → Closes row one two (row % 4 + 8 * (most / 8 + 1))
   unfolding codeBy markBy pick
-  plain-closes e f = (rw (ne-eqb (row % 4) 3 e) f, rw (ne-eqb (row % 4) 3 e, is) (omega arith))
+  plain-closes e n f = (n, rw (ne-eqb (row % 4) 3 e) f, rw (ne-eqb (row % 4) 3 e, is) (omega arith))
 
 -- ---- rows
 
@@ -157,43 +157,43 @@ pub row-by : (cells : List ℕ) (i form detail row : ℕ) → form ≡ formAt ce
 unfolding badOutput
 row-by cells i form detail row ef ed s n = (rw (← ef, ← ed) s, rw (← ef, n))
 
+-- no row is 0
+pub some-row : (row : ℕ) → (row % 4 ≡ 0 → ⊥) → row ≡ 0 → ⊥
+some-row row n e = n (omega arith)
+
 -- what `mark_at` has found
-module _ (cells : List ℕ) (i one row : ℕ) (at : RowAt cells i row) (fit : fitsBy (row / 16 % 8) (one % 8) ≡ true) where
+module _ (cells : List ℕ) (i one row attributes detail : ℕ) (ea : attributes ≡ attributesAt cells i) (ed : detail ≡ detailAt cells i) (at : RowAt cells i row)
+    (opens : Opens row attributes detail one) where
   own : Says (formAt cells i) (detailAt cells i) row
   own = says (formAt cells i) (detailAt cells i) row (at .0)
 
-  numbers : attributesAt cells i ≤ row / 4 % 4 → detailAt cells i ≤ row / 1024 → badNumbers cells i ≡ false
+  numbers : badNumbers cells i ≡ false
   unfolding badNumbers allowed
-  numbers a d = rw (← own .class, ← own .attributes, ← own .details, ne-eqb _ _ (own .some), le-leb _ _ a, le-leb _ _ d)
+  numbers = rw (← own .class, ← own .attributes, ← own .details, ne-eqb _ _ (own .some), ← ea, ← ed, le-leb _ _ (opens .0), le-leb _ _ (opens .1))
 
   first : Fits (firstPlace (formAt cells i) (detailAt cells i)) (one % 8) (one % 8)
-  first = fits-place (row / 16 % 8) (one % 8) fit (firstPlace (formAt cells i) (detailAt cells i)) (one % 8) (own .first)
+  first = fits-place (row / 16 % 8) (one % 8) (opens .2) (firstPlace (formAt cells i) (detailAt cells i)) (one % 8) (own .first)
 
-  -- a link's item
-  pub link-item : row % 4 ≡ 3 → (1 ≤ one % 8) × (one % 8 ≤ 2)
-  unfolding firstPlace firstPlaces lookup pick Fits
-  link-item e = rw (link-form (formAt cells i) (sym (own .class) ∙ e)) at first
-
-  second : (two : ℕ) → fitsBy (codeBy row (one % 8)) (two % 8) ≡ true → Fits (secondPlace (formAt cells i) (detailAt cells i)) (one % 8) (two % 8)
-  unfolding codeBy pick secondPlace secondPlaces lookup Fits
+  second : (two : ℕ) → fitsBy (codeBy row one) (two % 8) ≡ true → Fits (secondPlace (formAt cells i) (detailAt cells i)) (one % 8) (two % 8)
+  unfolding codeBy pick firstPlace firstPlaces secondPlace secondPlaces lookup Fits
   second two h = go (ℕ-discrete (row % 4) 3)
     where
       go : Dec (row % 4 ≡ 3) → Fits (secondPlace (formAt cells i) (detailAt cells i)) (one % 8) (two % 8)
       go (yes e) =
           let form = link-form (formAt cells i) (sym (own .class) ∙ e) in
-          let low = link-item e .0 in
-          let high = link-item e .1 in
-          rw form (⊎-elim (λ z. inl z) (λ z. inr (high, (omega arith, omega arith))) (by-choice (one % 8 + 4) (two % 8) (rw (eq-eqb (row % 4) 3 e) at h) (omega arith) (omega arith)))
+          let item : (1 ≤ one % 8) × (one % 8 ≤ 2) = rw form at first in
+          let low = item .0 in
+          let high = item .1 in
+          rw form (⊎-elim (λ z. inl z) (λ z. inr (high, (omega arith, omega arith))) (by-choice (one % 4 + 4) (two % 8) (rw (eq-eqb (row % 4) 3 e) at h) (omega arith) (omega arith)))
       go (no e) = fits-place (row / 128 % 8) (two % 8) (rw (ne-eqb (row % 4) 3 e) at h) (secondPlace (formAt cells i) (detailAt cells i)) (one % 8) (own .second)
 
-  pub marks-at : (two attributes detail : ℕ) → attributes ≡ attributesAt cells i → detail ≡ detailAt cells i
-      → attributes ≤ row / 4 % 4 → detail ≤ row / 1024 → (r : ℕ) → Closes row one two r → Marks cells i one two r
+  pub marks-at : (two r : ℕ) → Closes row one two r → Marks cells i one two r
   unfolding empty
-  marks-at two attributes detail ea ed a d r k = record {
-    numbers = numbers (rw (← ea) a) (rw (← ed) d);
+  marks-at two r k = record {
+    numbers = numbers;
     first = first;
-    second = second two (k .0);
+    second = second two (k .1);
     full = own .full;
     output = at .1;
-    is = rw (← own .class) (k .1);
+    is = rw (← own .class) (k .2);
   }

@@ -1,26 +1,26 @@
 -- The marks of the one pass over all nodes: where it gets through, nothing is refused. Assumes nothing.
-use mathlib.Core.Path.{_≡_, refl, sym, ap, ap₂, _∙_}
-use mathlib.Core.Bool.{Bool, true, false, not, _&&_, _||_}
+use mathlib.Core.Path.{_≡_, refl, sym, ap, _∙_}
+use mathlib.Core.Bool.{Bool, true, false, not, _&&_}
 use mathlib.Core.List.{List}
-use mathlib.Core.Logic.{_⊎_, inl, inr}
+use mathlib.Core.Logic.{inl, inr}
 use Prim.Native.Nat.{ℕ, zero, suc, _+_, _*_, _-_, _/_, _%_, _≤_, _<_, max}
 use native.Mathlib.Omega.{arith}
 use native.Mathlib.Decide.{decLe, ℕ-discrete}
 use lib.Dec.{eqb, ltb, leb}
-use lib.ListN.{length, getD, set, length-set, List·getD-eq-default}
+use lib.ListN.{length, getD, set, length-set, replicate, length-replicate, getD-replicate, List·getD-eq-default}
 use lib.Seq.{getD-set-same, getD-set-other}
-use borrow.Author.Tests.{eqb-true, eqb-false, eq-eqb, ne-eqb, lt-ltb, le-ltb, le-leb, lt-leb, not-false, not-true}
+use borrow.Author.Tests.{eqb-false, eq-eqb, ne-eqb, lt-ltb, le-ltb, lt-leb, not-false, not-true}
 use Rattle.laws.specs.Choice.{pick, lookup}
 use Rattle.laws.specs.Each.{some}
-use Rattle.laws.proofs.Choice.{pick-true, pick-false, true-not-false, and-true, or-false}
+use Rattle.laws.proofs.Choice.{pick-true, pick-false, and-true}
 use Rattle.places.specs.declared.place.Place.{Place}
 use Rattle.places.specs.declared.place.Place.the-variants.{Nothing, Required, Optional, List as ListOf, Item, Next}
 use Rattle.tree.specs.Forms.{aLink, classOf, allowed}
-use Rattle.tree.specs.Table.{cellAt, formAt, attributesAt, detailAt, firstAt, secondAt, classAt}
-use Rattle.tree.specs.Trees.{operandOf, operandAt, treeAt, ownLevel, levels}
-use Rattle.places.specs.Places.{firstPlaces, firstPlace, secondPlace, wrongClass, wrongList, wrongItem, wrongNext, isRequired, wrongPresent, wrongAt, badOperands}
+use Rattle.tree.specs.Table.{cellAt, formAt, firstAt, secondAt, classAt}
+use Rattle.tree.specs.Trees.{operandOf, treeAt, ownLevel, levels}
+use Rattle.places.specs.Places.{firstPlaces, firstPlace, wrongClass, wrongList, wrongItem, wrongNext, isRequired, wrongPresent, wrongAt, badOperands}
 use Rattle.rules.specs.Refusals.{refusal6, refusal7, refusal8, refusal9, refusal10, refusal11, badNumbers, misplaced, badOrder, owners, badOwner, empty, badOutput, firstOf, nodeRefusals}
-use Rattle.one_pass.specs.Marks.{kindBy, kindAt, IsKind, IsList, Fits, markBy, markAt, Took, absent, taken, refused, Marks, Sound, claim, Marked}
+use Rattle.one_pass.specs.Marks.{kindBy, kindAt, IsList, Fits, markBy, markAt, Takes, absent as no-operand, taken as takes, refused as refuses, Marks, Sound, claim, Marked}
 use Rattle.one_pass.proofs.Codes.{link-form}
 use Rattle.rules.proofs.First.{skip, no-more}
 use Rattle.rules.proofs.Depth.{levels-node, none-levels}
@@ -59,6 +59,29 @@ pick-same : {A : Type 0} (b : Bool) {x y z : A} → x ≡ z → y ≡ z → pick
 unfolding pick
 pick-same true p q = p
 pick-same false p q = q
+
+-- the operand o of node n is taken out of the marks, in which the nodes up to n have none
+pub data Took (count n o : ℕ) (xs : List ℕ) : ℕ → List ℕ → Type 0 where
+  absent : o ≡ 0 → Took count n o xs 0 xs
+  taken : n < o → o ≤ count → (getD xs o 0 ≡ 0 → ⊥) → Took count n o xs (getD xs o 0) (set xs o 0)
+  refused : Took count n o xs 7 xs
+
+pub took-after : (count n o p : ℕ) (xs : List ℕ) (v : ℕ) (ys : List ℕ) → o ≡ p → ((j : ℕ) → j ≤ n → getD xs j 0 ≡ 0) → Takes count o xs v ys → Took count n p xs v ys
+took-after count n o p xs v ys e f t = rw (← e) (go v ys t)
+  where
+    after : (getD xs o 0 ≡ 0 → ⊥) → Dec (o ≤ n) → n < o
+    after k (yes h) = absurd (k (f o h))
+    after k (no h) = omega arith
+
+    go : (v : ℕ) (ys : List ℕ) → Takes count o xs v ys → Took count n o xs v ys
+    go v ys (no-operand z) = absent z
+    go v ys (takes h k) = taken (after k (decLe o n)) h k
+    go v ys refuses = refused
+
+pub takes-length : (count o : ℕ) (xs : List ℕ) (v : ℕ) (ys : List ℕ) → Takes count o xs v ys → length ys ≡ length xs
+takes-length count o xs v ys (no-operand e) = refl
+takes-length count o xs v ys (takes h k) = length-set xs o 0
+takes-length count o xs v ys refuses = refl
 
 module _ (cells : List ℕ) (count : ℕ) where
   kind-most : (j : ℕ) → kindAt cells j ≤ 5
@@ -222,7 +245,7 @@ module _ (cells : List ℕ) (count : ℕ) where
   -- ---- operands taken out of the array
 
   module _ (n o : ℕ) (xs : List ℕ) where
-    pub took-length : (v : ℕ) (ys : List ℕ) → Took count n o xs v ys → length ys ≡ length xs
+    took-length : (v : ℕ) (ys : List ℕ) → Took count n o xs v ys → length ys ≡ length xs
     took-length v ys (absent e) = refl
     took-length v ys (taken h k e) = length-set xs o 0
     took-length v ys refused = refl
@@ -250,8 +273,12 @@ module _ (cells : List ℕ) (count : ℕ) where
         go (yes s) = rw (s, eq-eqb o o refl, lt-ltb n o a, ne-eqb (getD xs o 0) 0 e, getD-set-same xs o 0 0 (omega arith))
         go (no s) = rw (ne-eqb o j (λ z. s (sym z)), getD-set-other xs o j 0 0 s) (omega arith)
 
-  pub took-at : (n o p : ℕ) (xs : List ℕ) (v : ℕ) (ys : List ℕ) → o ≡ p → Took count n o xs v ys → Took count n p xs v ys
-  took-at n o p xs v ys e t = rw (← e) t
+  pub took-fresh : (n o : ℕ) (xs : List ℕ) (v : ℕ) (ys : List ℕ) → Took count n o xs v ys → ((j : ℕ) → j ≤ n → getD xs j 0 ≡ 0) → (j : ℕ) → j ≤ n → getD ys j 0 ≡ 0
+  took-fresh n o xs v ys t f j h = go (ℕ-discrete (getD ys j 0) 0)
+    where
+      go : Dec (getD ys j 0 ≡ 0) → getD ys j 0 ≡ 0
+      go (yes e) = e
+      go (no e) = took-kept n o xs v ys t j e ∙ f j h
 
   owners-step : (n j : ℕ) → 1 ≤ n → owners cells n j ≡ owners cells (n - 1) j + pick (eqb (firstAt cells n) j) 1 0 + pick (eqb (secondAt cells n) j) 1 0
   unfolding owners
@@ -311,8 +338,13 @@ module _ (cells : List ℕ) (count : ℕ) where
       marked-more r k h =
           let z = second-size in
           let l = length-set zs n r in
-          record { size = omega arith; marks = each; owned = owned; sound = sound }
+          record { size = omega arith; fresh = fresh; marks = each; owned = owned; sound = sound }
         where
+          fresh : (j : ℕ) → j ≤ n - 1 → getD (set zs n r) j 0 ≡ 0
+          fresh j h =
+              getD-set-other zs n j r 0 (λ e. omega arith)
+              ∙ took-fresh n (secondAt cells n) ys two zs u (took-fresh n (firstAt cells n) xs one ys t (m .fresh)) j (omega arith)
+
           own : r ≡ markAt cells count n
           own = mark-more n low high most (m .sound) one two r tells-first tells-second k
 
@@ -345,10 +377,11 @@ module _ (cells : List ℕ) (count : ℕ) where
               go (no s) = m .sound j (omega arith) b
 
   -- before the first node
-  pub marked-none : (xs : List ℕ) → count < length xs → Marked cells count count xs
+  pub marked-none : (xs : List ℕ) → count < length xs → ((j : ℕ) → getD xs j 0 ≡ 0) → Marked cells count count xs
   unfolding claim pick
-  marked-none xs l = record {
+  marked-none xs l z = record {
     size = l;
+    fresh = λ j h. z j;
     marks = λ j a b. absurd (omega arith);
     owned = λ j a b. rw (le-ltb count j b) (omega arith);
     sound = λ j a b. absurd (omega arith);
@@ -392,3 +425,11 @@ module _ (cells : List ℕ) (count : ℕ) where
         ∙ skip _ _ (none-some (badOutput cells) count (λ i a b. s i a b .output))
         ∙ skip _ _ (le-ltb 128 (levels (treeAt cells count 1)) (rw d depth))
         ∙ no-more
+
+-- a new array
+pub none-yet : (n j : ℕ) → _≡_ {A = ℕ} (getD (replicate n 0) j 0) 0
+none-yet n j = go (decLe (suc j) n)
+  where
+    go : Dec (j < n) → _≡_ {A = ℕ} (getD (replicate n 0) j 0) 0
+    go (yes h) = getD-replicate n j 0 0 h
+    go (no h) = let l = length-replicate {A = ℕ} n 0 in List·getD-eq-default (replicate n 0) 0 (omega arith)

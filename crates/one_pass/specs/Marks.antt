@@ -50,15 +50,19 @@ markBy class item below = pick (eqb class aLink) (item + 2 + 8 * below) (class +
 unfoldable pub markAt : List ℕ → ℕ → ℕ → ℕ
 markAt cells count i = kindAt cells i + 8 * levels (treeAt cells count i)
 
--- the operand o of node n is taken out of the marks, unless it is absent; 7 where it is misplaced or already taken
-pub data Took (count n o : ℕ) (xs : List ℕ) : ℕ → List ℕ → Type 0 where
-  absent : o ≡ 0 → Took count n o xs 0 xs
-  taken : n < o → o ≤ count → (getD xs o 0 ≡ 0 → ⊥) → Took count n o xs (getD xs o 0) (set xs o 0)
-  refused : Took count n o xs 7 xs
+-- the operand o is taken out of the marks, unless it is absent; 7 where it is past the count or has no mark
+pub data Takes (count o : ℕ) (xs : List ℕ) : ℕ → List ℕ → Type 0 where
+  absent : o ≡ 0 → Takes count o xs 0 xs
+  taken : o ≤ count → (getD xs o 0 ≡ 0 → ⊥) → Takes count o xs (getD xs o 0) (set xs o 0)
+  refused : Takes count o xs 7 xs
 
--- the second operand fits where the row says, and this is the node's mark
+-- the numbers are allowed by the row, and the first operand fits where the row says
+abbrev pub Opens : ℕ → ℕ → ℕ → ℕ → Type 0
+Opens row attributes detail one = (attributes ≤ row / 4 % 4) × (detail ≤ row / 1024) × (fitsBy (row / 16 % 8) (one % 8) ≡ true)
+
+-- there is a row, the second operand fits where it says, and this is the node's mark
 abbrev pub Closes : ℕ → ℕ → ℕ → ℕ → Type 0
-Closes row one two mark = (fitsBy (codeBy row (one % 8)) (two % 8) ≡ true) × (mark ≡ markBy (row % 4) (one % 8) (max (one / 8) (two / 8)))
+Closes row one two mark = (row % 4 ≡ 0 → ⊥) × (fitsBy (codeBy row one) (two % 8) ≡ true) × (mark ≡ markBy (row % 4) (one % 8) (max (one / 8) (two / 8)))
 
 -- node i with operands of these marks breaks no rule that looks at one node, and has this mark itself
 pub record Marks (cells : List ℕ) (i one two mark : ℕ) : Type 0 where
@@ -82,9 +86,10 @@ pub record Sound (cells : List ℕ) (count i : ℕ) : Type 0 where
 unfoldable pub claim : ℕ → List ℕ → ℕ → ℕ
 claim n xs j = pick (ltb n j && eqb (getD xs j 0) 0) 1 0
 
--- the nodes above n are done: each that no owner has taken yet has its mark
+-- the nodes above n are done: each that no owner has taken yet has its mark, and the others have none
 pub record Marked (cells : List ℕ) (count n : ℕ) (xs : List ℕ) : Type 0 where
   pub size : count < length xs
+  pub fresh : (j : ℕ) → j ≤ n → getD xs j 0 ≡ 0
   pub marks : (j : ℕ) → n < j → j ≤ count → (getD xs j 0 ≡ 0 → ⊥) → getD xs j 0 ≡ markAt cells count j
   pub owned : (j : ℕ) → 1 ≤ j → j ≤ count → owners cells count j ≡ owners cells n j + claim n xs j
   pub sound : (j : ℕ) → n < j → j ≤ count → Sound cells count j

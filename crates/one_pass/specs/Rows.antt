@@ -26,9 +26,9 @@ unfoldable pub fitsBy : ℕ → ℕ → Bool
 fitsBy code kind =
     pick (eqb code 0) (eqb kind 0) (pick (leb code 2) (eqb kind code) (pick (leb code 6) (eqb kind 0 || eqb (kind + 2) code) (eqb kind 1 || eqb kind 2)))
 
--- the code of a node's second place, by its row and the kind of its first operand: the next link has the item's class
+-- the code of a node's second place, by its row and the mark of its first operand: the next link has the item's class
 unfoldable pub codeBy : ℕ → ℕ → ℕ
-codeBy row item = pick (eqb (row % 4) aLink) (item + 4) (row / 128 % 8)
+codeBy row one = pick (eqb (row % 4) aLink) (one % 4 + 4) (row / 128 % 8)
 
 -- a row says of a form with this detail what it is: class, highest attributes, the codes of both places, highest detail; and nothing is empty
 unfoldable pub suits : ℕ → ℕ → ℕ → Bool

@@ -3,14 +3,14 @@ mod marks; // marks.rt: what the pass knows of a node
 mod rows; // rows.rt: what the pass knows of a form
 
 use marks::TAKEN;
-use marks::mark_by;
+use marks::mark_with;
 use marks::take;
-use rows::fits;
-use rows::row_at;
+use rows::rare_row;
+use rows::row_of;
 use rules::refusal::is_bad_count;
 ghost use mathlib.Core.Path.{_≡_};
 ghost use mathlib.Core.Bool.{true};
-ghost use Prim.Native.Nat.{ℕ, _*_, _≤_, _<_};
+ghost use Prim.Native.Nat.{ℕ, _+_, _*_, _≤_, _<_};
 ghost use lib.ListN.{length, getD};
 ghost use Rattle.rules.specs.Refusals.{firstOf, nodeRefusals, refusal};
 ghost use Rattle.one_pass.specs.Marks.{Marks};
@@ -21,21 +21,37 @@ fn mark_at(table: &[u16], node: u16, one: u16, two: u16) -> u16
     ensures { λ r. ⌜ ((r ≡ 0 → ⊥) → Marks (now (table .entry)) node one two r) ⌝ }
 {
     let at = 5 * ((node - 1) as usize);
+    let form = table[at];
+    let attributes = table[at + 1];
     let detail = table[at + 2];
-    let row = row_at(table, node, table[at], detail);
-    if row == 0 {
-        return 0;
+    let mark = mark_with(row_of(form), attributes, detail, one, two);
+    if mark != 0 {
+        return mark;
     }
-    if row / 4 % 4 < table[at + 1] {
-        return 0;
+    mark_with(
+        rare_row(table, node, form, detail),
+        attributes,
+        detail,
+        one,
+        two,
+    )
+}
+
+// Whether four nodes from a number on have been taken by their owners.
+fn four_taken(marks: &[u16], at: usize) -> bool
+    requires { ⌜ at + 3 < length (now marks) ⌝ }
+    ensures { λ r. ⌜ (r ≡ true → (j : ℕ) → at ≤ j → j < at + 4 → getD (now (marks .entry)) j 0 ≡ 0) ⌝ }
+{
+    if marks[at] != 0 {
+        return false;
     }
-    if row / 1024 < detail {
-        return 0;
+    if marks[at + 1] != 0 {
+        return false;
     }
-    if !fits(row / 16 % 8, one % 8) {
-        return 0;
+    if marks[at + 2] != 0 {
+        return false;
     }
-    mark_by(row, one, two)
+    marks[at + 3] == 0
 }
 
 // Whether each node but 1 has been taken by an owner.
@@ -44,6 +60,12 @@ fn all_taken(marks: &[u16], count: u16) -> bool
     ensures { λ r. ⌜ (r ≡ true → (j : ℕ) → 2 ≤ j → j ≤ count → getD (now (marks .entry)) j 0 ≡ 0) ⌝ }
 {
     let mut done: u16 = 1;
+    while done + 3 < count {
+        if !four_taken(marks, (done + 1) as usize) {
+            return false;
+        }
+        done += 4;
+    }
     while done < count {
         let at = (done + 1) as usize;
         if marks[at] != 0 {
@@ -56,17 +78,17 @@ fn all_taken(marks: &[u16], count: u16) -> bool
 
 // Whether it is certain that none of 6 to 11 applies: from the last node to the first, as operands come after their owners.
 fn is_fine(table: &[u16], count: u16, marks: &mut [u16]) -> bool
-    requires { ⌜ (1 ≤ count) × (count ≤ 4096) × (5 * count ≤ length (now table)) × (count < length (now marks)) ⌝ }
+    requires { ⌜ (1 ≤ count) × (count ≤ 4096) × (5 * count ≤ length (now table)) × (count < length (now marks)) × ((j : ℕ) → getD (now marks) j 0 ≡ 0) ⌝ }
     ensures { λ r. ⌜ (r ≡ true → firstOf (nodeRefusals count (now (table .entry))) ≡ 0) ⌝ }
 {
     let mut node = count;
     while 0 < node {
         let cells = 5 * ((node - 1) as usize);
-        let one = take(marks, count, node, table[cells + 3]);
+        let one = take(marks, count, table[cells + 3]);
         if one == TAKEN {
             return false;
         }
-        let two = take(marks, count, node, table[cells + 4]);
+        let two = take(marks, count, table[cells + 4]);
         if two == TAKEN {
             return false;
         }
@@ -88,7 +110,7 @@ fn is_fine(table: &[u16], count: u16, marks: &mut [u16]) -> bool
     all_taken(marks, count)
 }
 
-// The same with an array that is quickly made.
+// The same for fewer than 64 nodes, with an array that is quickly made.
 fn is_small_fine(table: &[u16], count: u16) -> bool
     requires { ⌜ (1 ≤ count) × (count < 64) × (5 * count ≤ length (now table)) ⌝ }
     ensures { λ r. ⌜ (r ≡ true → firstOf (nodeRefusals count (now (table .entry))) ≡ 0) ⌝ }
@@ -97,6 +119,7 @@ fn is_small_fine(table: &[u16], count: u16) -> bool
     is_fine(table, count, &mut marks)
 }
 
+// The same for up to 4,096 nodes.
 fn is_large_fine(table: &[u16], count: u16) -> bool
     requires { ⌜ (1 ≤ count) × (count ≤ 4096) × (5 * count ≤ length (now table)) ⌝ }
     ensures { λ r. ⌜ (r ≡ true → firstOf (nodeRefusals count (now (table .entry))) ≡ 0) ⌝ }

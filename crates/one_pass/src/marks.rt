@@ -3,25 +3,41 @@
 use super::rows::fits;
 use tree::level::larger;
 ghost use mathlib.Core.Path.{_≡_};
-ghost use Prim.Native.Nat.{_%_, _≤_, _<_};
+ghost use mathlib.Core.Bool.{true};
+ghost use Prim.Native.Nat.{_≤_, _<_};
 ghost use lib.ListN.{length};
-ghost use Rattle.one_pass.specs.Marks.{Took, Closes};
+ghost use Rattle.one_pass.specs.Marks.{Takes, Opens, Closes};
 
 // In place of the mark of an operand that is misplaced, or that another owner has taken.
 pub const TAKEN: u16 = 7;
 
-// The mark of a node with this row whose operands have these marks; 0 where the second does not fit.
-pub fn mark_by(row: u16, one: u16, two: u16) -> u16
-    requires { ⌜ (one ≤ 40000) × (two ≤ 40000) × (row % 4 ≡ 3 → one % 8 < 4) ⌝ }
+// Whether a node with this row has numbers that are allowed, and a first operand that fits.
+fn opens(row: u16, attributes: u16, detail: u16, one: u16) -> bool
+    ensures { λ r. ⌜ (r ≡ true → Opens row attributes detail one) ⌝ }
+{
+    if row / 4 % 4 < attributes {
+        return false;
+    }
+    if row / 1024 < detail {
+        return false;
+    }
+    fits(row / 16 % 8, one % 8)
+}
+
+// The mark of a node with this row whose operands have these marks; 0 where the second does not fit, or there is no row.
+fn mark_by(row: u16, one: u16, two: u16) -> u16
+    requires { ⌜ (one ≤ 40000) × (two ≤ 40000) ⌝ }
     ensures { λ r. ⌜ ((r ≡ 0 → ⊥) → Closes row one two r) ⌝ }
 {
-    let item = one % 8;
     let kind = two % 8;
     let levels = larger(one, two) / 8;
     if row % 4 == 3 {
-        if fits(item + 4, kind) {
-            return item + 2 + 8 * levels;
+        if fits(one % 4 + 4, kind) {
+            return one % 8 + 2 + 8 * levels;
         }
+        return 0;
+    }
+    if row % 4 == 0 {
         return 0;
     }
     if fits(row / 128 % 8, kind) {
@@ -30,16 +46,24 @@ pub fn mark_by(row: u16, one: u16, two: u16) -> u16
     0
 }
 
-// The mark of an operand, which is 0 from then on; 0 for an operand that is absent.
-pub fn take(marks: &mut [u16], count: u16, node: u16, operand: u16) -> u16
+// The mark of a node with this row, these numbers and operands of these marks; 0 where a rule is broken, or there is no row.
+pub fn mark_with(row: u16, attributes: u16, detail: u16, one: u16, two: u16) -> u16
+    requires { ⌜ (one ≤ 40000) × (two ≤ 40000) ⌝ }
+    ensures { λ r. ⌜ ((r ≡ 0 → ⊥) → Opens row attributes detail one × Closes row one two r) ⌝ }
+{
+    if opens(row, attributes, detail, one) {
+        return mark_by(row, one, two);
+    }
+    0
+}
+
+// The mark of an operand, which is 0 from then on; 0 for an operand that is absent. Nodes that have not been looked at have 0.
+pub fn take(marks: &mut [u16], count: u16, operand: u16) -> u16
     requires { ⌜ count < length (now marks) ⌝ }
-    ensures { λ r. ⌜ Took count node operand (now (marks .entry)) r (now (marks .exit)) ⌝ }
+    ensures { λ r. ⌜ Takes count operand (now (marks .entry)) r (now (marks .exit)) ⌝ }
 {
     if operand == 0 {
         return 0;
-    }
-    if operand <= node {
-        return TAKEN;
     }
     if count < operand {
         return TAKEN;

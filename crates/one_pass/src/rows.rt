@@ -1,5 +1,6 @@
 // What the one pass knows of a form: its row. A row is a class, 4 times the highest attributes, 16 and 128 times the codes of
-// the first and the second place, and 1,024 times the highest detail. The codes are those of `fits`.
+// the first and the second place, and 1,024 times the highest detail. 27,801, of binaries, is an expression (1) with
+// attributes up to 2 (8), an expression at each place (16 and 128) and a detail up to 27 (27,648).
 use rules::refusal::has_bad_output;
 use tree::forms;
 ghost use mathlib.Core.Path.{_≡_};
@@ -23,76 +24,57 @@ pub fn fits(code: u16, kind: u16) -> bool
     (KINDS >> bit) % 2 == 1
 }
 
-// The rows of the forms 0 to 56. 0 where there is none, or where it takes more than the form to say it.
-const ROWS: [u16; 57] = [
-    0, // no form
-    9, // Array
-    153, // Assign
-    9, // Async
-    25, // Await
-    27801, // Binary
-    1033, // Block
-    1081, // Break
-    665, // Call
-    281, // Cast
-    0, // Closure
-    9, // Const
-    9, // Continue
-    1049, // Field
-    1033, // ForLoop
-    25, // Group
-    9, // If
-    153, // Index
-    9, // Infer
-    25, // Let
-    9, // Lit
-    1033, // Loop
-    2057, // Macro
-    9, // Match
-    665, // MethodCall
-    25, // Paren
-    9, // Path
-    1465, // Range
-    1049, // RawAddr
-    1049, // Reference
-    9, // Repeat
-    57, // Return
-    9, // Struct
-    25, // Try
-    9, // TryBlock
-    9, // Tuple
-    2073, // Unary
-    9, // Unsafe
-    1025, // Verbatim
-    1033, // While
-    57, // Yield
-    2, // type Array
-    66, // type FnPtr
-    2, // type Group
-    0, // type ImplTrait
-    2, // type Infer
-    2050, // type Macro
-    2, // type Never
-    2, // type Paren
-    0, // type Path
-    1058, // type Ptr
-    1058, // type Reference
-    2, // type Slice
-    0, // type TraitObject
-    2, // type Tuple
-    1026, // type Verbatim
-    115, // a link
-];
-
-// The row of a form, whatever its detail; 0 where there is none.
-fn row_of(form: u16) -> u16
+// The row of a form, whatever its detail; 0 where there is none, or where it takes more than the form to say it.
+pub fn row_of(form: u16) -> u16
     ensures { λ r. ⌜ ((r ≡ 0 → ⊥) → (detail : ℕ) → (suits form detail r && not (eqb form ExprClosure)) ≡ true) ⌝ }
 {
-    if form > 56 {
-        return 0;
+    match form {
+        forms::EXPR_ARRAY
+        | forms::EXPR_ASYNC
+        | forms::EXPR_CONST
+        | forms::EXPR_IF
+        | forms::EXPR_INFER
+        | forms::EXPR_LIT
+        | forms::EXPR_MATCH
+        | forms::EXPR_PATH
+        | forms::EXPR_REPEAT
+        | forms::EXPR_STRUCT
+        | forms::EXPR_TRY_BLOCK
+        | forms::EXPR_UNSAFE => 9,
+        forms::EXPR_CONTINUE | forms::EXPR_TUPLE => 9,
+        forms::EXPR_BLOCK | forms::EXPR_FOR_LOOP | forms::EXPR_LOOP | forms::EXPR_WHILE => 1033,
+        forms::EXPR_MACRO => 2057,
+        forms::EXPR_VERBATIM => 1025,
+        forms::EXPR_AWAIT
+        | forms::EXPR_GROUP
+        | forms::EXPR_LET
+        | forms::EXPR_PAREN
+        | forms::EXPR_TRY => 25,
+        forms::EXPR_FIELD | forms::EXPR_RAW_ADDR => 1049,
+        forms::EXPR_REFERENCE => 1049,
+        forms::EXPR_UNARY => 2073,
+        forms::EXPR_ASSIGN | forms::EXPR_INDEX => 153,
+        forms::EXPR_BINARY => 27801,
+        forms::EXPR_CAST => 281,
+        forms::EXPR_RETURN | forms::EXPR_YIELD => 57,
+        forms::EXPR_BREAK => 1081,
+        forms::EXPR_RANGE => 1465,
+        forms::EXPR_CALL | forms::EXPR_METHOD_CALL => 665,
+        forms::TYPE_ARRAY
+        | forms::TYPE_GROUP
+        | forms::TYPE_INFER
+        | forms::TYPE_NEVER
+        | forms::TYPE_SLICE
+        | forms::TYPE_TUPLE => 2,
+        forms::TYPE_PAREN => 2,
+        forms::TYPE_MACRO => 2050,
+        forms::TYPE_VERBATIM => 1026,
+        forms::TYPE_PTR => 1058,
+        forms::TYPE_REFERENCE => 1058,
+        forms::TYPE_FN_PTR => 66,
+        forms::LINK => 115,
+        _ => 0,
     }
-    let at = form as usize;
-    ROWS[at]
 }
 
 // The row of a path type, by its detail; 0 for one without a segment.
@@ -119,8 +101,8 @@ fn bounds_row(detail: u16) -> u16
     }
 }
 
-// The row of a node whose form alone does not say it.
-fn rare_row(table: &[u16], node: u16, form: u16, detail: u16) -> u16
+// The row of a node whose form alone does not say it; 0 where there is none.
+pub fn rare_row(table: &[u16], node: u16, form: u16, detail: u16) -> u16
     requires { ⌜ (form ≡ formAt (now table) node) × (detail ≡ detailAt (now table) node) ⌝ }
     ensures { λ r. ⌜ ((r ≡ 0 → ⊥) → RowAt (now (table .entry)) node r) ⌝ }
 {
@@ -130,16 +112,4 @@ fn rare_row(table: &[u16], node: u16, form: u16, detail: u16) -> u16
         forms::EXPR_CLOSURE => { if has_bad_output(table, node) { 0 } else { 1049 } }
         _ => 0,
     }
-}
-
-// The row of a node; 0 where there is none.
-pub fn row_at(table: &[u16], node: u16, form: u16, detail: u16) -> u16
-    requires { ⌜ (form ≡ formAt (now table) node) × (detail ≡ detailAt (now table) node) ⌝ }
-    ensures { λ r. ⌜ ((r ≡ 0 → ⊥) → RowAt (now (table .entry)) node r) ⌝ }
-{
-    let row = row_of(form);
-    if row != 0 {
-        return row;
-    }
-    rare_row(table, node, form, detail)
 }

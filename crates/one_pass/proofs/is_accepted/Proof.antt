@@ -1,5 +1,5 @@
 -- `one_pass::is_accepted` meets its contract. Assumes nothing.
-use mathlib.Core.Path.{_≡_, sym, _∙_}
+use mathlib.Core.Path.{sym, _∙_}
 use borrow.Author.Tests.{le-ltb}
 use borrow.Author.Needs.{needs}
 use Rattle.laws.proofs.Choice.{true-not-false}

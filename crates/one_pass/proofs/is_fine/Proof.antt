@@ -7,7 +7,7 @@ use lib.ListN.{length}
 use Rattle.laws.proofs.Choice.{true-not-false}
 use Rattle.tree.specs.Table.{cellAt}
 use Rattle.one_pass.specs.Marks.{Marked}
-use Rattle.one_pass.proofs.Fine.{cell-other, took-length, took-at, first-most, second-most, second-size, length-more, marked-more, marked-none, nothing-refused}
+use Rattle.one_pass.proofs.Fine.{cell-other, took-after, takes-length, took-fresh, first-most, second-most, second-size, length-more, marked-more, marked-none, nothing-refused}
 use Rattle.one_pass.proofs.is_fine.Statement.{statement}
 use Rattle.one_pass.proofs.is_fine.Tie as tie
 
@@ -20,7 +20,7 @@ abbrev μ-loop : tie.MeasureT-loop
 loop-holds : tie.Need-loop-holds Inv-loop μ-loop
 loop-holds c =
     let p = c .before .before .pre in
-    (omega arith, refl, marked-none _ _ _ (p .3))
+    (omega arith, refl, marked-none _ _ _ (p .3) (p .4))
 
 sub-cells : tie.Need-sub-cells Inv-loop μ-loop
 sub-cells c = search needs
@@ -59,7 +59,7 @@ same-length c =
     let p = c .before .before .before .before .before .before .before .before .before .before .pre in
     let l = c .before .before .before .before .before .before .before .loop in
     let i = l .inv in
-    took-length (a .table .now) _ _ _ _ _ _ (c .before .before .before .take .ensures) ∙ i .1
+    takes-length _ _ _ _ _ (c .before .before .before .take .ensures) ∙ i .1
 
 returns : tie.Need-returns Inv-loop μ-loop
 returns c = λ e. true-not-false (sym e)
@@ -84,7 +84,7 @@ take-requires-2 c κs =
     let p = c .before .before .before .before .before .before .before .before .before .before .before .before .pre in
     let l = c .before .before .before .before .before .before .before .before .before .loop in
     let i = l .inv in
-    let e = took-length (a .table .now) _ _ _ _ _ _ (c .before .before .before .before .before .take .ensures) in
+    let e = takes-length _ _ _ _ _ (c .before .before .before .before .before .take .ensures) in
     let z = i .2 .size in
     omega arith
 
@@ -94,7 +94,7 @@ same-length-2 c =
     let p = c .before .before .before .before .before .before .before .before .before .before .before .before .before .before .before .before .pre in
     let l = c .before .before .before .before .before .before .before .before .before .before .before .before .before .loop in
     let i = l .inv in
-    took-length (a .table .now) _ _ _ _ _ _ (c .before .before .before .take2 .ensures) ∙ took-length (a .table .now) _ _ _ _ _ _ (c .before .before .before .before .before .before .before .before .before .take .ensures) ∙ i .1
+    takes-length _ _ _ _ _ (c .before .before .before .take2 .ensures) ∙ takes-length _ _ _ _ _ (c .before .before .before .before .before .before .before .before .before .take .ensures) ∙ i .1
 
 returns-2 : tie.Need-returns-2 Inv-loop μ-loop
 returns-2 c = λ e. true-not-false (sym e)
@@ -106,8 +106,8 @@ mark-at-requires c κs =
     let l = c .before .before .before .before .before .before .before .before .before .before .before .before .before .loop in
     let i = l .inv in
     let j = c .before .before .before .before .before .before .before .before .before .before .before .before .loop-test in
-    let t = took-at (a .table .now) (a .count) (l .node) _ (cellAt (a .table .now) (l .node) 3) _ _ _ (cell-other (a .table .now) (l .node) 3 (omega arith)) (c .before .before .before .before .before .before .before .before .before .take .ensures) in
-    let u = took-at (a .table .now) (a .count) (l .node) _ (cellAt (a .table .now) (l .node) 4) _ _ _ (cell-other (a .table .now) (l .node) 4 (omega arith)) (c .before .before .before .take2 .ensures) in
+    let t = took-after (a .count) (l .node) _ (cellAt (a .table .now) (l .node) 3) _ _ _ (cell-other (a .table .now) (l .node) 3 (omega arith)) (i .2 .fresh) (c .before .before .before .before .before .before .before .before .before .take .ensures) in
+    let u = took-after (a .count) (l .node) _ (cellAt (a .table .now) (l .node) 4) _ _ _ (cell-other (a .table .now) (l .node) 4 (omega arith)) (took-fresh (a .table .now) (a .count) (l .node) _ _ _ _ t (i .2 .fresh)) (c .before .before .before .take2 .ensures) in
     let f = c .before .before .before .before .before .before .if1 .left in
     let g = c .if2 .left in
     (omega arith, omega arith, first-most _ _ _ _ (i .2) (omega arith) (i .0) (p .1) _ _ t f, second-most _ _ _ _ (i .2) (omega arith) (i .0) (p .1) _ _ t f _ _ u g)
@@ -118,7 +118,7 @@ same-length-3 c =
     let p = c .before .before .before .before .before .before .before .before .before .before .before .before .before .before .before .before .before .before .pre in
     let l = c .before .before .before .before .before .before .before .before .before .before .before .before .before .before .before .loop in
     let i = l .inv in
-    took-length (a .table .now) _ _ _ _ _ _ (c .before .before .before .before .before .take2 .ensures) ∙ took-length (a .table .now) _ _ _ _ _ _ (c .before .before .before .before .before .before .before .before .before .before .before .take .ensures) ∙ i .1
+    takes-length _ _ _ _ _ (c .before .before .before .before .before .take2 .ensures) ∙ takes-length _ _ _ _ _ (c .before .before .before .before .before .before .before .before .before .before .before .take .ensures) ∙ i .1
 
 returns-3 : tie.Need-returns-3 Inv-loop μ-loop
 returns-3 c = λ e. true-not-false (sym e)
@@ -136,8 +136,8 @@ slice-write-marks c =
     let l = c .before .before .before .before .before .before .before .before .before .before .before .before .before .before .before .loop in
     let i = l .inv in
     let j = c .before .before .before .before .before .before .before .before .before .before .before .before .before .before .loop-test in
-    let t = took-at (a .table .now) (a .count) (l .node) _ (cellAt (a .table .now) (l .node) 3) _ _ _ (cell-other (a .table .now) (l .node) 3 (omega arith)) (c .before .before .before .before .before .before .before .before .before .before .before .take .ensures) in
-    let u = took-at (a .table .now) (a .count) (l .node) _ (cellAt (a .table .now) (l .node) 4) _ _ _ (cell-other (a .table .now) (l .node) 4 (omega arith)) (c .before .before .before .before .before .take2 .ensures) in
+    let t = took-after (a .count) (l .node) _ (cellAt (a .table .now) (l .node) 3) _ _ _ (cell-other (a .table .now) (l .node) 3 (omega arith)) (i .2 .fresh) (c .before .before .before .before .before .before .before .before .before .before .before .take .ensures) in
+    let u = took-after (a .count) (l .node) _ (cellAt (a .table .now) (l .node) 4) _ _ _ (cell-other (a .table .now) (l .node) 4 (omega arith)) (took-fresh (a .table .now) (a .count) (l .node) _ _ _ _ t (i .2 .fresh)) (c .before .before .before .before .before .take2 .ensures) in
     let f = c .before .before .before .before .before .before .before .before .if1 .left in
     let g = c .before .before .if2 .left in
     let z = second-size _ _ _ _ (i .2) (omega arith) (i .0) (p .1) _ _ t f _ _ u g in
@@ -168,8 +168,8 @@ loop-again c =
     let l = c .before .before .before .before .before .before .before .before .before .before .before .before .before .before .before .loop in
     let i = l .inv in
     let j = c .before .before .before .before .before .before .before .before .before .before .before .before .before .before .loop-test in
-    let t = took-at (a .table .now) (a .count) (l .node) _ (cellAt (a .table .now) (l .node) 3) _ _ _ (cell-other (a .table .now) (l .node) 3 (omega arith)) (c .before .before .before .before .before .before .before .before .before .before .before .take .ensures) in
-    let u = took-at (a .table .now) (a .count) (l .node) _ (cellAt (a .table .now) (l .node) 4) _ _ _ (cell-other (a .table .now) (l .node) 4 (omega arith)) (c .before .before .before .before .before .take2 .ensures) in
+    let t = took-after (a .count) (l .node) _ (cellAt (a .table .now) (l .node) 3) _ _ _ (cell-other (a .table .now) (l .node) 3 (omega arith)) (i .2 .fresh) (c .before .before .before .before .before .before .before .before .before .before .before .take .ensures) in
+    let u = took-after (a .count) (l .node) _ (cellAt (a .table .now) (l .node) 4) _ _ _ (cell-other (a .table .now) (l .node) 4 (omega arith)) (took-fresh (a .table .now) (a .count) (l .node) _ _ _ _ t (i .2 .fresh)) (c .before .before .before .before .before .take2 .ensures) in
     let f = c .before .before .before .before .before .before .before .before .if1 .left in
     let g = c .before .before .if2 .left in
     let h = c .if3 .left in (

@@ -1,6 +1,5 @@
 -- `one_pass::marks::mark_by` meets its contract. Assumes nothing.
 use mathlib.Core.Path.{refl}
-use native.Mathlib.Omega.{arith}
 use Rattle.one_pass.proofs.Codes.{link-closes, plain-closes}
 use borrow.Author.Needs.{needs}
 use Rattle.one_pass.proofs.marks.mark_by.Statement.{statement}
@@ -13,9 +12,7 @@ add-fits : tie.Need-add-fits
 add-fits c = search needs
 
 fits-requires : tie.Need-fits-requires
-fits-requires c κs =
-    let q = c .before .before .pre .2 (c .if1 .taken) in
-    (omega arith, omega arith)
+fits-requires c κs = search needs
 
 add-result : tie.Need-add-result
 add-result c = search needs
@@ -32,6 +29,9 @@ returns c = λ h. link-closes _ _ _ _ (c .before .before .before .larger .ensure
 returns-2 : tie.Need-returns-2
 returns-2 c = λ h. absurd (h refl)
 
+returns-3 : tie.Need-returns-3
+returns-3 c = λ h. absurd (h refl)
+
 fits-requires-2 : tie.Need-fits-requires-2
 fits-requires-2 c κs = search needs
 
@@ -44,11 +44,11 @@ mul-result-2 c = search needs
 add-result-4 : tie.Need-add-result-4
 add-result-4 c = search needs
 
-returns-3 : tie.Need-returns-3
-returns-3 c = λ h. plain-closes _ _ _ _ (c .before .before .before .larger .ensures) (c .before .before .if1 .left) (c .before .fits3 .ensures (c .if3 .taken))
-
 returns-4 : tie.Need-returns-4
-returns-4 c = λ h. absurd (h refl)
+returns-4 c = λ h. plain-closes _ _ _ _ (c .before .before .before .before .larger .ensures) (c .before .before .before .if1 .left) (c .before .before .if3 .left) (c .before .fits3 .ensures (c .if4 .taken))
+
+returns-5 : tie.Need-returns-5
+returns-5 c = λ h. absurd (h refl)
 
 pub mark-by-spec : {M : Type 1} → statement M
 mark-by-spec =
@@ -62,9 +62,10 @@ mark-by-spec =
     add-result-2
     returns
     returns-2
+    returns-3
     fits-requires-2
     add-result-3
     mul-result-2
     add-result-4
-    returns-3
-    returns-4)
+    returns-4
+    returns-5)

@@ -1,6 +1,5 @@
 -- `one_pass::marks::take` meets its contract. Assumes nothing.
-use native.Mathlib.Omega.{arith}
-use Rattle.one_pass.specs.Marks.{Took, absent, taken, refused}
+use Rattle.one_pass.specs.Marks.{absent, taken, refused}
 use borrow.Author.Needs.{needs}
 use Rattle.one_pass.proofs.marks.take.Statement.{statement}
 use Rattle.one_pass.proofs.marks.take.Tie as tie
@@ -11,17 +10,14 @@ returns c = absent (c .if1 .taken)
 returns-2 : tie.Need-returns-2
 returns-2 c = refused
 
-returns-3 : tie.Need-returns-3
-returns-3 c = refused
-
 mul-mark : tie.Need-mul-mark
 mul-mark c = search needs
 
 slice-read-mark : tie.Need-slice-read-mark
 slice-read-mark c = search needs
 
-returns-4 : tie.Need-returns-4
-returns-4 c = refused
+returns-3 : tie.Need-returns-3
+returns-3 c = refused
 
 mul-marks : tie.Need-mul-marks
 mul-marks c = search needs
@@ -32,8 +28,8 @@ slice-write-marks c = search needs
 same-length : tie.Need-same-length
 same-length c = search needs
 
-returns-5 : tie.Need-returns-5
-returns-5 c = let h = c .before .before .before .if2 .left in let k = c .before .before .if3 .left in taken (omega arith) (omega arith) (c .if4 .left)
+returns-4 : tie.Need-returns-4
+returns-4 c = taken (c .before .before .if2 .left) (c .if3 .left)
 
 pub take-spec : {M : Type 1} → statement M
 take-spec =
@@ -41,11 +37,10 @@ take-spec =
     (tie.spec
     returns
     returns-2
-    returns-3
     mul-mark
     slice-read-mark
-    returns-4
+    returns-3
     mul-marks
     slice-write-marks
     same-length
-    returns-5)
+    returns-4)

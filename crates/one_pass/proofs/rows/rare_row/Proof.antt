@@ -1,10 +1,10 @@
 -- `one_pass::rows::rare_row` meets its contract. Assumes nothing.
 use mathlib.Core.Path.{_≡_, refl, sym, _∙_}
-use mathlib.Core.Bool.{Bool, true, not, _&&_}
+use mathlib.Core.Bool.{true, not, _&&_}
 use mathlib.Core.List.{[], _∷_}
 use Prim.Native.Nat.{ℕ}
 use lib.Dec.{eqb}
-use borrow.Author.Tests.{eqb-true, not-true}
+use borrow.Author.Tests.{not-true}
 use borrow.Author.Needs.{needs}
 use types.Run.{OneOf}
 use Rattle.laws.specs.Choice.{pick, lookup}
