@@ -50,12 +50,13 @@ fn run(arguments: &[&str]) -> Option<u64> {
         [what, rest @ ..] => {
             let mut ours = Ours::named(rest.first().unwrap_or(&"absent"))?;
             let seed = rest.get(1).map_or(Some(1), number)?;
+            let shorter = ours.shorter();
             // A program takes a thousand times as long as a function.
             match (*what, ours.is_slow()) {
                 ("trees", false) => Some(trees::compare(&mut ours, 0, 100_000, seed)),
                 ("trees", true) => Some(trees::compare(&mut ours, 2, 2_000, seed)),
-                ("lists", false) => Some(lists::compare(&mut ours, 0, 1_000_000, seed)),
-                ("lists", true) => Some(lists::compare(&mut ours, 3, 20_000, seed)),
+                ("lists", false) => Some(lists::compare(&mut ours, shorter, 1_000_000, seed)),
+                ("lists", true) => Some(lists::compare(&mut ours, shorter, 20_000, seed)),
                 _ => None,
             }
         }

@@ -41,6 +41,17 @@ impl Ours {
         matches!(self, Ours::Programs)
     }
 
+    /// By how many tokens the lists are shorter of which each one is tried: a call of the
+    /// library clears a table for 24,576 tokens, which takes longer than a short list.
+    pub fn shorter(&self) -> usize {
+        match self {
+            Ours::Absent => 0,
+            Ours::Programs => 3,
+            #[cfg(feature = "library")]
+            Ours::Library(_) => 1,
+        }
+    }
+
     /// Whether buffers of any length can be lent.
     pub fn is_lent(&self) -> bool {
         !matches!(self, Ours::Absent | Ours::Programs)
