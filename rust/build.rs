@@ -1,5 +1,5 @@
-//! Links `libanswers.a`, which `rt staticlib answers` writes: the one in the folder
-//! that TEZHUKOR_LIB names, or in `target/staticlib` of this repository.
+//! Links `libanswers.a` and `libasked.a`, which `tools/libraries` writes: those in the
+//! folder that TEZHUKOR_LIB names, or in `target/staticlib` of this repository.
 
 use std::path::PathBuf;
 
@@ -8,14 +8,16 @@ fn main() {
     let here = PathBuf::from(std::env::var("CARGO_MANIFEST_DIR").expect("cargo names the folder"));
     let named = std::env::var_os("TEZHUKOR_LIB").map(PathBuf::from);
     let folder = named.unwrap_or_else(|| here.join("../target/staticlib"));
-    let library = folder.join("libanswers.a");
-    println!("cargo:rerun-if-changed={}", library.display());
-    if !library.is_file() {
-        println!(
-            "cargo:warning={} is missing: run `rt staticlib answers` first",
-            library.display()
-        );
-    }
     println!("cargo:rustc-link-search=native={}", folder.display());
-    println!("cargo:rustc-link-lib=static=answers");
+    for name in ["answers", "asked"] {
+        let library = folder.join(format!("lib{name}.a"));
+        println!("cargo:rerun-if-changed={}", library.display());
+        if !library.is_file() {
+            println!(
+                "cargo:warning={} is missing: run `bash tools/libraries` first",
+                library.display()
+            );
+        }
+        println!("cargo:rustc-link-lib=static={name}");
+    }
 }

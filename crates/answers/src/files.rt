@@ -5,14 +5,21 @@ ghost use lib.ListN.{length};
 ghost use Rattle.tree_file.specs.Files.{loaded, stored};
 ghost use Rattle.answers.specs.Plain.{loadedNumber};
 
-// tree_file::load. An answer is the refusal times 65,536, or the context times 8,192 and the count.
+// The refusal times 65,536, or the context times 8,192 and the count.
+fn number(answer: Loaded) -> u32
+    ensures { λ r. ⌜ r ≡ loadedNumber answer ⌝ }
+{
+    match answer {
+        Loaded::Refused(refusal) => 65536 * (refusal as u32),
+        Loaded::Accepted(context, count) => 8192 * (context as u32) + (count as u32),
+    }
+}
+
+// tree_file::load.
 #[no_mangle]
 pub extern "C" fn tezhukor_load(file: &[u8], table: &mut [u16]) -> u32
     ensures reply { λ r. ⌜ r ≡ loadedNumber (loaded (now (file .entry)) (length (now (table .entry)))) ⌝ }
     ensures table { λ r. ⌜ now (table .exit) ≡ stored (now (file .entry)) (now (table .entry)) ⌝ }
 {
-    match tree_file::load(file, table) {
-        Loaded::Refused(refusal) => 65536 * (refusal as u32),
-        Loaded::Accepted(context, count) => 8192 * (context as u32) + (count as u32),
-    }
+    number(tree_file::load(file, table))
 }

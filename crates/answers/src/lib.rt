@@ -1,19 +1,4 @@
-// For callers in Rust and C: what precedence.rs, classify.rs, fixup.rs and expr.rs say, by the number of a question, and the rows.
-pub mod in_context; // in_context.rt: what fixup.rs says of a node in a context
-pub mod contexts; // contexts.rt: the contexts that fixup.rs makes
-pub mod rows; // rows.rt: the rows of all nodes
+// For callers in Rust and C: tree files, the rows of a tree, the tokens of plain trees, and their readings.
 pub mod files; // files.rt: tree files
+pub mod rows; // rows.rt: the rows of all nodes
 pub mod plain; // plain.rt: the tokens of plain trees, and their readings
-pub mod handed; // handed.rt: what expr.rs hands down
-
-ghost use mathlib.Core.Path.{_≡_};
-ghost use Rattle.tree.specs.Trees.{treeAt};
-ghost use Rattle.questions.specs.Questions.{answered};
-
-// questions::answer.
-#[no_mangle]
-pub extern "C" fn tezhukor_answer(question: u16, table: &[u16], count: u16, node: u16) -> u16
-    ensures { λ r. ⌜ r ≡ answered question (treeAt (now (table .entry)) count node) ⌝ }
-{
-    questions::answer(question, table, count, node)
-}

@@ -4,7 +4,16 @@ use token_writer::Written;
 ghost use mathlib.Core.Path.{_≡_};
 ghost use lib.ListN.{length};
 ghost use Rattle.token_writer.specs.Writes.{answered, tokensAfter};
-ghost use Rattle.answers.specs.Plain.{writtenNumber, ReadNumber};
+ghost use Rattle.answers.specs.Plain.{writtenNumber, replyNumber, ReadNumber};
+
+fn written_number(answer: Written) -> u32
+    ensures { λ r. ⌜ r ≡ writtenNumber answer ⌝ }
+{
+    match answer {
+        Written::Refused(refusal) => 65536 * (refusal as u32),
+        Written::Tokens(stored) => stored as u32,
+    }
+}
 
 // token_writer::write.
 #[no_mangle]
@@ -12,9 +21,15 @@ pub extern "C" fn tezhukor_write(context: u16, count: u16, table: &[u16], tokens
     ensures reply { λ r. ⌜ r ≡ writtenNumber (answered context count (now (table .entry)) (length (now (tokens .entry)))) ⌝ }
     ensures tokens { λ r. ⌜ now (tokens .exit) ≡ tokensAfter context count (now (table .entry)) (now (tokens .entry)) ⌝ }
 {
-    match token_writer::write(context, count, table, tokens) {
-        Written::Refused(refusal) => 65536 * (refusal as u32),
-        Written::Tokens(stored) => stored as u32,
+    written_number(token_writer::write(context, count, table, tokens))
+}
+
+fn reply_number(answer: Reply) -> u32
+    ensures { λ r. ⌜ r ≡ replyNumber answer ⌝ }
+{
+    match answer {
+        Reply::Refused(refusal) => 65536 * (refusal as u32),
+        Reply::Nodes(stored) => stored as u32,
     }
 }
 
@@ -23,8 +38,5 @@ pub extern "C" fn tezhukor_write(context: u16, count: u16, table: &[u16], tokens
 pub extern "C" fn tezhukor_read(tokens: &[u16], table: &mut [u16]) -> u32
     ensures { λ r. ⌜ ReadNumber (now (tokens .entry)) (now (table .entry)) r (now (table .exit)) ⌝ }
 {
-    match token_reader::read(tokens, table) {
-        Reply::Refused(refusal) => 65536 * (refusal as u32),
-        Reply::Nodes(stored) => stored as u32,
-    }
+    reply_number(token_reader::read(tokens, table))
 }

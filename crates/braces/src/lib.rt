@@ -1,11 +1,11 @@
 // prettyplease's classify.rs: whether an expression or a type ends in a brace, each a walk over node numbers.
 use classify::ControlFlow;
 use classify::go_on;
+use shapes::shape_at;
 use tree::forms;
-use tree::shape::form_at;
-use tree::shape::shape_at;
 use tree::table::Operand;
 use tree::table::cell;
+use tree::table::form_at;
 ghost use mathlib.Core.Path.{_≡_};
 ghost use mathlib.Core.Bool.{false};
 ghost use Rattle.tree.specs.Trees.{treeAt};

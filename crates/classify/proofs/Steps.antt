@@ -8,7 +8,7 @@ use native.Mathlib.Decide.{decLe}
 use Rattle.tree.specs.Forms.{ExprMacro}
 use Rattle.tree.specs.Table.{detailAt}
 use Rattle.tree.specs.Trees.{Label, Tree, none, labelAt, treeAt}
-use Rattle.tree.specs.Shapes.{presence, formIn}
+use Rattle.tree.specs.Operands.{presence, formIn}
 use lib.Dec.{eqb}
 use borrow.Author.Tests.{ne-eqb}
 use Rattle.laws.specs.Choice.{pick}
@@ -16,7 +16,7 @@ use Rattle.laws.proofs.Choice.{pick-true, pick-false}
 use Rattle.tree.specs.declared.table.Operand.{Operand}
 use Rattle.tree.specs.Walks.{Ask, answer, first, walk, Step, ends, goes, stepBy, stepAt}
 use Rattle.tree.proofs.Unfold.{tree-zero, tree-past, unfolds}
-use Rattle.tree.proofs.Shapes.{form-in, form-none}
+use Rattle.tree.proofs.Matches.{form-in, form-none}
 use Rattle.tree.proofs.Walks.{leads}
 use Rattle.classify.specs.declared.ControlFlow.the-variants.{Break, Continue}
 use Rattle.classify.specs.Classify.{requiresComma, requiresSemi, lastTypeInPath, groupLabel}

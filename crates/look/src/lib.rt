@@ -1,11 +1,11 @@
 // What an expression looks like from outside: the tests that fixup.rs makes of it.
 use bools::both;
+use shapes::first_at;
+use shapes::second_at;
 use tree::forms;
-use tree::shape::first_at;
-use tree::shape::form_at;
-use tree::shape::second_at;
 use tree::table::Operand;
 use tree::table::cell;
+use tree::table::form_at;
 ghost use mathlib.Core.Path.{_≡_};
 ghost use mathlib.Core.Bool.{not};
 ghost use Rattle.tree.specs.Trees.{treeAt};

@@ -1,6 +1,6 @@
 // Trees numbered anew.
-use tree::level::larger;
-use tree::level::own_level;
+use labels::level::larger;
+use labels::level::own_level;
 use tree::table::cell;
 use tree::table::operand_number;
 ghost use mathlib.Core.Path.{_≡_};

@@ -1,7 +1,7 @@
 // Marks: what the pass over all nodes knows of a node when it comes to the node's owner. A mark is a kind and eight times
 // the levels below; a kind is 1 for an expression, 2 for a type, 3 or 4 for a link whose item is an expression or a type.
 use super::rows::fits;
-use tree::level::larger;
+use labels::level::larger;
 ghost use mathlib.Core.Path.{_≡_};
 ghost use mathlib.Core.Bool.{true};
 ghost use Prim.Native.Nat.{_≤_, _<_};

@@ -6,7 +6,7 @@ use native.Mathlib.Omega.{arith}
 use borrow.Author.Tests.{eq-eqb, ne-eqb}
 use Rattle.laws.proofs.Choice.{pick-true, pick-false}
 use Rattle.tree.specs.Forms.{anExpression, classOf}
-use Rattle.tree.specs.Shapes.{formIn}
+use Rattle.tree.specs.Operands.{formIn}
 use Rattle.text.specs.Growth.{Added}
 use Rattle.text.proofs.Growing.{added-more}
 use Rattle.parens.specs.Text.{lineOf, nodeText, linesOf}

@@ -5,7 +5,7 @@ use lib.Dec.{eqb}
 use lib.ListN.{take, drop, replicate}
 use Rattle.laws.specs.Choice.{pick}
 use Rattle.tree.specs.Forms.{anExpression, classOf}
-use Rattle.tree.specs.Shapes.{formIn}
+use Rattle.tree.specs.Operands.{formIn}
 use Rattle.tree.specs.Trees.{treeAt}
 use Rattle.tree_file.specs.declared.Loaded.{Loaded}
 use Rattle.tree_file.specs.declared.Loaded.the-variants.{Refused, Accepted}

@@ -1,11 +1,11 @@
 // Reads a tree file on standard input, and prints the count of its nodes and the row of each
 // expression, or the number of the refusal.
+use labels::form::class_of;
 use libc::STDIN_FILENO;
 use libc::STDOUT_FILENO;
 use text::put_head;
 use text::put_line;
-use tree::form::class_of;
-use tree::shape::form_at;
+use tree::table::form_at;
 use tree_file::Loaded;
 ghost use mathlib.Core.Path.{_≡_};
 ghost use Prim.Native.Nat.{_+_, _*_, _≤_};

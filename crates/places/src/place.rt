@@ -1,5 +1,5 @@
 // What may stand at the two operand places of a node, and whether an operand does not fit its place.
-use tree::form::class_of;
+use labels::form::class_of;
 use tree::forms;
 use tree::table::cell;
 ghost use mathlib.Core.Path.{_≡_};

@@ -1,12 +1,12 @@
 // prettyplease's precedence.rs: the precedences of expressions, loosest first.
+use shapes::first_at;
 use tree::forms;
-use tree::shape::first_at;
-use tree::shape::form_at;
 use tree::table::Operand;
 use tree::table::cell;
+use tree::table::form_at;
 ghost use mathlib.Core.Path.{_≡_};
 ghost use Rattle.tree.specs.Table.{attributesAt};
-ghost use Rattle.tree.specs.Shapes.{formIn};
+ghost use Rattle.tree.specs.Operands.{formIn};
 ghost use Rattle.tree.specs.Trees.{treeAt};
 ghost use Rattle.tree.specs.Walks.{isPresent, into, stepAt};
 ghost use Rattle.precedence.specs.declared.Precedence.the-variants.{Unambiguous};
@@ -99,7 +99,7 @@ fn closed_of(table: &[u16], count: u16, node: u16) -> Precedence
     ensures { λ r. ⌜ r ≡ closedBy (formIn (now (table .entry)) count node) (attributesAt (now (table .entry)) node) ⌝ }
 {
     let form = form_at(table, count, node);
-    if tree::form::class_of(form) != 1 {
+    if labels::form::class_of(form) != 1 {
         return Precedence::Unambiguous;
     }
     if form == forms::EXPR_VERBATIM {

@@ -1,10 +1,10 @@
 // The refusals 3, 4 and 6 to 11 of a context, a count and a node table, each a pass over the nodes, in their order.
+use labels::form::class_of;
+use labels::form::is_allowed;
+use labels::level::larger;
+use labels::level::own_level;
 use places::has_bad_operands;
-use tree::form::class_of;
-use tree::form::is_allowed;
 use tree::forms;
-use tree::level::larger;
-use tree::level::own_level;
 use tree::table::cell;
 use tree::table::operand_number;
 ghost use mathlib.Core.Path.{_≡_};

@@ -9,7 +9,7 @@ use Rattle.laws.specs.Choice.{pick}
 use Rattle.laws.proofs.Choice.{pick-true, pick-false}
 use Rattle.tree.specs.declared.table.Operand.the-variants.{Absent, Present}
 use Rattle.tree.specs.Trees.{Tree, none, operandAt, treeAt}
-use Rattle.tree.specs.Shapes.{presence}
+use Rattle.tree.specs.Operands.{presence}
 use Rattle.tree.specs.Walks.{atRoot}
 use Rattle.tree.proofs.Unfold.{tree-zero, tree-past, unfolds}
 use Rattle.tree.proofs.Walks.{present-above, absent-zero}

@@ -1,15 +1,15 @@
 // The arms of scan_right's `match`, and the operand that each goes on with.
 use bools::both;
 use precedence::Precedence;
+use shapes::first_at;
 use tree::forms;
-use tree::shape::first_at;
-use tree::shape::form_at;
 use tree::table::Operand;
 use tree::table::cell;
+use tree::table::form_at;
 use tree::table::operand_at;
 ghost use mathlib.Core.Path.{_≡_};
 ghost use Rattle.tree.specs.Trees.{treeAt};
-ghost use Rattle.tree.specs.Shapes.{presence};
+ghost use Rattle.tree.specs.Operands.{presence};
 ghost use Rattle.scan.specs.Scans.{plain, armOf};
 ghost use Rattle.tree.specs.Walks.{treeOf};
 ghost use Rattle.classify.specs.Classify.{leadingLabel};

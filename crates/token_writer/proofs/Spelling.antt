@@ -13,7 +13,7 @@ use Rattle.laws.specs.Choice.{pick, lookup}
 use Rattle.grammar.proofs.Tokens.{number-operator}
 use Rattle.laws.proofs.Keys.{numbersAt, givenAt, apartBefore, arm, Missed, rest}
 use Rattle.tree.specs.Table.{cellAt}
-use Rattle.tree.specs.Shapes.{presence}
+use Rattle.tree.specs.Operands.{presence}
 use Rattle.tree.specs.Trees.{labelAt, operandAt, treeAt}
 use Rattle.tree.specs.Walks.{isPresent}
 use Rattle.tree.proofs.Walks.{there}

@@ -1,3 +1,3 @@
 pub mod Unfold
 pub mod Walks
-pub mod Shapes
+pub mod Matches

@@ -11,7 +11,7 @@ use Rattle.laws.proofs.Choice.{pick-true, pick-false}
 use Rattle.tree.specs.declared.table.Operand.{Operand}
 use Rattle.tree.specs.declared.table.Operand.the-variants.{Absent, Present}
 use Rattle.tree.specs.Trees.{Label, Tree, none, node, labelAt, operandOf, operandAt, treeAt}
-use Rattle.tree.specs.Shapes.{presence}
+use Rattle.tree.specs.Operands.{presence}
 use Rattle.tree.specs.Walks.{Ask, answer, first, second, follow, isThere, walk, isPresent, treeOf, Step, ends, goes, into, stepBy, stepAt}
 use Rattle.tree.proofs.Unfold.{Standing, absent, present, standing, tree-zero, tree-past, unfolds}
 

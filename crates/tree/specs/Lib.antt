@@ -1,5 +1,5 @@
 pub mod Forms
 pub mod Table
 pub mod Trees
-pub mod Shapes
+pub mod Operands
 pub mod Walks

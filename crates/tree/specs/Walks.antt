@@ -7,7 +7,7 @@ use Rattle.laws.specs.Choice.{pick, Row, lookup}
 use Rattle.tree.specs.declared.table.Operand.{Operand}
 use Rattle.tree.specs.declared.table.Operand.the-variants.{Absent, Present}
 use Rattle.tree.specs.Trees.{Label, Tree, none, node, labelAt, operandAt, treeAt}
-use Rattle.tree.specs.Shapes.{presence}
+use Rattle.tree.specs.Operands.{presence}
 
 -- what a node does with a question
 pub data Ask (A : Type 0) : Type 0 where

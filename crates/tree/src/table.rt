@@ -2,7 +2,7 @@
 ghost use mathlib.Core.Path.{_≡_};
 ghost use Rattle.tree.specs.Table.{cellAt};
 ghost use Rattle.tree.specs.Trees.{operandAt};
-ghost use Rattle.tree.specs.Shapes.{presence};
+ghost use Rattle.tree.specs.Operands.{presence, formIn};
 
 // An operand of a node: its number, or nothing.
 pub enum Operand {
@@ -19,6 +19,19 @@ pub fn cell(table: &[u16], node: u16, place: u16) -> u16
     }
     let at = 5 * ((node - 1) as usize) + (place as usize);
     if at < table.len() { table[at] } else { 0 }
+}
+
+// The form of a node; 0 where there is no such node.
+pub fn form_at(table: &[u16], count: u16, node: u16) -> u16
+    ensures { λ r. ⌜ r ≡ formIn (now (table .entry)) count node ⌝ }
+{
+    if node == 0 {
+        return 0;
+    }
+    if node > count {
+        return 0;
+    }
+    cell(table, node, 0)
 }
 
 // The number of the operand at a place, 0 where it is absent.

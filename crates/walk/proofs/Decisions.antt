@@ -14,10 +14,10 @@ use Rattle.laws.proofs.Choice.{pick-true, pick-false, true-not-false}
 use Rattle.laws.proofs.Keys.{apartFrom, not-found, rowsBelow, past-rows}
 use Rattle.tree.specs.Forms.{anExpression, classOf}
 use Rattle.tree.specs.Trees.{Tree, none, node, labelAt, treeAt}
-use Rattle.tree.specs.Shapes.{formIn}
+use Rattle.tree.specs.Operands.{formIn}
 use Rattle.tree.specs.Walks.{atRoot}
 use Rattle.tree.proofs.Unfold.{tree-zero, tree-past, unfolds}
-use Rattle.tree.proofs.Shapes.{form-in, form-none}
+use Rattle.tree.proofs.Matches.{form-in, form-none}
 use Rattle.precedence.specs.declared.Precedence.{Precedence}
 use Rattle.precedence.specs.Precedences.{rankOf}
 use Rattle.fixup.specs.declared.context.FixupContext.{FixupContext}

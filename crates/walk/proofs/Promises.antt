@@ -6,7 +6,7 @@ use Rattle.laws.specs.Each.{some}
 use Rattle.tree.specs.Forms.{classOf, highestAttributes, details, highestDetail, allowed}
 use Rattle.places.specs.Places.{outputPlace, argumentsPlace, firstPlaces, firstPlace, secondPlaces, secondPlace, wrongClass, wrongList, wrongItem, wrongNext, isRequired, wrongPresent, wrongAt, badOperands}
 use Rattle.rules.specs.Refusals.{refusal3, refusal4, badNumbers, refusal6, refusal7, misplaced, badOrder, owners, badOwner, refusal8, empty, refusal9, plainBlock, badOutput, refusal10, refusal11, firstOf, nodeRefusals, refusal}
-use Rattle.tree.specs.Shapes.{presence}
+use Rattle.tree.specs.Operands.{presence}
 use Rattle.tree.specs.Table.{cellAt}
 use Rattle.tree.specs.Trees.{labelAt, operandOf, treeTo, treeAt, ownLevel, levels}
 use Rattle.tree.specs.Walks.{follow, walk, atRoot}

@@ -54,8 +54,9 @@ impl Decided {
     }
 }
 
-/// What differs where the tree goes in as a tree file, through tezhukor_load.
-pub fn differences_of_file(tree: &NodeTable, theirs: &[Row]) -> Vec<String> {
+/// What differs where the tree goes in as a tree file, through tezhukor_load, and its
+/// rows are decided in some contexts, each with the crate's rows.
+pub fn differences_of_file(tree: &NodeTable, theirs: &[(u16, Vec<Row>)]) -> Vec<String> {
     let mut cells = vec![0; tree.cells.len()];
     match ours::load(&table::write(tree), &mut cells) {
         Ok((context, count)) => {
@@ -63,7 +64,10 @@ pub fn differences_of_file(tree: &NodeTable, theirs: &[Row]) -> Vec<String> {
             if loaded != *tree {
                 return vec![format!("{loaded:?} is loaded")];
             }
-            Decided::new(context, &loaded, 0).differences(tree, theirs)
+            let differences = |(context, theirs): &(u16, Vec<Row>)| {
+                Decided::new(*context, &loaded, 0).differences(tree, theirs)
+            };
+            theirs.iter().flat_map(differences).collect()
         }
         Err(refusal) => vec![format!("refused by {refusal}")],
     }

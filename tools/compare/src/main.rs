@@ -3,8 +3,10 @@
 
 mod contexts;
 mod decided;
+mod digest;
 mod in_context;
 mod nests;
+mod record;
 mod rows;
 mod spines;
 
@@ -174,20 +176,24 @@ fn compare(
 const USAGE: &str = "usage:
   compare [SEED]           all questions and rows, on random and on small trees
   compare spines [FORMS]   rows of right spines of one to five forms, or of so many
+  compare record FORMS     the same of one, two or three forms, and writes crates/spines/data
   compare nests            rows of nests of 128 levels, with the crate's scans kept";
 
 fn main() -> ExitCode {
     oracle::command::run(USAGE, |words| match *words {
         [] => Some(compare_all(1)),
-        ["spines"] => Some((1..=spines::LONGEST).map(spines::compare).sum()),
-        ["spines", forms] => {
-            let forms = forms.parse().ok().filter(|forms| (1..=spines::LONGEST).contains(forms));
-            forms.map(spines::compare)
-        }
+        ["spines"] => Some((1..=spines::LONGEST).map(|forms| spines::compare(forms).0).sum()),
+        ["spines", forms] => number(forms, spines::LONGEST).map(|forms| spines::compare(forms).0),
+        ["record", forms] => number(forms, 3).map(record::record),
         ["nests"] => Some(nests::compare()),
         [seed] => seed.parse().ok().map(compare_all),
         _ => None,
     })
+}
+
+/// A number from 1 to the largest.
+fn number(text: &str, largest: u32) -> Option<u32> {
+    text.parse().ok().filter(|number| (1..=largest).contains(number))
 }
 
 /// All questions and rows, on the trees of a seed and on all small ones.

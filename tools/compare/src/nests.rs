@@ -16,7 +16,7 @@ const FAMILIES: [Family; 4] = [Family::Random, Family::Scans, Family::Spines, Fa
 const TREES: u64 = 50_000;
 
 /// Each so many-th spine of three forms is compared on as well.
-const STEP: usize = 97;
+const STEP: usize = 1_259;
 
 /// How often rows differ.
 pub fn compare() -> u64 {
@@ -24,7 +24,7 @@ pub fn compare() -> u64 {
     for family in FAMILIES {
         different += hold(family.name(), (0..TREES).map(|index| family.tree(1, index)));
     }
-    let three = Spines::with_some_forms(3);
+    let three = Spines::over_kinds(3);
     let some = (0..three.len()).step_by(STEP).map(|index| three.tree(0, index));
     different += hold("some spines of three forms", some);
     let short = NESTS.iter().flat_map(|nest| nest.doubling(LONGEST_NEST));

@@ -24,6 +24,7 @@ pub mod operator {
     pub const ADD: u16 = 0;
     pub const SUB: u16 = 1;
     pub const MUL: u16 = 2;
+    pub const REM: u16 = 4;
     pub const AND: u16 = 5;
     pub const OR: u16 = 6;
     pub const BIT_XOR: u16 = 7;
@@ -34,6 +35,7 @@ pub mod operator {
     pub const EQ: u16 = 12;
     pub const LT: u16 = 13;
     pub const LE: u16 = 14;
+    pub const GT: u16 = 17;
     pub const ADD_ASSIGN: u16 = 18;
 }
 

@@ -1,4 +1,4 @@
-//! Tezhukor's functions, from the static library of the crate `answers`.
+//! Tezhukor's functions, from the static libraries of the crates `answers` and `asked`.
 
 use oracle::direct::Context;
 

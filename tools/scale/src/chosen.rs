@@ -34,7 +34,7 @@ fn spines() -> [Spines; 5] {
         Spines { nexts: nexts.clone(), ends: ends.clone(), ..Spines::every(1) },
         // All ends.
         Spines { nexts: nexts.clone(), forms: FORMS.to_vec(), ..Spines::every(1) },
-        Spines { nexts: nexts.clone(), ends: ends.clone(), ..Spines::with_some_forms(2) },
+        Spines { nexts: nexts.clone(), ends: ends.clone(), ..Spines::with_few_ends(2) },
         Spines { nexts: nexts[..5].to_vec(), ends, ..Spines::over_arms(3) },
     ]
 }

@@ -5,11 +5,12 @@ use mathlib.Core.List.{[], _∷_}
 use Prim.Native.Nat.{ℕ}
 use lib.Dec.{eqb}
 use Rattle.tree.specs.declared.table.Operand.{Operand}
-use Rattle.tree.specs.Shapes.{shapeRows, firstOf, secondOf}
+use Rattle.shapes.specs.Shapes.{shapeRows, firstOf, secondOf}
 use Rattle.tree.specs.Trees.{Label, labelAt}
 use Rattle.tree.specs.Walks.{answer, into, treeOf}
 use Rattle.tree.proofs.Walks.{tree-of}
-use Rattle.tree.proofs.Shapes.{shape-is, form-arm, form-rest}
+use Rattle.tree.proofs.Matches.{form-arm, form-rest}
+use Rattle.shapes.proofs.Shapes.{shape-is}
 use Rattle.braces.specs.Braces.{typeTrailingBrace, braceRows, braceAsks}
 use Rattle.classify.specs.Steps.{flowBy}
 use Rattle.classify.specs.declared.ControlFlow.the-variants.{Break}

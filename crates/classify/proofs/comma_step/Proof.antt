@@ -2,10 +2,11 @@
 use mathlib.Core.Path.{refl, ap, _∙_}
 use mathlib.Core.Bool.{true}
 use mathlib.Core.List.{[], _∷_}
-use Rattle.tree.specs.Shapes.{shapeRows, firstOf}
+use Rattle.shapes.specs.Shapes.{shapeRows, firstOf}
 use Rattle.tree.specs.Trees.{Label}
 use Rattle.tree.specs.Walks.{answer, into}
-use Rattle.tree.proofs.Shapes.{shape-is, form-arm, form-rest}
+use Rattle.tree.proofs.Matches.{form-arm, form-rest}
+use Rattle.shapes.proofs.Shapes.{shape-is}
 use Rattle.classify.specs.Classify.{commaRows, commaAsks}
 use Rattle.classify.specs.Steps.{flowBy}
 use borrow.Author.Needs.{needs}

@@ -4,7 +4,7 @@ use Prim.Native.Nat.{ℕ}
 use lib.Dec.{eqb}
 use Rattle.tree.specs.Trees.{labelAt}
 use Rattle.tree.specs.Walks.{atRoot}
-use Rattle.tree.proofs.Shapes.{root-arm, root-rest}
+use Rattle.tree.proofs.Matches.{root-arm, root-rest}
 use Rattle.expr.specs.Handed.{grouped}
 use Rattle.expr.specs.Expr.{callRows, callTest}
 use borrow.Author.Needs.{needs}

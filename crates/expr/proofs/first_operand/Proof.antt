@@ -3,8 +3,9 @@ use mathlib.Core.Path.{ap, ap₂, _∙_}
 use mathlib.Core.Bool.{true, false}
 use mathlib.Core.List.{[], _∷_}
 use Rattle.tree.specs.Trees.{labelAt}
-use Rattle.tree.specs.Shapes.{shapeRows, firstOf}
-use Rattle.tree.proofs.Shapes.{shape-is, root-arm, root-rest}
+use Rattle.shapes.specs.Shapes.{shapeRows, firstOf}
+use Rattle.tree.proofs.Matches.{root-arm, root-rest}
+use Rattle.shapes.proofs.Shapes.{shape-is}
 use Rattle.precedence.specs.declared.Precedence.the-variants.{Jump, Assign, Range, Cast, Unambiguous}
 use Rattle.fixup.specs.Contexts.{NONE}
 use Rattle.expr.specs.Handed.{beforeOperator, beforeDot, atEnd, neither}

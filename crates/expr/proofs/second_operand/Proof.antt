@@ -2,7 +2,7 @@
 use mathlib.Core.Path.{ap, _∙_}
 use mathlib.Core.Bool.{true, false}
 use Rattle.tree.specs.Trees.{labelAt}
-use Rattle.tree.proofs.Shapes.{root-arm, root-rest}
+use Rattle.tree.proofs.Matches.{root-arm, root-rest}
 use Rattle.precedence.specs.declared.Precedence.the-variants.{Range}
 use Rattle.fixup.specs.Contexts.{NONE}
 use Rattle.expr.specs.Handed.{atEnd, neither}

@@ -3,10 +3,11 @@ use mathlib.Core.Path.{ap, _∙_}
 use mathlib.Core.Bool.{false}
 use mathlib.Core.List.{[], _∷_}
 use Rattle.tree.specs.declared.table.Operand.{Operand}
-use Rattle.tree.specs.Shapes.{shapeRows, secondOf}
+use Rattle.shapes.specs.Shapes.{shapeRows, secondOf}
 use Rattle.tree.specs.Walks.{treeOf}
 use Rattle.tree.proofs.Walks.{tree-of}
-use Rattle.tree.proofs.Shapes.{shape-is, root-arm, root-rest}
+use Rattle.tree.proofs.Matches.{root-arm, root-rest}
+use Rattle.shapes.proofs.Shapes.{shape-is}
 use Rattle.classify.specs.Classify.{trailingPath}
 use Rattle.look.specs.Looks.{castToPathRows}
 use borrow.Author.Needs.{needs}

@@ -4,7 +4,7 @@ use mathlib.Core.Bool.{false, _&&_}
 use Prim.Native.Nat.{ℕ}
 use lib.Dec.{eqb}
 use Rattle.tree.specs.Trees.{labelAt}
-use Rattle.tree.proofs.Shapes.{root-arm, root-rest}
+use Rattle.tree.proofs.Matches.{root-arm, root-rest}
 use Rattle.look.specs.Looks.{plainBlockRows}
 use borrow.Author.Needs.{needs}
 use Rattle.look.proofs.is_plain_block.Statement.{statement}

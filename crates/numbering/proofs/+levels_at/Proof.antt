@@ -13,8 +13,8 @@ use borrow.Fn.PlainCycle.{Measures, is, falls, and}
 use Rattle.numbering.proofs.levels_at.Reads as levels-at
 use Rattle.numbering.proofs.levels_at.Kinds as levels-at-kinds
 use Rattle.numbering.proofs.+levels_at.Lts-levels_at as levels-at-lts
-use Rattle.tree.proofs.level.larger.Reads as larger-reads
-use Rattle.tree.proofs.level.own_level.Reads as own-level-reads
+use Rattle.labels.proofs.level.larger.Reads as larger-reads
+use Rattle.labels.proofs.level.own_level.Reads as own-level-reads
 use Rattle.tree.proofs.table.operand_number.Reads as operand-number-reads
 use Rattle.numbering.proofs.+levels_at.{statement}
 use Rattle.numbering.proofs.+levels_at.Tie.{close}

@@ -2,18 +2,19 @@
 use mathlib.Core.Path.{refl, sym, ap, _∙_}
 use mathlib.Core.List.{[], _∷_}
 use Rattle.tree.specs.declared.table.Operand.{Operand}
-use Rattle.tree.specs.Shapes.{shapeRows, firstOf}
+use Rattle.shapes.specs.Shapes.{shapeRows, firstOf}
 use Rattle.tree.specs.Trees.{Label, labelAt}
 use Rattle.tree.specs.Walks.{answer, into, isPresent}
-use Rattle.tree.proofs.Shapes.{shape-is, form-arm, form-rest}
+use Rattle.tree.proofs.Matches.{form-arm, form-rest}
+use Rattle.shapes.proofs.Shapes.{shape-is}
 use Rattle.precedence.specs.Precedences.{jumpBy, ofRows, closedBy, ofAsks}
 use Rattle.precedence.specs.declared.Precedence.the-variants.{Unambiguous}
 use Rattle.precedence.specs.declared.Level.the-variants.{Of}
 use Rattle.precedence.specs.Steps.{levelBy}
 use Rattle.tree.proofs.Walks.{there}
-use Rattle.tree.proofs.Shapes.{form-in, form-none}
+use Rattle.tree.proofs.Matches.{form-in, form-none}
 use Rattle.tree.specs.Table.{attributesAt}
-use Rattle.tree.specs.Shapes.{formIn}
+use Rattle.tree.specs.Operands.{formIn}
 use Rattle.tree.specs.Walks.{ends}
 use Rattle.precedence.proofs.Steps.{closed-none}
 use borrow.Author.Needs.{needs}

@@ -35,8 +35,8 @@ use Rattle.walk.proofs.+walk_alone+walk_first+walk_from+walk_operands.L
 use Rattle.expr.proofs.first_operand.Reads as first-operand-reads
 use Rattle.expr.proofs.second_operand.Reads as second-operand-reads
 use Rattle.fixup.proofs.context.FixupContext.none.Reads as none-reads
-use Rattle.tree.proofs.form.class_of.Reads as class-of-reads
-use Rattle.tree.proofs.shape.form_at.Reads as form-at-reads
+use Rattle.labels.proofs.form.class_of.Reads as class-of-reads
+use Rattle.tree.proofs.table.form_at.Reads as form-at-reads
 use Rattle.tree.proofs.table.operand_number.Reads as operand-number-reads
 use Rattle.row.proofs.decision_of.Reads as decision-of-reads
 use Rattle.row.proofs.lone_row.Reads as lone-row-reads

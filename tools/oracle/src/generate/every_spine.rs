@@ -2,8 +2,9 @@
 //! operand of the one before, over an end, left of a next operator or of nothing.
 
 use super::dice::Dice;
-use super::draft::Order;
+use super::draft::{Label, Order};
 use super::nests::LONGEST_PATH;
+use super::piece::Piece;
 use super::small::every_stem;
 use super::spines::{ENDS, NEXTS};
 use super::stem::{planted, Fill, Stem, NAME, TYPE};
@@ -27,20 +28,14 @@ impl Spines {
         Spines { nexts: nexts(), forms: every_form(), length, ends: every_end() }
     }
 
-    /// The same with some ends, each form of document 01 among them.
-    pub fn with_some_ends(length: u32) -> Self {
-        Spines { ends: some_ends(), ..Spines::every(length) }
+    /// The same with one form for each kind that the crate's files tell apart.
+    pub fn over_kinds(length: u32) -> Self {
+        Spines { forms: kinds(), ..Spines::every(length) }
     }
 
-    /// The same with one form for each kind of behaviour, one operator of each
-    /// level among them.
-    pub fn with_some_forms(length: u32) -> Self {
-        Spines { forms: SOME_FORMS.to_vec(), ..Spines::with_some_ends(length) }
-    }
-
-    /// The same with a few ends, those that differ for scan_right.
+    /// The same with fewer kinds, and a few ends, those that differ for scan_right.
     pub fn with_few_ends(length: u32) -> Self {
-        Spines { ends: FEW_ENDS.to_vec(), ..Spines::with_some_forms(length) }
+        Spines { forms: SOME_KINDS.to_vec(), ends: FEW_ENDS.to_vec(), ..Spines::every(length) }
     }
 
     /// The same with one form for each arm of scan_right.
@@ -50,8 +45,12 @@ impl Spines {
 
     /// How many spines there are, without contexts.
     pub fn len(&self) -> u64 {
-        let forms = (self.forms.len() as u64).pow(self.length);
-        self.nexts.len() as u64 * forms * self.ends.len() as u64
+        self.blocks() * self.nexts.len() as u64 * self.ends.len() as u64
+    }
+
+    /// A block is the spines of the same forms.
+    pub fn blocks(&self) -> u64 {
+        (self.forms.len() as u64).pow(self.length)
     }
 
     /// Whether there is no spine at all.
@@ -78,9 +77,26 @@ impl Spines {
         next.into_iter().chain(forms).chain([end]).collect()
     }
 
-    /// The spine with a number, in a context, its nodes numbered as printed.
+    /// The spine with a number, in a context, its nodes numbered as its stems follow
+    /// each other.
     pub fn tree(&self, context: u16, index: u64) -> NodeTable {
-        numbered(context, self.stems(index))
+        let pieces: Vec<Piece> = self.stems(index).into_iter().map(Piece::of).collect();
+        Piece::table(context, &pieces.iter().collect::<Vec<_>>())
+    }
+
+    /// The spines of a block, by number from the block's first on.
+    pub fn block(&self, block: u64) -> impl Iterator<Item = NodeTable> {
+        let in_block = self.nexts.len() as u64 * self.ends.len() as u64;
+        let (_, forms, _) = self.parts(block * in_block);
+        let forms: Vec<Piece> = forms.into_iter().map(Piece::of).collect();
+        let nexts: Vec<Piece> = self.nexts.iter().copied().map(Piece::of_some).collect();
+        let ends: Vec<Piece> = self.ends.iter().copied().map(Piece::of).collect();
+        let spine = move |next: usize, end: usize| {
+            let pieces = [&nexts[next]].into_iter().chain(&forms).chain([&ends[end]]);
+            Piece::table(0, &pieces.collect::<Vec<_>>())
+        };
+        let (nexts, ends) = (self.nexts.len(), self.ends.len());
+        (0..nexts * ends).map(move |at| spine(at / ends, at % ends))
     }
 
     /// The spine with a number, its forms by turns as often as a path may hold them.
@@ -132,7 +148,7 @@ fn is_gone_through(stem: Stem) -> bool {
 
 /// All stems at which scan_right stops, with names for their operands.
 fn every_end() -> Vec<Stem> {
-    let mut ends = some_ends();
+    let mut ends = ENDS.to_vec();
     for stem in every_stem().into_iter().filter(|&stem| !is_gone_through(stem)) {
         if stem.named().holes() == 0 && !ends.contains(&stem.named()) {
             ends.push(stem.named());
@@ -140,27 +156,6 @@ fn every_end() -> Vec<Stem> {
     }
     ends
 }
-
-/// The ends of random spines, and what they leave out.
-fn some_ends() -> Vec<Stem> {
-    ENDS.into_iter().chain(OTHER_ENDS).collect()
-}
-
-const OTHER_ENDS: [Stem; 13] = [
-    Stem::leaf(ARRAY, 0, 0),
-    Stem::leaf(FOR_LOOP, 2, 1),
-    Stem::leaf(INFER, 0, 0),
-    Stem::leaf(LOOP, 0, 0),
-    Stem::leaf(MACRO, 2, 1),
-    Stem::leaf(REPEAT, 1, 0),
-    Stem::leaf(VERBATIM, 0, 0),
-    Stem::leaf(WHILE, 0, 0),
-    Stem::leaf(YIELD, 2, 0),
-    Stem::one(AWAIT, 0, 0).named(),
-    Stem::one(PAREN, 0, 0).named(),
-    Stem::one(PAREN, 2, 0).named(),
-    Stem::two(INDEX, 0, 0).named(),
-];
 
 /// What differs for scan_right.
 const FEW_ENDS: [Stem; 7] = [
@@ -173,8 +168,49 @@ const FEW_ENDS: [Stem; 7] = [
     Stem::new(CAST, 0, 0, [NAME, TYPE]),
 ];
 
-/// One form for each kind of behaviour.
-const SOME_FORMS: [Stem; 25] = [
+/// Whether the crate's files tell a form from a kind. A right operand sees the level of
+/// a Binary operator and not which one it is; of attributes only whether there are any,
+/// and that only in Assign, Binary, Range and Group; and nothing of other details but the
+/// label of a Break.
+fn is_like(stem: Stem, kind: Stem) -> bool {
+    let seen = |stem: Stem| {
+        let Label { form, attributes, detail } = stem.label;
+        let attributed = matches!(form, ASSIGN | BINARY | RANGE | GROUP) && attributes != 0;
+        let detail = match form {
+            BINARY => level(detail),
+            BREAK => detail,
+            _ => 0,
+        };
+        (form, attributed, detail, stem.fills)
+    };
+    seen(stem) == seen(kind)
+}
+
+/// One form for each kind that the crate's files tell apart.
+fn kinds() -> Vec<Stem> {
+    let mut kinds: Vec<Stem> = Vec::new();
+    for form in every_form() {
+        if !kinds.iter().any(|&kind| is_like(form, kind)) {
+            kinds.push(form);
+        }
+    }
+    kinds
+}
+
+/// The first operator of an operator's level.
+fn level(operator: u16) -> u16 {
+    match operator {
+        ADD..=SUB => ADD,
+        MUL..=REM => MUL,
+        SHL..=SHR => SHL,
+        EQ..=GT => EQ,
+        ADD_ASSIGN.. => ADD_ASSIGN,
+        alone => alone,
+    }
+}
+
+/// One form for each kind of behaviour, most of them without attributes.
+const SOME_KINDS: [Stem; 25] = [
     Stem::right(ASSIGN, 0, 0),
     Stem::right(BINARY, 0, ADD_ASSIGN),
     Stem::right(BINARY, 0, OR),

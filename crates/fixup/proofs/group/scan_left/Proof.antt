@@ -3,11 +3,12 @@ use mathlib.Core.Path.{sym, ap, _∙_}
 use mathlib.Core.Bool.{Bool, true, not, _||_}
 use mathlib.Core.List.{[], _∷_}
 use Rattle.tree.specs.declared.table.Operand.{Operand}
-use Rattle.tree.specs.Shapes.{shapeRows, firstOf}
+use Rattle.shapes.specs.Shapes.{shapeRows, firstOf}
 use Rattle.tree.specs.Trees.{labelAt}
 use Rattle.tree.specs.Walks.{isPresent}
 use Rattle.tree.proofs.Walks.{there}
-use Rattle.tree.proofs.Shapes.{shape-is, root-arm, root-rest}
+use Rattle.tree.proofs.Matches.{root-arm, root-rest}
+use Rattle.shapes.proofs.Shapes.{shape-is}
 use Rattle.fixup.specs.Fixup.{leftOfBinary, scanLeftRows, scanLeft}
 use Rattle.precedence.specs.declared.Precedence.the-variants.{Assign}
 use Rattle.precedence.specs.Precedences.{below, ofBinop}

@@ -5,10 +5,11 @@ use mathlib.Core.List.{[], _∷_}
 use Prim.Native.Nat.{ℕ}
 use lib.Dec.{eqb}
 use Rattle.tree.specs.declared.table.Operand.{Operand}
-use Rattle.tree.specs.Shapes.{shapeRows, firstOf}
+use Rattle.shapes.specs.Shapes.{shapeRows, firstOf}
 use Rattle.tree.specs.Trees.{labelAt}
 use Rattle.tree.specs.Walks.{treeOf}
-use Rattle.tree.proofs.Shapes.{shape-is, root-arm, root-rest}
+use Rattle.tree.proofs.Matches.{root-arm, root-rest}
+use Rattle.shapes.proofs.Shapes.{shape-is}
 use Rattle.tree.proofs.Walks.{tree-of}
 use Rattle.precedence.specs.declared.Precedence.{Precedence}
 use Rattle.precedence.specs.Precedences.{ofBinop}

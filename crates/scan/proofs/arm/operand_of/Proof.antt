@@ -1,5 +1,5 @@
 -- `scan::arm::operand_of` meets its contract. Assumes nothing.
-use Rattle.tree.specs.Shapes.{presence}
+use Rattle.tree.specs.Operands.{presence}
 use borrow.Author.Needs.{needs}
 use Rattle.scan.proofs.arm.operand_of.Statement.{statement}
 use Rattle.scan.proofs.arm.operand_of.Tie as tie

@@ -3,7 +3,7 @@ use mathlib.Core.Path.{_≡_, refl, sym, ap, _∙_}
 use Prim.Native.Nat.{ℕ, zero, suc}
 use borrow.Author.Needs.{needs}
 use Rattle.tree.specs.declared.table.Operand.the-variants.{Absent, Present}
-use Rattle.tree.specs.Shapes.{presence}
+use Rattle.tree.specs.Operands.{presence}
 use Rattle.tree.proofs.table.operand_at.Statement.{statement}
 use Rattle.tree.proofs.table.operand_at.Tie as tie
 

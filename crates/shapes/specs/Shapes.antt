@@ -1,0 +1,38 @@
+-- The shape of a node. ("a node's shape holds, per place, an operand present or absent")
+use mathlib.Core.List.{List, [], _∷_}
+use Prim.Native.Nat.{ℕ}
+use Rattle.laws.specs.Choice.{Row, row, lookup}
+use Rattle.tree.specs.declared.table.Operand.{Operand}
+use Rattle.tree.specs.declared.table.Operand.the-variants.{Absent}
+use Rattle.shapes.specs.declared.Shape.{Shape}
+use Rattle.shapes.specs.declared.Shape.the-variants.{Closed, One, Two}
+use Rattle.tree.specs.Forms.{ExprAssign, ExprAwait, ExprBinary, ExprBreak, ExprCall, ExprCast, ExprClosure, ExprField, ExprGroup, ExprIndex, ExprLet, ExprMethodCall, ExprParen, ExprRange, ExprRawAddr, ExprReference, ExprReturn, ExprTry, ExprUnary, ExprYield, TypeFnPtr, TypeImplTrait, TypePath, TypePtr, TypeReference, TypeTraitObject, Link}
+use Rattle.tree.specs.Trees.{operandAt}
+use Rattle.tree.specs.Operands.{presence, formIn}
+
+-- document 01, 'Operands': the forms that have a place for two operands, and those that have one; all others are closed
+unfoldable pub shapeRows : Operand → Operand → List (Row Shape)
+shapeRows first second =
+    row (ExprAssign ∷ ExprBinary ∷ ExprCall ∷ ExprIndex ∷ ExprMethodCall ∷ ExprRange ∷ []) (Two first second) ∷
+    row (ExprCast ∷ TypePath ∷ Link ∷ []) (Two first second) ∷
+    row
+    (ExprAwait ∷ ExprBreak ∷ ExprClosure ∷ ExprField ∷ ExprGroup ∷ ExprLet ∷ ExprParen ∷ ExprRawAddr ∷ ExprReturn ∷ ExprTry ∷ ExprUnary ∷ ExprYield ∷ [])
+    (One first) ∷
+    row (ExprReference ∷ []) (One first) ∷
+    row (TypeFnPtr ∷ TypeImplTrait ∷ TypePtr ∷ TypeTraitObject ∷ []) (One first) ∷
+    row (TypeReference ∷ []) (One first) ∷
+    []
+
+unfoldable pub shapeAt : List ℕ → ℕ → ℕ → Shape
+shapeAt cells count i =
+    lookup (shapeRows (presence (operandAt cells count i 3)) (presence (operandAt cells count i 4))) Closed (formIn cells count i)
+
+unfoldable pub firstOf : Shape → Operand
+firstOf Closed = Absent
+firstOf (One a) = a
+firstOf (Two a b) = a
+
+unfoldable pub secondOf : Shape → Operand
+secondOf Closed = Absent
+secondOf (One a) = Absent
+secondOf (Two a b) = b
