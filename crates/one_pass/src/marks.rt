@@ -47,7 +47,7 @@ fn mark_by(row: u16, one: u16, two: u16) -> u16
 }
 
 // The mark of a node with this row, these numbers and operands of these marks; 0 where a rule is broken, or there is no row.
-pub fn mark_with(row: u16, attributes: u16, detail: u16, one: u16, two: u16) -> u16
+pub(crate) fn mark_with(row: u16, attributes: u16, detail: u16, one: u16, two: u16) -> u16
     requires { ⌜ (one ≤ 40000) × (two ≤ 40000) ⌝ }
     ensures { λ r. ⌜ ((r ≡ 0 → ⊥) → Opens row attributes detail one × Closes row one two r) ⌝ }
 {
@@ -58,7 +58,7 @@ pub fn mark_with(row: u16, attributes: u16, detail: u16, one: u16, two: u16) -> 
 }
 
 // The mark of an operand, which is 0 from then on; 0 for an operand that is absent. Nodes that have not been looked at have 0.
-pub fn take(marks: &mut [u16], count: u16, operand: u16) -> u16
+pub(crate) fn take(marks: &mut [u16], count: u16, operand: u16) -> u16
     requires { ⌜ count < length (now marks) ⌝ }
     ensures { λ r. ⌜ Takes count operand (now (marks .entry)) r (now (marks .exit)) ⌝ }
 {

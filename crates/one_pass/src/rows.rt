@@ -16,7 +16,7 @@ ghost use Rattle.one_pass.specs.Rows.{fitsBy, suits, RowAt};
 const KINDS: u64 = 0x0611_0905_0304_0201;
 
 // Whether a kind fits a place with this code.
-pub fn fits(code: u16, kind: u16) -> bool
+pub(crate) fn fits(code: u16, kind: u16) -> bool
     requires { ⌜ (code < 8) × (kind < 8) ⌝ }
     ensures { λ r. ⌜ (r ≡ true → fitsBy code kind ≡ true) ⌝ }
 {
@@ -102,7 +102,7 @@ fn bounds_row(detail: u16) -> u16
 }
 
 // The row of a node whose form alone does not say it; 0 where there is none.
-pub fn rare_row(table: &[u16], node: u16, form: u16, detail: u16) -> u16
+pub(crate) fn rare_row(table: &[u16], node: u16, form: u16, detail: u16) -> u16
     requires { ⌜ (form ≡ formAt (now table) node) × (detail ≡ detailAt (now table) node) ⌝ }
     ensures { λ r. ⌜ ((r ≡ 0 → ⊥) → RowAt (now (table .entry)) node r) ⌝ }
 {

@@ -49,14 +49,14 @@ fn same(table: &[u16; TABLE], cells: &[u8; BYTES], n: usize) -> bool
 }
 
 // The same, and whether all others keep the pattern.
-pub fn written(table: &[u16; TABLE], cells: &[u8; BYTES], n: usize) -> bool
+pub(crate) fn written(table: &[u16; TABLE], cells: &[u8; BYTES], n: usize) -> bool
     requires { ⌜ n ≤ 20_480 ⌝ }
 {
     same(table, cells, n) && keeps(table, n)
 }
 
 // Whether the first `n` cells are zeros.
-pub fn zeros(table: &[u16; TABLE], n: usize) -> bool
+pub(crate) fn zeros(table: &[u16; TABLE], n: usize) -> bool
     requires { ⌜ n ≤ 20_480 ⌝ }
 {
     let mut i = 0;

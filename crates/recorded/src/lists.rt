@@ -52,7 +52,7 @@ fn found(answer: Reply, h: Header) -> bool {
 }
 
 // Whether a token list reads as recorded, `n` cells of the table being written.
-pub fn reads(
+pub(crate) fn reads(
     file: &[u8; FILE],
     size: usize,
     lent: usize,

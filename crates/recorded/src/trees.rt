@@ -38,7 +38,7 @@ fn loaded(answer: Loaded, h: Header) -> bool {
 }
 
 // Whether a file loads as recorded, `n` cells of the table being written.
-pub fn loads(
+pub(crate) fn loads(
     file: &[u8; FILE],
     size: usize,
     lent: usize,
@@ -101,7 +101,7 @@ fn decide(
 
 // Whether the rows of a file are as recorded, `n` cells of the rows being written, and three of the scratch for
 // each five.
-pub fn decides(
+pub(crate) fn decides(
     file: &[u8; FILE],
     size: usize,
     lent: usize,
@@ -159,7 +159,7 @@ fn wrote(answer: Written, h: Header) -> bool {
 }
 
 // Whether the tokens of a file are as recorded, `n` being written.
-pub fn writes(
+pub(crate) fn writes(
     file: &[u8; FILE],
     size: usize,
     lent: usize,

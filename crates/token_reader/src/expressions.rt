@@ -95,7 +95,7 @@ fn attempt(tokens: &[u16], own: &mut [u16], left: Parsed) -> Parsed
 }
 
 // An expression of level `min` or more that starts at `at`.
-pub fn expr(tokens: &[u16], own: &mut [u16], at: usize, free: u16, min: u16) -> Parsed
+pub(crate) fn expr(tokens: &[u16], own: &mut [u16], at: usize, free: u16, min: u16) -> Parsed
     requires { ⌜ Ready (now tokens) (now own) at free × (1 ≤ min) ⌝ }
     ensures { λ r. ⌜ ExprAt (now (tokens .entry)) (now (own .entry)) (now (own .exit)) at free min r ⌝ }
 {

@@ -4,7 +4,14 @@ ghost use lib.ListN.{length};
 ghost use Rattle.token_reader.specs.Pieces.{Stored};
 
 // Takes the last free node, and says how many are then left. No node has attributes.
-pub fn store(own: &mut [u16], free: u16, form: u16, detail: u16, first: u16, second: u16) -> u16
+pub(crate) fn store(
+    own: &mut [u16],
+    free: u16,
+    form: u16,
+    detail: u16,
+    first: u16,
+    second: u16,
+) -> u16
     requires { ⌜ (1 ≤ free) × (5 * free ≤ length (now own)) ⌝ }
     ensures { λ r. ⌜ Stored (now (own .entry)) (now (own .exit)) free r form detail first second ⌝ }
 {

@@ -13,7 +13,7 @@ pub fn code_at(tokens: &[u16], at: usize) -> u16
 }
 
 // The lowest level of an operand that stands after.
-pub fn lowest_after(level: u16) -> u16
+pub(crate) fn lowest_after(level: u16) -> u16
     requires { ⌜ level ≤ 15 ⌝ }
     ensures { λ r. ⌜ r ≡ afterOf level ⌝ }
 {

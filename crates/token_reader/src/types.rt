@@ -21,7 +21,7 @@ fn sign(tokens: &[u16], own: &mut [u16], at: usize, free: u16, form: u16) -> Pie
 }
 
 // The type that starts at `at`.
-pub fn ty(tokens: &[u16], own: &mut [u16], at: usize, free: u16) -> Piece
+pub(crate) fn ty(tokens: &[u16], own: &mut [u16], at: usize, free: u16) -> Piece
     requires { ⌜ Ready (now tokens) (now own) at free ⌝ }
     ensures { λ r. ⌜ TypeAt (now (tokens .entry)) (now (own .entry)) (now (own .exit)) at free r ⌝ }
 {

@@ -2,7 +2,7 @@
 
 use oracle::direct::Context;
 
-/// The questions, by their numbers in `crates/answers/specs/Questions.antt`.
+/// The questions, by their numbers in `crates/questions/specs/Questions.antt`.
 #[derive(Copy, Clone, PartialEq, Eq, Debug)]
 pub enum Question {
     PrecedenceOf,

@@ -1,0 +1,15 @@
+-- digit is below its base.
+use native.Mathlib.Nat.{mod-lt}
+use native.Mathlib.Omega.{arith}
+use borrow.Author.Needs.{needs}
+use Rattle.spines.proofs.digit.Statement.{statement}
+use Rattle.spines.proofs.digit.Tie as tie
+
+rem-result : tie.Need-rem-result
+rem-result c = search needs
+
+returns : tie.Need-returns
+returns c = omega (arith, mod-lt (c .args .number) {m = c .args .base} (omega arith))
+
+pub digit-spec : {M : Type 1} → statement M
+digit-spec = tie.close (tie.spec rem-result returns)

@@ -1,0 +1,111 @@
+// Stems, and the tables of spines that are put together from them.
+ghost use Prim.Native.Nat.{_+_, _<_, _≤_};
+
+// The next operators, with one for none; the ends; the forms with a right operand; and one of these for each kind.
+pub const NEXTS: usize = 42;
+
+pub const ENDS: usize = 293;
+
+pub const FORMS: usize = 141;
+
+pub const KINDS: usize = 37;
+
+// A stem's bytes: how many nodes it has, four at the most, and five bytes a node, as in a node table. Operands have their
+// numbers among the stem's own nodes.
+const STEM: usize = 21;
+
+// The bytes of all stems.
+pub const BYTES: usize = 10_773;
+
+// The operand whose place the next stem takes.
+const BELOW: usize = 255;
+
+// The cells of a table of five stems.
+pub const CELLS: usize = 100;
+
+// A byte as a number to count with.
+fn wide(b: u8) -> usize
+    ensures { λ r. ⌜ r ≤ 255 ⌝ }
+{
+    b as usize
+}
+
+// A byte of the stems; 0 behind them.
+fn byte(stems: &[u8; BYTES], at: usize) -> usize
+    ensures { λ r. ⌜ r ≤ 255 ⌝ }
+{
+    if at < BYTES { wide(stems[at]) } else { 0 }
+}
+
+// The number of an operand, where its stem of so many nodes stands behind others.
+fn operand(number: usize, nodes: usize, before: usize) -> usize
+    requires { ⌜ number ≤ 255 ⌝ }
+    requires { ⌜ nodes ≤ 4 ⌝ }
+    requires { ⌜ before ≤ 16 ⌝ }
+    ensures { λ r. ⌜ r ≤ 271 ⌝ }
+{
+    if number == 0 {
+        0
+    } else if number == BELOW {
+        before + nodes + 1
+    } else {
+        before + number
+    }
+}
+
+// Lays a node of a stem, whose bytes begin at `at`, into the cells from `to` on.
+fn lay_node(
+    stems: &[u8; BYTES],
+    at: usize,
+    cells: &mut [u16; CELLS],
+    to: usize,
+    nodes: usize,
+    before: usize,
+)
+    requires { ⌜ at ≤ 10_000_000 ⌝ }
+    requires { ⌜ to ≤ 95 ⌝ }
+    requires { ⌜ nodes ≤ 4 ⌝ }
+    requires { ⌜ before ≤ 16 ⌝ }
+{
+    cells[to] = byte(stems, at) as u16;
+    cells[to + 1] = byte(stems, at + 1) as u16;
+    cells[to + 2] = byte(stems, at + 2) as u16;
+    cells[to + 3] = operand(byte(stems, at + 3), nodes, before) as u16;
+    cells[to + 4] = operand(byte(stems, at + 4), nodes, before) as u16;
+}
+
+// How many nodes a stem has.
+fn nodes_of(stems: &[u8; BYTES], stem: usize) -> usize
+    requires { ⌜ stem ≤ 1_000 ⌝ }
+    ensures { λ r. ⌜ r ≤ 4 ⌝ }
+{
+    let nodes = byte(stems, STEM * stem);
+    if nodes < 4 { nodes } else { 4 }
+}
+
+// Lays a stem behind the nodes that stand in the table, and answers how many then do.
+pub(crate) fn lay(
+    stems: &[u8; BYTES],
+    stem: usize,
+    cells: &mut [u16; CELLS],
+    before: usize,
+) -> usize
+    requires { ⌜ stem ≤ 1_000 ⌝ }
+    requires { ⌜ before ≤ 16 ⌝ }
+    ensures { λ r. ⌜ r ≤ before + 4 ⌝ }
+{
+    let nodes = nodes_of(stems, stem);
+    let mut i = 0;
+    while i < nodes {
+        lay_node(
+            stems,
+            STEM * stem + 1 + 5 * i,
+            cells,
+            5 * (before + i),
+            nodes,
+            before,
+        );
+        i += 1;
+    }
+    before + nodes
+}
