@@ -3,7 +3,7 @@ use cells::context_answer;
 use pack::context_of;
 use pack::precedence_of;
 ghost use mathlib.Core.Path.{_≡_};
-ghost use Rattle.pack.specs.Cells.{ofRank, contextOf};
+ghost use Rattle.pack.specs.FromCells.{ofRank, contextOf};
 ghost use Rattle.cells.specs.CellQuestions.{contextAnswered};
 ghost use Rattle.asked.specs.Asked.{isYes};
 

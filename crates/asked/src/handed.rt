@@ -3,7 +3,7 @@ use cells::handed_answer;
 use pack::context_of;
 ghost use mathlib.Core.Path.{_≡_};
 ghost use Rattle.tree.specs.Trees.{treeAt};
-ghost use Rattle.pack.specs.Cells.{contextOf};
+ghost use Rattle.pack.specs.FromCells.{contextOf};
 ghost use Rattle.cells.specs.CellQuestions.{handedAnswered};
 
 // cells::handed_answer, with the owner's own context, NONE where it has an outer pair, as three cells.

@@ -6,7 +6,7 @@ use scan::Scan;
 use scan::right::scan_right;
 ghost use mathlib.Core.Path.{_≡_};
 ghost use Rattle.tree.specs.Trees.{treeAt};
-ghost use Rattle.pack.specs.Cells.{ofRank, contextOf};
+ghost use Rattle.pack.specs.FromCells.{ofRank, contextOf};
 ghost use Rattle.questions.specs.Questions.{fixupAnswered};
 ghost use Rattle.scan.specs.Scans.{scanNumber};
 ghost use Rattle.asked.specs.Asked.{scanAnswered};

@@ -11,7 +11,8 @@ use Rattle.laws.proofs.Choice.{pick-true, pick-false, or-here, or-next}
 use Rattle.tree.specs.Trees.{Tree, levels}
 use Rattle.numbering.specs.declared.Renumbered.{Renumbered}
 use Rattle.numbering.specs.declared.Renumbered.the-variants.{TooLarge, TooShort, Nodes}
-use Rattle.numbering.specs.Numbered.{size, cellsFrom, numbered, tooLarge, tooShort, renumbered, renumberedAfter}
+use Rattle.numbering.specs.Numbered.{size, cellsFrom, numbered, tooLarge}
+use Rattle.numbering.specs.Renumbering.{tooShort, renumbered, renumberedAfter}
 use Rattle.numbering.proofs.Holds.{length-numbered}
 use Rattle.laws.proofs.Lists.{sets-over}
 

@@ -1,14 +1,9 @@
 -- A tree as a node table, numbered from the root on: "parents before operands, and all nodes of the first operand before those of the second".
 use mathlib.Core.Bool.{Bool, _||_}
 use mathlib.Core.List.{List, [], _∷_, _++_}
-use Prim.Native.Nat.{ℕ, suc, _+_, _*_}
+use Prim.Native.Nat.{ℕ, suc, _+_}
 use lib.Dec.{ltb}
-use lib.ListN.{length}
-use Rattle.laws.specs.Choice.{pick}
-use Rattle.laws.specs.Lists.{over}
 use Rattle.tree.specs.Trees.{Label, Tree, none, node, levels}
-use Rattle.numbering.specs.declared.Renumbered.{Renumbered}
-use Rattle.numbering.specs.declared.Renumbered.the-variants.{TooLarge, TooShort, Nodes}
 
 -- how many nodes a tree has, links included
 unfoldable pub size : Tree → ℕ
@@ -33,16 +28,3 @@ numbered t = cellsFrom 1 t
 -- 16. "The reading needs more than 4,096 nodes, links included, or a path of more than 128, counted as in 11."
 unfoldable pub tooLarge : Tree → Bool
 tooLarge t = ltb 4096 (size t) || ltb 128 (levels t)
-
--- ---- the answer for a lent table, and what it holds afterwards
-
--- five cells a node; `cells` is the lent table's length
-unfoldable pub tooShort : Tree → ℕ → Bool
-tooShort t cells = ltb cells (5 * size t)
-
-unfoldable pub renumbered : Tree → ℕ → Renumbered
-renumbered t cells = pick (tooLarge t) TooLarge (pick (tooShort t cells) TooShort (Nodes (size t)))
-
--- where it is refused, the lent table keeps its contents; otherwise the cells past the nodes keep theirs
-unfoldable pub renumberedAfter : Tree → List ℕ → List ℕ
-renumberedAfter t out = pick (tooLarge t || tooShort t (length out)) out (over (numbered t) out)

@@ -12,7 +12,8 @@ ghost use lib.Seq.{sets};
 ghost use Rattle.laws.specs.Choice.{pick};
 ghost use Rattle.tree.specs.Table.{formAt, attributesAt, detailAt};
 ghost use Rattle.tree.specs.Trees.{treeAt, levels};
-ghost use Rattle.numbering.specs.Numbered.{size, cellsFrom, renumbered, renumberedAfter};
+ghost use Rattle.numbering.specs.Numbered.{size, cellsFrom};
+ghost use Rattle.numbering.specs.Renumbering.{renumbered, renumberedAfter};
 
 // What numbering anew answers.
 pub enum Renumbered {

@@ -13,7 +13,8 @@ use Rattle.precedence.specs.declared.Precedence.the-variants.{Jump, Assign, Ran
 use Rattle.precedence.specs.Precedences.{rankOf}
 use Rattle.laws.specs.Choice.{pick, lookup}
 use Rattle.fixup.specs.declared.context.FixupContext.{FixupContext}
-use Rattle.pack.specs.Cells.{ranks, ofRank, bitOf, ofBits, booleans, flagsOf, bitAt, contextOf}
+use Rattle.pack.specs.Cells.{bitOf, ofBits, booleans, flagsOf}
+use Rattle.pack.specs.FromCells.{ranks, ofRank, bitAt, contextOf}
 
 -- ---- precedences
 

@@ -3,7 +3,8 @@ use fixup::context::FixupContext;
 use precedence::Precedence;
 ghost use mathlib.Core.Path.{_≡_};
 ghost use Prim.Native.Nat.{_≤_};
-ghost use Rattle.pack.specs.Cells.{bitOf, ofRank, flagsOf, contextOf};
+ghost use Rattle.pack.specs.Cells.{bitOf, flagsOf};
+ghost use Rattle.pack.specs.FromCells.{ofRank, contextOf};
 
 fn bit(flag: bool) -> u16
     ensures { λ r. ⌜ (r ≡ bitOf flag) × (r ≤ 1) ⌝ }

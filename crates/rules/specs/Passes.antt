@@ -1,4 +1,5 @@
--- What the passes over the nodes keep in their own arrays.
+-- What the passes over the nodes ask of each node, and what they keep in their own arrays.
+use mathlib.Core.Bool.{Bool}
 use mathlib.Core.List.{List}
 use mathlib.Core.Path.{_≡_}
 use Prim.Native.Nat.{ℕ, _+_, _≤_, _<_}
@@ -6,7 +7,20 @@ use lib.Dec.{leb}
 use lib.ListN.{length, getD, set}
 use Rattle.laws.specs.Choice.{pick}
 use Rattle.tree.specs.Trees.{treeAt, levels}
-use Rattle.rules.specs.Refusals.{owners}
+use Rattle.places.specs.Places.{badOperands}
+use Rattle.rules.specs.declared.refusal.Rule.{Rule}
+use Rattle.rules.specs.declared.refusal.Rule.the-variants.{Numbers, Operands, Order, Empty, Output}
+use Rattle.rules.specs.Refusals.{badNumbers, badOrder, owners, empty, badOutput}
+
+-- ---- the rules that look at one node after the other, by the name that the code gives them
+unfoldable pub breaks : Rule → List ℕ → ℕ → ℕ → Bool
+breaks Numbers cells count i = badNumbers cells i
+breaks Operands cells count i = badOperands cells count i
+breaks Order cells count i = badOrder cells count i
+breaks Empty cells count i = empty cells i
+breaks Output cells count i = badOutput cells i
+
+-- ---- the arrays
 
 -- one more owner for node o, where there is a cell for it
 unfoldable pub counted : List ℕ → ℕ → List ℕ

@@ -7,8 +7,6 @@ use lib.Dec.{eqb, ltb, leb}
 use lib.ListN.{length}
 use Rattle.laws.specs.Choice.{pick, isOneOf}
 use Rattle.laws.specs.Each.{some}
-use Rattle.rules.specs.declared.refusal.Rule.{Rule}
-use Rattle.rules.specs.declared.refusal.Rule.the-variants.{Numbers, Operands, Order, Empty, Output}
 use Rattle.tree.specs.Forms.{ExprBlock, ExprClosure, TypeImplTrait, TypePath, TypeTraitObject, anExpression, allowed}
 use Rattle.tree.specs.Table.{formAt, attributesAt, detailAt, firstAt, secondAt, classAt}
 use Rattle.tree.specs.Trees.{treeAt, levels}
@@ -106,11 +104,3 @@ refusal context count cells =
 -- "A tree is accepted when .. none of 3, 4 and 6 to 11 [applies] to its node table."
 abbrev pub Accepted : ℕ → ℕ → List ℕ → Type 0
 Accepted context count cells = refusal context count cells ≡ 0
-
--- ---- the rules that look at one node after the other, by the name that the code gives them
-unfoldable pub broken : Rule → List ℕ → ℕ → ℕ → Bool
-broken Numbers cells count i = badNumbers cells i
-broken Operands cells count i = badOperands cells count i
-broken Order cells count i = badOrder cells count i
-broken Empty cells count i = empty cells i
-broken Output cells count i = badOutput cells i

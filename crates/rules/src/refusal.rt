@@ -14,8 +14,8 @@ ghost use lib.Dec.{eqb};
 ghost use lib.ListN.{length, getD};
 ghost use Rattle.laws.specs.Each.{some};
 ghost use Rattle.tree.specs.Trees.{treeAt, levels};
-ghost use Rattle.rules.specs.Refusals.{refusal4, badNumbers, refusal7, misplaced, badOrder, badOwner, refusal8, empty, plainBlock, badOutput, refusal11, broken, firstOf, nodeRefusals, refusal};
-ghost use Rattle.rules.specs.Passes.{counted, Counted, Levelled};
+ghost use Rattle.rules.specs.Refusals.{refusal4, badNumbers, refusal7, misplaced, badOrder, badOwner, refusal8, empty, plainBlock, badOutput, refusal11, firstOf, nodeRefusals, refusal};
+ghost use Rattle.rules.specs.Passes.{breaks, counted, Counted, Levelled};
 
 // 4: the count is 0 or above 4,096, or the table is shorter than that many nodes.
 pub fn is_bad_count(count: u16, cells: usize) -> bool
@@ -115,7 +115,7 @@ pub fn has_bad_output(table: &[u16], node: u16) -> bool
 
 // Whether a node breaks a rule.
 fn breaks(rule: Rule, table: &[u16], count: u16, node: u16) -> bool
-    ensures { λ r. ⌜ r ≡ broken rule (now (table .entry)) count node ⌝ }
+    ensures { λ r. ⌜ r ≡ breaks rule (now (table .entry)) count node ⌝ }
 {
     match rule {
         Rule::Numbers => has_bad_numbers(table, node),
@@ -128,7 +128,7 @@ fn breaks(rule: Rule, table: &[u16], count: u16, node: u16) -> bool
 
 // Whether some node breaks a rule.
 fn some_breaks(rule: Rule, table: &[u16], count: u16) -> bool
-    ensures { λ r. ⌜ r ≡ some (broken rule (now (table .entry)) count) count ⌝ }
+    ensures { λ r. ⌜ r ≡ some (breaks rule (now (table .entry)) count) count ⌝ }
 {
     let mut done: u16 = 0;
     while done < count {

@@ -19,7 +19,8 @@ use Rattle.grammar.proofs.Tokens.{tokens-codes, codes-tokens}
 use Rattle.grammar.proofs.Theorems.{one-reading, found, finds}
 use Rattle.plain.specs.Trees.{treeOf}
 use Rattle.plain.specs.Reads.{Reads}
-use Rattle.numbering.specs.Numbered.{size, tooLarge, tooShort, renumbered, renumberedAfter}
+use Rattle.numbering.specs.Numbered.{size, tooLarge}
+use Rattle.numbering.specs.Renumbering.{tooShort, renumbered, renumberedAfter}
 use Rattle.token_reader.specs.declared.Reply.{Reply}
 use Rattle.token_reader.specs.declared.Reply.the-variants.{Refused}
 use Rattle.token_reader.specs.declared.piece.Parsed.{Parsed}

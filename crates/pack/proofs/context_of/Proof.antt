@@ -4,7 +4,7 @@ use Prim.Native.Nat.{ℕ, _%_}
 use native.Mathlib.Nat.{div-one}
 use lib.Dec.{eqb}
 use borrow.Author.Needs.{needs}
-use Rattle.pack.specs.Cells.{bitAt, contextOf}
+use Rattle.pack.specs.FromCells.{bitAt, contextOf}
 use Rattle.pack.proofs.context_of.Statement.{statement}
 use Rattle.pack.proofs.context_of.Tie as tie
 

@@ -2,7 +2,7 @@
 use mathlib.Core.Path.{sym}
 use Rattle.laws.proofs.Keys.{arm, rest}
 use Rattle.precedence.specs.declared.Precedence.the-variants.{Jump}
-use Rattle.pack.specs.Cells.{ranks, ofRank}
+use Rattle.pack.specs.FromCells.{ranks, ofRank}
 use Rattle.pack.proofs.precedence_of.Statement.{statement}
 use Rattle.pack.proofs.precedence_of.Tie as tie
 

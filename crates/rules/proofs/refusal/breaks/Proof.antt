@@ -1,5 +1,5 @@
 -- `rules::refusal::breaks` meets its contract. Assumes nothing.
-use Rattle.rules.specs.Refusals.{broken}
+use Rattle.rules.specs.Passes.{breaks}
 use borrow.Author.Needs.{needs}
 use Rattle.rules.proofs.refusal.breaks.Statement.{statement}
 use Rattle.rules.proofs.refusal.breaks.Tie as tie
@@ -35,23 +35,23 @@ has-bad-output-requires : tie.Need-has-bad-output-requires
 has-bad-output-requires c κs = search needs
 
 returns : tie.Need-returns
-unfolding broken
+unfolding breaks
 returns c = rw (c .before .enum-told .given .1) (c .has-bad-numbers .ensures)
 
 returns-2 : tie.Need-returns-2
-unfolding broken
+unfolding breaks
 returns-2 c = rw (c .before .enum-told2 .given .1) (c .has-bad-operands .ensures)
 
 returns-3 : tie.Need-returns-3
-unfolding broken
+unfolding breaks
 returns-3 c = rw (c .before .enum-told3 .given .1) (c .has-bad-order .ensures)
 
 returns-4 : tie.Need-returns-4
-unfolding broken
+unfolding breaks
 returns-4 c = rw (c .before .enum-told4 .given .1) (c .is-empty .ensures)
 
 returns-5 : tie.Need-returns-5
-unfolding broken
+unfolding breaks
 returns-5 c = rw (c .before .enum-told5 .given .1) (c .has-bad-output .ensures)
 
 pub breaks-spec : {M : Type 1} → statement M

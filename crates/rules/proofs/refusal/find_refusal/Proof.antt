@@ -1,6 +1,7 @@
 -- `rules::refusal::find_refusal` meets its contract. Assumes nothing.
 use mathlib.Core.Path.{_≡_, sym, _∙_}
-use Rattle.rules.specs.Refusals.{nodeRefusals, refusal6, refusal9, refusal10, broken}
+use Rattle.rules.specs.Refusals.{nodeRefusals, refusal6, refusal9, refusal10}
+use Rattle.rules.specs.Passes.{breaks}
 use Rattle.rules.proofs.First.{stop, skip, no-more}
 use borrow.Author.Needs.{needs}
 use Rattle.rules.proofs.refusal.find_refusal.Statement.{statement}
@@ -10,7 +11,7 @@ some-breaks-requires : tie.Need-some-breaks-requires
 some-breaks-requires c κs = search needs
 
 returns : tie.Need-returns
-unfolding nodeRefusals refusal6 refusal9 refusal10 broken
+unfolding nodeRefusals refusal6 refusal9 refusal10 breaks
 returns c =
     sym
     (stop _ _ (sym (c .before .some-breaks .ensures) ∙ c .if1 .taken))
@@ -19,7 +20,7 @@ has-wrong-operands-requires : tie.Need-has-wrong-operands-requires
 has-wrong-operands-requires c κs = search needs
 
 returns-2 : tie.Need-returns-2
-unfolding nodeRefusals refusal6 refusal9 refusal10 broken
+unfolding nodeRefusals refusal6 refusal9 refusal10 breaks
 returns-2 c =
     sym
     (skip _ _ (sym (c .before .before .before .some-breaks .ensures) ∙ c .before .before .if1 .left)
@@ -29,7 +30,7 @@ has-wrong-owners-requires : tie.Need-has-wrong-owners-requires
 has-wrong-owners-requires c κs = search needs
 
 returns-3 : tie.Need-returns-3
-unfolding nodeRefusals refusal6 refusal9 refusal10 broken
+unfolding nodeRefusals refusal6 refusal9 refusal10 breaks
 returns-3 c =
     sym
     (skip _ _ (sym (c .before .before .before .before .before .some-breaks .ensures) ∙ c .before .before .before .before .if1 .left)
@@ -40,7 +41,7 @@ some-breaks-requires-2 : tie.Need-some-breaks-requires-2
 some-breaks-requires-2 c κs = search needs
 
 returns-4 : tie.Need-returns-4
-unfolding nodeRefusals refusal6 refusal9 refusal10 broken
+unfolding nodeRefusals refusal6 refusal9 refusal10 breaks
 returns-4 c =
     sym
     (skip _ _ (sym (c .before .before .before .before .before .before .before .some-breaks .ensures) ∙ c .before .before .before .before .before .before .if1 .left)
@@ -52,7 +53,7 @@ some-breaks-requires-3 : tie.Need-some-breaks-requires-3
 some-breaks-requires-3 c κs = search needs
 
 returns-5 : tie.Need-returns-5
-unfolding nodeRefusals refusal6 refusal9 refusal10 broken
+unfolding nodeRefusals refusal6 refusal9 refusal10 breaks
 returns-5 c =
     sym
     (skip _ _ (sym (c .before .before .before .before .before .before .before .before .before .some-breaks .ensures) ∙ c .before .before .before .before .before .before .before .before .if1 .left)
@@ -65,7 +66,7 @@ is-too-deep-requires : tie.Need-is-too-deep-requires
 is-too-deep-requires c κs = search needs
 
 returns-6 : tie.Need-returns-6
-unfolding nodeRefusals refusal6 refusal9 refusal10 broken
+unfolding nodeRefusals refusal6 refusal9 refusal10 breaks
 returns-6 c =
     sym
     (skip _ _ (sym (c .before .before .before .before .before .before .before .before .before .before .before .some-breaks .ensures) ∙ c .before .before .before .before .before .before .before .before .before .before .if1 .left)
@@ -76,7 +77,7 @@ returns-6 c =
     ∙ stop _ _ (sym (c .before .is-too-deep .ensures) ∙ c .if6 .taken))
 
 returns-7 : tie.Need-returns-7
-unfolding nodeRefusals refusal6 refusal9 refusal10 broken
+unfolding nodeRefusals refusal6 refusal9 refusal10 breaks
 returns-7 c =
     sym
     (skip _ _ (sym (c .before .before .before .before .before .before .before .before .before .before .before .some-breaks .ensures) ∙ c .before .before .before .before .before .before .before .before .before .before .if1 .left)

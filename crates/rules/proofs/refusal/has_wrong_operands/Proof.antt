@@ -1,6 +1,7 @@
 -- `rules::refusal::has_wrong_operands` meets its contract. Assumes nothing.
 use borrow.Author.Tests.{eq-eqb, ne-eqb}
-use Rattle.rules.specs.Refusals.{refusal7, broken}
+use Rattle.rules.specs.Refusals.{refusal7}
+use Rattle.rules.specs.Passes.{breaks}
 use borrow.Author.Needs.{needs}
 use Rattle.rules.proofs.refusal.has_wrong_operands.Statement.{statement}
 use Rattle.rules.proofs.refusal.has_wrong_operands.Tie as tie
@@ -19,7 +20,7 @@ some-breaks-requires : tie.Need-some-breaks-requires
 some-breaks-requires c κs = search needs
 
 returns-2 : tie.Need-returns-2
-unfolding refusal7 broken
+unfolding refusal7 breaks
 returns-2 c = rw (← c .before .before .before .cell .ensures, ← c .before .before .class-of .ensures, eq-eqb _ _ (c .before .if1 .left)) (c .some-breaks .ensures)
 
 pub has-wrong-operands-spec : {M : Type 1} → statement M

@@ -6,12 +6,12 @@ use native.Mathlib.Omega.{arith}
 use borrow.Author.Needs.{needs}
 use Rattle.laws.specs.Each.{some}
 use Rattle.laws.proofs.Each.{some-more, some-found}
-use Rattle.rules.specs.Refusals.{broken}
+use Rattle.rules.specs.Passes.{breaks}
 use Rattle.rules.proofs.refusal.some_breaks.Statement.{statement}
 use Rattle.rules.proofs.refusal.some_breaks.Tie as tie
 
 abbrev Inv-loop : tie.InvT-loop
-Inv-loop rule table count done₀ done = (done ≤ count) × (some (broken rule table count) done ≡ false)
+Inv-loop rule table count done₀ done = (done ≤ count) × (some (breaks rule table count) done ≡ false)
 
 abbrev μ-loop : tie.MeasureT-loop
 μ-loop rule table count done₀ done = count - done
