@@ -27,12 +27,12 @@ unfoldable pub shapeAt : List ℕ → ℕ → ℕ → Shape
 shapeAt cells count i =
     lookup (shapeRows (presence (operandAt cells count i 3)) (presence (operandAt cells count i 4))) Closed (formIn cells count i)
 
-unfoldable pub firstOf : Shape → Operand
-firstOf Closed = Absent
-firstOf (One a) = a
-firstOf (Two a b) = a
+unfoldable pub firstInShape : Shape → Operand
+firstInShape Closed = Absent
+firstInShape (One a) = a
+firstInShape (Two a b) = a
 
-unfoldable pub secondOf : Shape → Operand
-secondOf Closed = Absent
-secondOf (One a) = Absent
-secondOf (Two a b) = b
+unfoldable pub secondInShape : Shape → Operand
+secondInShape Closed = Absent
+secondInShape (One a) = Absent
+secondInShape (Two a b) = b

@@ -4,7 +4,7 @@ use tree::table::Operand;
 use tree::table::form_at;
 use tree::table::operand_at;
 ghost use mathlib.Core.Path.{_≡_};
-ghost use Rattle.shapes.specs.Shapes.{shapeAt, firstOf, secondOf};
+ghost use Rattle.shapes.specs.Shapes.{shapeAt, firstInShape, secondInShape};
 
 // A form has no place for an operand, one or two.
 pub enum Shape {
@@ -16,7 +16,7 @@ pub enum Shape {
 impl Shape {
     // The operand at the first place.
     pub fn first(self) -> Operand
-        ensures { λ r. ⌜ r ≡ firstOf self ⌝ }
+        ensures { λ r. ⌜ r ≡ firstInShape self ⌝ }
     {
         match self {
             Shape::Closed => Operand::Absent,
@@ -27,7 +27,7 @@ impl Shape {
 
     // The operand at the second place.
     pub fn second(self) -> Operand
-        ensures { λ r. ⌜ r ≡ secondOf self ⌝ }
+        ensures { λ r. ⌜ r ≡ secondInShape self ⌝ }
     {
         match self {
             Shape::Closed => Operand::Absent,
@@ -73,7 +73,7 @@ pub fn shape_at(table: &[u16], count: u16, node: u16) -> Shape
 
 // The operand at the first place of a node's form.
 pub fn first_at(table: &[u16], count: u16, node: u16) -> Operand
-    ensures { λ r. ⌜ r ≡ firstOf (shapeAt (now (table .entry)) count node) ⌝ }
+    ensures { λ r. ⌜ r ≡ firstInShape (shapeAt (now (table .entry)) count node) ⌝ }
 {
     let shape = shape_at(table, count, node);
     shape.first()
@@ -81,7 +81,7 @@ pub fn first_at(table: &[u16], count: u16, node: u16) -> Operand
 
 // The operand at the second place of a node's form.
 pub fn second_at(table: &[u16], count: u16, node: u16) -> Operand
-    ensures { λ r. ⌜ r ≡ secondOf (shapeAt (now (table .entry)) count node) ⌝ }
+    ensures { λ r. ⌜ r ≡ secondInShape (shapeAt (now (table .entry)) count node) ⌝ }
 {
     let operands = shape_at(table, count, node);
     operands.second()

@@ -5,7 +5,7 @@ use mathlib.Core.List.{[], _∷_}
 use Prim.Native.Nat.{ℕ}
 use lib.Dec.{eqb}
 use Rattle.tree.specs.declared.table.Operand.{Operand}
-use Rattle.shapes.specs.Shapes.{shapeRows, firstOf, secondOf}
+use Rattle.shapes.specs.Shapes.{shapeRows, firstInShape, secondInShape}
 use Rattle.tree.specs.Trees.{Label, labelAt}
 use Rattle.tree.specs.Walks.{answer, into, treeOf}
 use Rattle.tree.proofs.Walks.{tree-of}
@@ -59,21 +59,21 @@ unfolding braceAsks braceRows
 returns c = ap flowBy (form-arm _ _ _ braceRows (λ (l : Label). answer false) false _ (c .before .form-at .ensures) tt 0 tt (c .match .keys1) _ refl)
 
 returns-2 : tie.Need-returns-2
-unfolding braceAsks braceRows shapeRows secondOf
-returns-2 c = c .go-on .ensures ∙ ap flowBy (ap (into false) (c .before .second .ensures ∙ ap secondOf (c .before .before .before .before .shape-at .ensures ∙ shape-is _ _ _ _ (c .before .before .before .form-at .ensures) (2 ∷ 5 ∷ 27 ∷ []) (c .before .before .match .keys2) 0 tt tt)) ∙ form-arm _ _ _ braceRows (λ (l : Label). answer false) false _ (c .before .before .before .form-at .ensures) tt 1 tt (c .before .before .match .keys2) _ refl)
+unfolding braceAsks braceRows shapeRows secondInShape
+returns-2 c = c .go-on .ensures ∙ ap flowBy (ap (into false) (c .before .second .ensures ∙ ap secondInShape (c .before .before .before .before .shape-at .ensures ∙ shape-is _ _ _ _ (c .before .before .before .form-at .ensures) (2 ∷ 5 ∷ 27 ∷ []) (c .before .before .match .keys2) 0 tt tt)) ∙ form-arm _ _ _ braceRows (λ (l : Label). answer false) false _ (c .before .before .before .form-at .ensures) tt 1 tt (c .before .before .match .keys2) _ refl)
 
 returns-3 : tie.Need-returns-3
-unfolding braceAsks braceRows shapeRows firstOf
-returns-3 c = c .go-on2 .ensures ∙ ap flowBy (ap (into false) (c .before .first .ensures ∙ ap firstOf (c .before .before .before .before .shape-at .ensures ∙ shape-is _ _ _ _ (c .before .before .before .form-at .ensures) (7 ∷ 10 ∷ 15 ∷ 19 ∷ 28 ∷ 31 ∷ 36 ∷ 40 ∷ []) (c .before .before .match .keys3) 2 tt tt)) ∙ form-arm _ _ _ braceRows (λ (l : Label). answer false) false _ (c .before .before .before .form-at .ensures) tt 2 tt (c .before .before .match .keys3) _ refl)
+unfolding braceAsks braceRows shapeRows firstInShape
+returns-3 c = c .go-on2 .ensures ∙ ap flowBy (ap (into false) (c .before .first .ensures ∙ ap firstInShape (c .before .before .before .before .shape-at .ensures ∙ shape-is _ _ _ _ (c .before .before .before .form-at .ensures) (7 ∷ 10 ∷ 15 ∷ 19 ∷ 28 ∷ 31 ∷ 36 ∷ 40 ∷ []) (c .before .before .match .keys3) 2 tt tt)) ∙ form-arm _ _ _ braceRows (λ (l : Label). answer false) false _ (c .before .before .before .form-at .ensures) tt 2 tt (c .before .before .match .keys3) _ refl)
 
 returns-4 : tie.Need-returns-4
-unfolding braceAsks braceRows shapeRows firstOf
-returns-4 c = c .go-on3 .ensures ∙ ap flowBy (ap (into false) (c .before .first2 .ensures ∙ ap firstOf (c .before .before .before .before .shape-at .ensures ∙ shape-is _ _ _ _ (c .before .before .before .form-at .ensures) (29 ∷ []) (c .before .before .match .keys4) 3 tt tt)) ∙ form-arm _ _ _ braceRows (λ (l : Label). answer false) false _ (c .before .before .before .form-at .ensures) tt 3 tt (c .before .before .match .keys4) _ refl)
+unfolding braceAsks braceRows shapeRows firstInShape
+returns-4 c = c .go-on3 .ensures ∙ ap flowBy (ap (into false) (c .before .first2 .ensures ∙ ap firstInShape (c .before .before .before .before .shape-at .ensures ∙ shape-is _ _ _ _ (c .before .before .before .form-at .ensures) (29 ∷ []) (c .before .before .match .keys4) 3 tt tt)) ∙ form-arm _ _ _ braceRows (λ (l : Label). answer false) false _ (c .before .before .before .form-at .ensures) tt 3 tt (c .before .before .match .keys4) _ refl)
 
 returns-5 : tie.Need-returns-5
-unfolding braceAsks braceRows shapeRows secondOf
+unfolding braceAsks braceRows shapeRows secondInShape
 returns-5 c =
-    ap Break (c .cast-brace .ensures ∙ ap (λ (p : Operand). typeTrailingBrace (treeOf (c .before .before .before .before .before .before .args .table .now) (c .before .before .before .before .before .before .args .count) p)) (c .before .second2 .ensures ∙ ap secondOf (c .before .before .before .before .shape-at .ensures ∙ shape-is _ _ _ _ (c .before .before .before .form-at .ensures) (9 ∷ []) (c .before .before .match .keys5) 1 tt tt)) ∙ ap typeTrailingBrace (tree-of _ _ _))
+    ap Break (c .cast-brace .ensures ∙ ap (λ (p : Operand). typeTrailingBrace (treeOf (c .before .before .before .before .before .before .args .table .now) (c .before .before .before .before .before .before .args .count) p)) (c .before .second2 .ensures ∙ ap secondInShape (c .before .before .before .before .shape-at .ensures ∙ shape-is _ _ _ _ (c .before .before .before .form-at .ensures) (9 ∷ []) (c .before .before .match .keys5) 1 tt tt)) ∙ ap typeTrailingBrace (tree-of _ _ _))
     ∙ ap flowBy (form-arm _ _ _ braceRows (λ (l : Label). answer false) false _ (c .before .before .before .form-at .ensures) tt 4 tt (c .before .before .match .keys5) _ refl)
 
 returns-6 : tie.Need-returns-6

@@ -2,7 +2,7 @@
 use mathlib.Core.Path.{refl, ap, _∙_}
 use mathlib.Core.Bool.{true}
 use mathlib.Core.List.{[], _∷_}
-use Rattle.shapes.specs.Shapes.{shapeRows, firstOf}
+use Rattle.shapes.specs.Shapes.{shapeRows, firstInShape}
 use Rattle.tree.specs.Trees.{Label}
 use Rattle.tree.specs.Walks.{answer, into}
 use Rattle.tree.proofs.Matches.{form-arm, form-rest}
@@ -30,8 +30,8 @@ unfolding commaAsks commaRows
 returns c = ap flowBy (form-arm _ _ _ commaRows (λ (l : Label). answer true) true _ (c .before .form-at .ensures) tt 0 tt (c .match .keys1) _ refl)
 
 returns-2 : tie.Need-returns-2
-unfolding commaAsks commaRows shapeRows firstOf
-returns-2 c = c .go-on .ensures ∙ ap flowBy (ap (into true) (c .before .first .ensures ∙ ap firstOf (c .before .before .before .before .shape-at .ensures ∙ shape-is _ _ _ _ (c .before .before .before .form-at .ensures) (15 ∷ []) (c .before .before .match .keys2) 2 tt tt)) ∙ form-arm _ _ _ commaRows (λ (l : Label). answer true) true _ (c .before .before .before .form-at .ensures) tt 1 tt (c .before .before .match .keys2) _ refl)
+unfolding commaAsks commaRows shapeRows firstInShape
+returns-2 c = c .go-on .ensures ∙ ap flowBy (ap (into true) (c .before .first .ensures ∙ ap firstInShape (c .before .before .before .before .shape-at .ensures ∙ shape-is _ _ _ _ (c .before .before .before .form-at .ensures) (15 ∷ []) (c .before .before .match .keys2) 2 tt tt)) ∙ form-arm _ _ _ commaRows (λ (l : Label). answer true) true _ (c .before .before .before .form-at .ensures) tt 1 tt (c .before .before .match .keys2) _ refl)
 
 returns-3 : tie.Need-returns-3
 unfolding commaAsks commaRows

@@ -5,7 +5,7 @@ use mathlib.Core.List.{[], _∷_}
 use Prim.Native.Nat.{ℕ}
 use lib.Dec.{eqb}
 use Rattle.tree.specs.declared.table.Operand.{Operand}
-use Rattle.shapes.specs.Shapes.{shapeRows, firstOf}
+use Rattle.shapes.specs.Shapes.{shapeRows, firstInShape}
 use Rattle.tree.specs.Trees.{Label, labelAt}
 use Rattle.tree.specs.Walks.{answer, into, stepBy}
 use Rattle.tree.proofs.Matches.{form-arm, form-rest}
@@ -59,23 +59,23 @@ unfolding labelAsks labelRows labelAt
 returns c = ap (λ (d : ℕ). Break (eqb d 1)) (c .cell .ensures) ∙ ap flowBy (form-arm _ _ _ labelRows (λ (l : Label). answer false) false _ (c .before .before .form-at .ensures) tt 0 tt (c .before .match .keys1) _ refl)
 
 returns-2 : tie.Need-returns-2
-unfolding labelAsks labelRows shapeRows firstOf
-returns-2 c = c .go-on .ensures ∙ ap flowBy (ap (into false) (c .before .first .ensures ∙ ap firstOf (c .before .before .before .before .shape-at .ensures ∙ shape-is _ _ _ _ (c .before .before .before .form-at .ensures) (2 ∷ 5 ∷ 8 ∷ 17 ∷ 24 ∷ 27 ∷ []) (c .before .before .match .keys2) 0 tt tt)) ∙ form-arm _ _ _ labelRows (λ (l : Label). answer false) false _ (c .before .before .before .form-at .ensures) tt 1 tt (c .before .before .match .keys2) _ refl)
+unfolding labelAsks labelRows shapeRows firstInShape
+returns-2 c = c .go-on .ensures ∙ ap flowBy (ap (into false) (c .before .first .ensures ∙ ap firstInShape (c .before .before .before .before .shape-at .ensures ∙ shape-is _ _ _ _ (c .before .before .before .form-at .ensures) (2 ∷ 5 ∷ 8 ∷ 17 ∷ 24 ∷ 27 ∷ []) (c .before .before .match .keys2) 0 tt tt)) ∙ form-arm _ _ _ labelRows (λ (l : Label). answer false) false _ (c .before .before .before .form-at .ensures) tt 1 tt (c .before .before .match .keys2) _ refl)
 
 returns-3 : tie.Need-returns-3
-unfolding labelAsks labelRows shapeRows firstOf
-returns-3 c = c .go-on2 .ensures ∙ ap flowBy (ap (into false) (c .before .first2 .ensures ∙ ap firstOf (c .before .before .before .before .shape-at .ensures ∙ shape-is _ _ _ _ (c .before .before .before .form-at .ensures) (9 ∷ []) (c .before .before .match .keys3) 1 tt tt)) ∙ form-arm _ _ _ labelRows (λ (l : Label). answer false) false _ (c .before .before .before .form-at .ensures) tt 2 tt (c .before .before .match .keys3) _ refl)
+unfolding labelAsks labelRows shapeRows firstInShape
+returns-3 c = c .go-on2 .ensures ∙ ap flowBy (ap (into false) (c .before .first2 .ensures ∙ ap firstInShape (c .before .before .before .before .shape-at .ensures ∙ shape-is _ _ _ _ (c .before .before .before .form-at .ensures) (9 ∷ []) (c .before .before .match .keys3) 1 tt tt)) ∙ form-arm _ _ _ labelRows (λ (l : Label). answer false) false _ (c .before .before .before .form-at .ensures) tt 2 tt (c .before .before .match .keys3) _ refl)
 
 returns-4 : tie.Need-returns-4
-unfolding labelAsks labelRows shapeRows firstOf
-returns-4 c = c .go-on3 .ensures ∙ ap flowBy (ap (into false) (c .before .first3 .ensures ∙ ap firstOf (c .before .before .before .before .shape-at .ensures ∙ shape-is _ _ _ _ (c .before .before .before .form-at .ensures) (4 ∷ 13 ∷ 33 ∷ []) (c .before .before .match .keys4) 2 tt tt)) ∙ form-arm _ _ _ labelRows (λ (l : Label). answer false) false _ (c .before .before .before .form-at .ensures) tt 3 tt (c .before .before .match .keys4) _ refl)
+unfolding labelAsks labelRows shapeRows firstInShape
+returns-4 c = c .go-on3 .ensures ∙ ap flowBy (ap (into false) (c .before .first3 .ensures ∙ ap firstInShape (c .before .before .before .before .shape-at .ensures ∙ shape-is _ _ _ _ (c .before .before .before .form-at .ensures) (4 ∷ 13 ∷ 33 ∷ []) (c .before .before .match .keys4) 2 tt tt)) ∙ form-arm _ _ _ labelRows (λ (l : Label). answer false) false _ (c .before .before .before .form-at .ensures) tt 3 tt (c .before .before .match .keys4) _ refl)
 
 returns-5 : tie.Need-returns-5
-unfolding labelAsks labelRows labelAt shapeRows firstOf
+unfolding labelAsks labelRows labelAt shapeRows firstInShape
 returns-5 c =
     c .group-label .ensures
     ∙ ap flowBy
-    (ap₂ (λ (x : ℕ) (u : Operand). stepBy false (groupLabel x) u u) (c .before .before .cell2 .ensures) (c .before .first4 .ensures ∙ ap firstOf (c .before .before .before .before .before .shape-at .ensures ∙ shape-is _ _ _ _ (c .before .before .before .before .form-at .ensures) (15 ∷ []) (c .before .before .before .match .keys5) 2 tt tt))
+    (ap₂ (λ (x : ℕ) (u : Operand). stepBy false (groupLabel x) u u) (c .before .before .cell2 .ensures) (c .before .first4 .ensures ∙ ap firstInShape (c .before .before .before .before .before .shape-at .ensures ∙ shape-is _ _ _ _ (c .before .before .before .before .form-at .ensures) (15 ∷ []) (c .before .before .before .match .keys5) 2 tt tt))
     ∙ sym (label-one _ _ _)
     ∙ form-arm _ _ _ labelRows (λ (l : Label). answer false) false _ (c .before .before .before .before .form-at .ensures) tt 4 tt (c .before .before .before .match .keys5) _ refl)
 

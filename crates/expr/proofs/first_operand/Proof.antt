@@ -3,7 +3,7 @@ use mathlib.Core.Path.{ap, ap₂, _∙_}
 use mathlib.Core.Bool.{true, false}
 use mathlib.Core.List.{[], _∷_}
 use Rattle.tree.specs.Trees.{labelAt}
-use Rattle.shapes.specs.Shapes.{shapeRows, firstOf}
+use Rattle.shapes.specs.Shapes.{shapeRows, firstInShape}
 use Rattle.tree.proofs.Matches.{root-arm, root-rest}
 use Rattle.shapes.proofs.Shapes.{shape-is}
 use Rattle.precedence.specs.declared.Precedence.the-variants.{Jump, Assign, Range, Cast, Unambiguous}
@@ -116,17 +116,17 @@ unfolding handsFirst firstRows labelAt
 returns-3 c = c .binary-left .ensures ∙ ap (binaryLeft (c .before .before .before .before .before .before .args .fixup)) (c .before .cell .ensures) ∙ root-arm _ _ _ (firstRows (c .before .before .before .before .before .before .args .fixup)) (neither NONE) _ (c .before .before .before .form-at .ensures) tt 2 tt (c .before .before .match .keys3)
 
 returns-4 : tie.Need-returns-4
-unfolding handsFirst firstRows labelAt shapeRows firstOf
+unfolding handsFirst firstRows labelAt shapeRows firstInShape
 returns-4 c =
     c .at-end .ensures
-    ∙ ap (atEnd (c .before .before .before .before .before .before .before .before .args .fixup) true true Jump) (c .before .break-test .ensures ∙ ap₂ breakTest (c .before .before .before .cell2 .ensures) (ap (treeOf (c .before .before .before .before .before .before .before .before .args .table .now) (c .before .before .before .before .before .before .before .before .args .count)) (c .before .before .first-at .ensures ∙ ap firstOf (shape-is _ _ _ _ (c .before .before .before .before .before .form-at .ensures) (7 ∷ []) (c .before .before .before .before .match .keys4) 2 tt tt)) ∙ tree-of _ _ _))
+    ∙ ap (atEnd (c .before .before .before .before .before .before .before .before .args .fixup) true true Jump) (c .before .break-test .ensures ∙ ap₂ breakTest (c .before .before .before .cell2 .ensures) (ap (treeOf (c .before .before .before .before .before .before .before .before .args .table .now) (c .before .before .before .before .before .before .before .before .args .count)) (c .before .before .first-at .ensures ∙ ap firstInShape (shape-is _ _ _ _ (c .before .before .before .before .before .form-at .ensures) (7 ∷ []) (c .before .before .before .before .match .keys4) 2 tt tt)) ∙ tree-of _ _ _))
     ∙ root-arm _ _ _ (firstRows (c .before .before .before .before .before .before .before .before .args .fixup)) (neither NONE) _ (c .before .before .before .before .before .form-at .ensures) tt 3 tt (c .before .before .before .before .match .keys4)
 
 returns-5 : tie.Need-returns-5
-unfolding handsFirst firstRows shapeRows firstOf
+unfolding handsFirst firstRows shapeRows firstInShape
 returns-5 c =
     c .before-operator2 .ensures
-    ∙ ap (beforeOperator (c .before .before .before .before .before .before .before .args .fixup) true false Unambiguous) (c .before .call-test .ensures ∙ ap callTest (ap (treeOf (c .before .before .before .before .before .before .before .args .table .now) (c .before .before .before .before .before .before .before .args .count)) (c .before .before .first-at2 .ensures ∙ ap firstOf (shape-is _ _ _ _ (c .before .before .before .before .form-at .ensures) (8 ∷ []) (c .before .before .before .match .keys5) 0 tt tt)) ∙ tree-of _ _ _))
+    ∙ ap (beforeOperator (c .before .before .before .before .before .before .before .args .fixup) true false Unambiguous) (c .before .call-test .ensures ∙ ap callTest (ap (treeOf (c .before .before .before .before .before .before .before .args .table .now) (c .before .before .before .before .before .before .before .args .count)) (c .before .before .first-at2 .ensures ∙ ap firstInShape (shape-is _ _ _ _ (c .before .before .before .before .form-at .ensures) (8 ∷ []) (c .before .before .before .match .keys5) 0 tt tt)) ∙ tree-of _ _ _))
     ∙ root-arm _ _ _ (firstRows (c .before .before .before .before .before .before .before .args .fixup)) (neither NONE) _ (c .before .before .before .before .form-at .ensures) tt 4 tt (c .before .before .before .match .keys5)
 
 returns-6 : tie.Need-returns-6

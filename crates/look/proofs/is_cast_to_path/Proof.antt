@@ -3,7 +3,7 @@ use mathlib.Core.Path.{ap, _∙_}
 use mathlib.Core.Bool.{false}
 use mathlib.Core.List.{[], _∷_}
 use Rattle.tree.specs.declared.table.Operand.{Operand}
-use Rattle.shapes.specs.Shapes.{shapeRows, secondOf}
+use Rattle.shapes.specs.Shapes.{shapeRows, secondInShape}
 use Rattle.tree.specs.Walks.{treeOf}
 use Rattle.tree.proofs.Walks.{tree-of}
 use Rattle.tree.proofs.Matches.{root-arm, root-rest}
@@ -24,8 +24,8 @@ ends-in-path-requires : tie.Need-ends-in-path-requires
 ends-in-path-requires c κs = search needs
 
 returns : tie.Need-returns
-unfolding castToPathRows shapeRows secondOf
-returns c = c .ends-in-path .ensures ∙ ap (λ (p : Operand). trailingPath (treeOf (c .before .before .before .before .before .args .table .now) (c .before .before .before .before .before .args .count) p)) (c .before .second-at .ensures ∙ ap secondOf (shape-is _ _ _ _ (c .before .before .before .form-at .ensures) (9 ∷ []) (c .before .before .match .keys1) 1 tt tt)) ∙ ap trailingPath (tree-of _ _ _) ∙ root-arm _ _ _ castToPathRows false _ (c .before .before .before .form-at .ensures) tt 0 tt (c .before .before .match .keys1)
+unfolding castToPathRows shapeRows secondInShape
+returns c = c .ends-in-path .ensures ∙ ap (λ (p : Operand). trailingPath (treeOf (c .before .before .before .before .before .args .table .now) (c .before .before .before .before .before .args .count) p)) (c .before .second-at .ensures ∙ ap secondInShape (shape-is _ _ _ _ (c .before .before .before .form-at .ensures) (9 ∷ []) (c .before .before .match .keys1) 1 tt tt)) ∙ ap trailingPath (tree-of _ _ _) ∙ root-arm _ _ _ castToPathRows false _ (c .before .before .before .form-at .ensures) tt 0 tt (c .before .before .match .keys1)
 
 returns-2 : tie.Need-returns-2
 unfolding castToPathRows

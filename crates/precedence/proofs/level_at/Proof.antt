@@ -2,7 +2,7 @@
 use mathlib.Core.Path.{refl, sym, ap, _∙_}
 use mathlib.Core.List.{[], _∷_}
 use Rattle.tree.specs.declared.table.Operand.{Operand}
-use Rattle.shapes.specs.Shapes.{shapeRows, firstOf}
+use Rattle.shapes.specs.Shapes.{shapeRows, firstInShape}
 use Rattle.tree.specs.Trees.{Label, labelAt}
 use Rattle.tree.specs.Walks.{answer, into, isPresent}
 use Rattle.tree.proofs.Matches.{form-arm, form-rest}
@@ -59,9 +59,9 @@ unfolding ofAsks ofRows labelAt
 returns c = ap Of (c .closure-of .ensures ∙ rw (c .before .before .cell .ensures, c .before .cell2 .ensures)) ∙ ap levelBy (form-arm _ _ _ ofRows (λ (l : Label). answer (closedBy (l .form) (l .attributes))) Unambiguous _ (c .before .before .before .before .form-at .ensures) tt 0 tt (c .before .before .before .match .keys1) _ refl)
 
 returns-2 : tie.Need-returns-2
-unfolding ofAsks ofRows shapeRows firstOf
+unfolding ofAsks ofRows shapeRows firstInShape
 returns-2 c =
-    ap Of (c .jump-of .ensures ∙ ap (λ (p : Operand). jumpBy (isPresent p)) (c .before .first-at .ensures ∙ ap firstOf (shape-is _ _ _ _ (c .before .before .before .form-at .ensures) (7 ∷ 31 ∷ 40 ∷ []) (c .before .before .match .keys2) 2 tt tt)) ∙ ap jumpBy (sym (there (c .before .before .before .before .before .args .table .now) (c .before .before .before .before .before .args .count) (c .before .before .before .before .before .args .node) _)))
+    ap Of (c .jump-of .ensures ∙ ap (λ (p : Operand). jumpBy (isPresent p)) (c .before .first-at .ensures ∙ ap firstInShape (shape-is _ _ _ _ (c .before .before .before .form-at .ensures) (7 ∷ 31 ∷ 40 ∷ []) (c .before .before .match .keys2) 2 tt tt)) ∙ ap jumpBy (sym (there (c .before .before .before .before .before .args .table .now) (c .before .before .before .before .before .args .count) (c .before .before .before .before .before .args .node) _)))
     ∙ ap levelBy (form-arm _ _ _ ofRows (λ (l : Label). answer (closedBy (l .form) (l .attributes))) Unambiguous _ (c .before .before .before .form-at .ensures) tt 1 tt (c .before .before .match .keys2) _ refl)
 
 returns-3 : tie.Need-returns-3
@@ -93,8 +93,8 @@ unfolding ofAsks ofRows
 returns-9 c = ap levelBy (form-arm _ _ _ ofRows (λ (l : Label). answer (closedBy (l .form) (l .attributes))) Unambiguous _ (c .before .form-at .ensures) tt 8 tt (c .match .keys9) _ refl)
 
 returns-10 : tie.Need-returns-10
-unfolding ofAsks ofRows shapeRows firstOf
-returns-10 c = c .content-of .ensures ∙ ap levelBy (ap (into Unambiguous) (c .before .first-at2 .ensures ∙ ap firstOf (shape-is _ _ _ _ (c .before .before .before .form-at .ensures) (15 ∷ []) (c .before .before .match .keys10) 2 tt tt)) ∙ form-arm _ _ _ ofRows (λ (l : Label). answer (closedBy (l .form) (l .attributes))) Unambiguous _ (c .before .before .before .form-at .ensures) tt 9 tt (c .before .before .match .keys10) _ refl)
+unfolding ofAsks ofRows shapeRows firstInShape
+returns-10 c = c .content-of .ensures ∙ ap levelBy (ap (into Unambiguous) (c .before .first-at2 .ensures ∙ ap firstInShape (shape-is _ _ _ _ (c .before .before .before .form-at .ensures) (15 ∷ []) (c .before .before .match .keys10) 2 tt tt)) ∙ form-arm _ _ _ ofRows (λ (l : Label). answer (closedBy (l .form) (l .attributes))) Unambiguous _ (c .before .before .before .form-at .ensures) tt 9 tt (c .before .before .match .keys10) _ refl)
 
 returns-11 : tie.Need-returns-11
 unfolding ofAsks ofRows labelAt

@@ -1,7 +1,7 @@
 -- `shapes::first_at` meets its contract. Assumes nothing.
 use mathlib.Core.Path.{ap, _∙_}
 use borrow.Author.Needs.{needs}
-use Rattle.shapes.specs.Shapes.{firstOf}
+use Rattle.shapes.specs.Shapes.{firstInShape}
 use Rattle.shapes.proofs.first_at.Statement.{statement}
 use Rattle.shapes.proofs.first_at.Tie as tie
 
@@ -12,7 +12,7 @@ first-requires : tie.Need-first-requires
 first-requires c κs = search needs
 
 returns : tie.Need-returns
-returns c = c .first .ensures ∙ ap firstOf (c .before .shape-at .ensures)
+returns c = c .first .ensures ∙ ap firstInShape (c .before .shape-at .ensures)
 
 pub first-at-spec : {M : Type 1} → statement M
 first-at-spec = tie.close (tie.spec shape-at-requires first-requires returns)

@@ -1,7 +1,7 @@
 -- `shapes::second_at` meets its contract. Assumes nothing.
 use mathlib.Core.Path.{ap, _∙_}
 use borrow.Author.Needs.{needs}
-use Rattle.shapes.specs.Shapes.{secondOf}
+use Rattle.shapes.specs.Shapes.{secondInShape}
 use Rattle.shapes.proofs.second_at.Statement.{statement}
 use Rattle.shapes.proofs.second_at.Tie as tie
 
@@ -12,7 +12,7 @@ second-requires : tie.Need-second-requires
 second-requires c κs = search needs
 
 returns : tie.Need-returns
-returns c = c .second .ensures ∙ ap secondOf (c .before .shape-at .ensures)
+returns c = c .second .ensures ∙ ap secondInShape (c .before .shape-at .ensures)
 
 pub second-at-spec : {M : Type 1} → statement M
 second-at-spec = tie.close (tie.spec shape-at-requires second-requires returns)

@@ -3,7 +3,7 @@ use mathlib.Core.Path.{sym, ap, _∙_}
 use mathlib.Core.Bool.{Bool, true, not, _||_}
 use mathlib.Core.List.{[], _∷_}
 use Rattle.tree.specs.declared.table.Operand.{Operand}
-use Rattle.shapes.specs.Shapes.{shapeRows, firstOf}
+use Rattle.shapes.specs.Shapes.{shapeRows, firstInShape}
 use Rattle.tree.specs.Trees.{labelAt}
 use Rattle.tree.specs.Walks.{isPresent}
 use Rattle.tree.proofs.Walks.{there}
@@ -48,9 +48,9 @@ is-below-requires-2 c κs = search needs
 
 -- a Range without a start
 returns : tie.Need-returns
-unfolding scanLeft scanLeftRows shapeRows firstOf
+unfolding scanLeft scanLeftRows shapeRows firstInShape
 returns c =
-    ap (λ (bare : Bool). bare || below (c .before .before .before .before .before .before .args .fixup .«previous_operator») Assign) (ap (λ (p : Operand). not (isPresent p)) (sym (c .enum-told2 .given .1) ∙ c .before .before .first-at .ensures ∙ ap firstOf (shape-is _ _ _ _ (c .before .before .before .before .form-at .ensures) (27 ∷ []) (c .before .before .before .match .keys4) 0 tt tt)) ∙ ap not (sym (there (c .before .before .before .before .before .before .args .table .now) (c .before .before .before .before .before .before .args .count) (c .before .before .before .before .before .before .args .node) _)))
+    ap (λ (bare : Bool). bare || below (c .before .before .before .before .before .before .args .fixup .«previous_operator») Assign) (ap (λ (p : Operand). not (isPresent p)) (sym (c .enum-told2 .given .1) ∙ c .before .before .first-at .ensures ∙ ap firstInShape (shape-is _ _ _ _ (c .before .before .before .before .form-at .ensures) (27 ∷ []) (c .before .before .before .match .keys4) 0 tt tt)) ∙ ap not (sym (there (c .before .before .before .before .before .before .args .table .now) (c .before .before .before .before .before .before .args .count) (c .before .before .before .before .before .before .args .node) _)))
     ∙ root-arm _ _ _ (scanLeftRows (c .before .before .before .before .before .before .args .fixup)) true _ (c .before .before .before .before .form-at .ensures) tt 3 tt (c .before .before .before .match .keys4)
 
 returns-2 : tie.Need-returns-2
@@ -67,10 +67,10 @@ returns-4 c = c .is-below .ensures ∙ root-arm _ _ _ (scanLeftRows (c .before .
 
 -- a Range with a start
 returns-5 : tie.Need-returns-5
-unfolding scanLeft scanLeftRows shapeRows firstOf
+unfolding scanLeft scanLeftRows shapeRows firstInShape
 returns-5 c =
     c .is-below2 .ensures
-    ∙ ap (λ (bare : Bool). bare || below (c .before .before .before .before .before .before .before .args .fixup .«previous_operator») Assign) (ap (λ (p : Operand). not (isPresent p)) (sym (c .before .enum-told .given .1) ∙ c .before .before .before .first-at .ensures ∙ ap firstOf (shape-is _ _ _ _ (c .before .before .before .before .before .form-at .ensures) (27 ∷ []) (c .before .before .before .before .match .keys4) 0 tt tt)) ∙ ap not (sym (there (c .before .before .before .before .before .before .before .args .table .now) (c .before .before .before .before .before .before .before .args .count) (c .before .before .before .before .before .before .before .args .node) _)))
+    ∙ ap (λ (bare : Bool). bare || below (c .before .before .before .before .before .before .before .args .fixup .«previous_operator») Assign) (ap (λ (p : Operand). not (isPresent p)) (sym (c .before .enum-told .given .1) ∙ c .before .before .before .first-at .ensures ∙ ap firstInShape (shape-is _ _ _ _ (c .before .before .before .before .before .form-at .ensures) (27 ∷ []) (c .before .before .before .before .match .keys4) 0 tt tt)) ∙ ap not (sym (there (c .before .before .before .before .before .before .before .args .table .now) (c .before .before .before .before .before .before .before .args .count) (c .before .before .before .before .before .before .before .args .node) _)))
     ∙ root-arm _ _ _ (scanLeftRows (c .before .before .before .before .before .before .before .args .fixup)) true _ (c .before .before .before .before .before .form-at .ensures) tt 3 tt (c .before .before .before .before .match .keys4)
 
 returns-6 : tie.Need-returns-6

@@ -5,7 +5,7 @@ use mathlib.Core.List.{[], _∷_}
 use Prim.Native.Nat.{ℕ}
 use lib.Dec.{eqb}
 use Rattle.tree.specs.declared.table.Operand.{Operand}
-use Rattle.shapes.specs.Shapes.{shapeRows, firstOf}
+use Rattle.shapes.specs.Shapes.{shapeRows, firstInShape}
 use Rattle.tree.specs.Trees.{labelAt}
 use Rattle.tree.specs.Walks.{treeOf}
 use Rattle.tree.proofs.Matches.{root-arm, root-rest}
@@ -80,14 +80,14 @@ unfolding armOf armRows labelAt
 returns-5 c = c .plain3 .ensures ∙ ap (λ (n : ℕ). plain n Range) (c .before .cell4 .ensures) ∙ root-arm _ _ _ armRows Closed _ (c .before .before .before .form-at .ensures) tt 4 tt (c .before .before .match .keys5)
 
 returns-6 : tie.Need-returns-6
-unfolding armOf armRows labelAt shapeRows firstOf
+unfolding armOf armRows labelAt shapeRows firstInShape
 returns-6 c =
     ap Break
     (c .both .ensures
     ∙ ap₂ (λ (d : ℕ) (b : Bool). eqb d 0 && b)
     (c .before .before .before .cell5 .ensures)
     (c .before .leading-label .ensures
-    ∙ ap (λ (p : Operand). leadingLabel (treeOf (c .before .before .before .before .before .before .before .args .table .now) (c .before .before .before .before .before .before .before .args .count) p)) (c .before .before .first-at .ensures ∙ ap firstOf (shape-is _ _ _ _ (c .before .before .before .before .before .form-at .ensures) (7 ∷ []) (c .before .before .before .before .match .keys6) 2 tt tt))
+    ∙ ap (λ (p : Operand). leadingLabel (treeOf (c .before .before .before .before .before .before .before .args .table .now) (c .before .before .before .before .before .before .before .args .count) p)) (c .before .before .first-at .ensures ∙ ap firstInShape (shape-is _ _ _ _ (c .before .before .before .before .before .form-at .ensures) (7 ∷ []) (c .before .before .before .before .match .keys6) 2 tt tt))
     ∙ ap leadingLabel (tree-of _ _ _)))
     ∙ root-arm _ _ _ armRows Closed _ (c .before .before .before .before .before .form-at .ensures) tt 5 tt (c .before .before .before .before .match .keys6)
 

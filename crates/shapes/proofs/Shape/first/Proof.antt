@@ -1,5 +1,5 @@
 -- `shapes::Shape::first` meets its contract. Assumes nothing.
-use Rattle.shapes.specs.Shapes.{firstOf}
+use Rattle.shapes.specs.Shapes.{firstInShape}
 use borrow.Author.Needs.{needs}
 use Rattle.shapes.proofs.Shape.first.Statement.{statement}
 use Rattle.shapes.proofs.Shape.first.Tie as tie
@@ -14,15 +14,15 @@ enum-known-self-2 : tie.Need-enum-known-self-2
 enum-known-self-2 c = search needs
 
 returns : tie.Need-returns
-unfolding firstOf
+unfolding firstInShape
 returns c = rw (c .enum-told .given .1)
 
 returns-2 : tie.Need-returns-2
-unfolding firstOf
+unfolding firstInShape
 returns-2 c = rw (c .before .self .given .1)
 
 returns-3 : tie.Need-returns-3
-unfolding firstOf
+unfolding firstInShape
 returns-3 c = rw (c .before .self2 .given .1)
 
 pub first-spec : {M : Type 1} → statement M

@@ -1,5 +1,5 @@
 -- `shapes::Shape::second` meets its contract. Assumes nothing.
-use Rattle.shapes.specs.Shapes.{secondOf}
+use Rattle.shapes.specs.Shapes.{secondInShape}
 use borrow.Author.Needs.{needs}
 use Rattle.shapes.proofs.Shape.second.Statement.{statement}
 use Rattle.shapes.proofs.Shape.second.Tie as tie
@@ -14,15 +14,15 @@ enum-known-self : tie.Need-enum-known-self
 enum-known-self c = search needs
 
 returns : tie.Need-returns
-unfolding secondOf
+unfolding secondInShape
 returns c = rw (c .enum-told .given .1)
 
 returns-2 : tie.Need-returns-2
-unfolding secondOf
+unfolding secondInShape
 returns-2 c = rw (c .enum-told2 .given .1)
 
 returns-3 : tie.Need-returns-3
-unfolding secondOf
+unfolding secondInShape
 returns-3 c = rw (c .before .self .given .1)
 
 pub second-spec : {M : Type 1} → statement M
