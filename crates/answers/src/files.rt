@@ -2,7 +2,7 @@
 use tree_file::Loaded;
 ghost use mathlib.Core.Path.{_≡_};
 ghost use lib.ListN.{length};
-ghost use Rattle.tree_file.specs.Files.{loaded, stored};
+ghost use Rattle.tree_file.specs.Files.{loaded, loadedTable};
 ghost use Rattle.answers.specs.Plain.{loadedNumber};
 
 // The refusal times 65,536, or the context times 8,192 and the count.
@@ -19,7 +19,7 @@ fn number(answer: Loaded) -> u32
 #[no_mangle]
 pub extern "C" fn tezhukor_load(file: &[u8], table: &mut [u16]) -> u32
     ensures reply { λ r. ⌜ r ≡ loadedNumber (loaded (now (file .entry)) (length (now (table .entry)))) ⌝ }
-    ensures table { λ r. ⌜ now (table .exit) ≡ stored (now (file .entry)) (now (table .entry)) ⌝ }
+    ensures table { λ r. ⌜ now (table .exit) ≡ loadedTable (now (file .entry)) (now (table .entry)) ⌝ }
 {
     number(tree_file::load(file, table))
 }

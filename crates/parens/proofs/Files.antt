@@ -6,7 +6,7 @@ use native.Mathlib.Omega.{arith}
 use lib.ListN.{length, take, replicate, length-replicate}
 use Rattle.rules.specs.Refusals.{refusal}
 use Rattle.tree_file.specs.declared.Loaded.the-variants.{Refused, Accepted}
-use Rattle.tree_file.specs.Files.{loaded, stored}
+use Rattle.tree_file.specs.Files.{loaded, loadedTable}
 use Rattle.tree_file.proofs.Loading.{stored-cells}
 use Rattle.walk.specs.Walk.{rootHanded, rowsAfter}
 use Rattle.walk.proofs.Replies.{done}
@@ -28,6 +28,6 @@ module _ (file table : List ℕ) (room : length table ≡ 20480) where
   unfolding printed answered
   printed-refusal n e = rw (← room, ← e)
 
-  pub printed-rows : (context count : ℕ) → Accepted context count ≡ loaded file (length table) → acceptedText context count (take (5 * count) (stored file table)) ≡ printed file
+  pub printed-rows : (context count : ℕ) → Accepted context count ≡ loaded file (length table) → acceptedText context count (take (5 * count) (loadedTable file table)) ≡ printed file
   unfolding printed answered
   printed-rows context count e = rw (stored-cells file table context count e (omega arith), ← room, ← e)

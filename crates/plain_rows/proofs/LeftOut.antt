@@ -15,7 +15,7 @@ use Rattle.expr.specs.declared.Handed.{Handed}
 use Rattle.expr.specs.Handed.{neither}
 use Rattle.expr.specs.Expr.{handsFirst, handsSecond}
 use Rattle.row.specs.Rows.{isExpression, outerPair, ownContext}
-use Rattle.walk.specs.Paths.{Step, first, second, treeBy, handedBy}
+use Rattle.walk.specs.Paths.{Branch, first, second, treeBy, handedBy}
 use Rattle.grammar.specs.Tokens.{Operator, Token, operator, As, Name, Dot, LeftParen, RightParen, LeftBracket, RightBracket, Comma, Question}
 use Rattle.grammar.specs.Types.{Sort, one, list, items, TypePrefix, constPtr, mutPtr, sharedRef, mutRef, TypeSign, infer, never, Ty, named, applied, pointing, sign, noTypes, types, lastType, moreTypes}
 use Rattle.grammar.specs.Expressions.{Atom, Prefix, Member, Expr, atom, paren, prefix, binary, cast, member, try, index, call, method, noArguments, arguments, lastArgument, moreArguments, atomToken, prefixToken, memberToken, write}
@@ -30,26 +30,26 @@ use Rattle.plain_rows.proofs.Tokens.{marked, inside, tokensFor, insideF
 
 -- ---- the tokens without the pair of the node at a path
 
-unfoldable pub insideBut : Step → (Handed → Tree → List Token → List Token) → FixupContext → Tree → List Token → List Token
+unfoldable pub insideBut : Branch → (Handed → Tree → List Token → List Token) → FixupContext → Tree → List Token → List Token
 insideBut s but x none rest = rest
 insideBut first but x (node l a b) rest = inside (signsOf l b) (but (handsFirst x (node l a b)) a) (tokensFor (handsSecond x (node l a b)) b) rest
 insideBut second but x (node l a b) rest = inside (signsOf l b) (tokensFor (handsFirst x (node l a b)) a) (but (handsSecond x (node l a b)) b) rest
 
-unfoldable pub tokensBut : List Step → Handed → Tree → List Token → List Token
+unfoldable pub tokensBut : List Branch → Handed → Tree → List Token → List Token
 tokensBut [] h t rest = insideFor (ownContext h t) t rest
 tokensBut (s ∷ p) h t rest = within (marked h t) (insideBut s (tokensBut p) (ownContext h t) t) rest
 
 -- whether the row of the node at a path has an outer pair
-unfoldable pub markedAt : Handed → Tree → List Step → Bool
+unfoldable pub markedAt : Handed → Tree → List Branch → Bool
 markedAt h t p = marked (handedBy h t p) (treeBy t p)
 
 -- the same below a node whose own context is x
-unfoldable pub markedBelow : Step → List Step → FixupContext → Tree → Bool
+unfoldable pub markedBelow : Branch → List Branch → FixupContext → Tree → Bool
 markedBelow s p x none = false
 markedBelow first p x (node l a b) = markedAt (handsFirst x (node l a b)) a p
 markedBelow second p x (node l a b) = markedAt (handsSecond x (node l a b)) b p
 
-none-marked : (h : Handed) (p : List Step) → markedAt h none p ≡ false
+none-marked : (h : Handed) (p : List Branch) → markedAt h none p ≡ false
 unfolding markedAt
 none-marked h [] = marked-other h none refl
 none-marked h (s ∷ p) = marked-other h none refl
@@ -59,7 +59,7 @@ unfolding markedAt
 here-marked h none = refl
 here-marked h (node l a b) = refl
 
-below-marked : (h : Handed) (t : Tree) (s : Step) (p : List Step) → markedAt h t (s ∷ p) ≡ markedBelow s p (ownContext h t) t
+below-marked : (h : Handed) (t : Tree) (s : Branch) (p : List Branch) → markedAt h t (s ∷ p) ≡ markedBelow s p (ownContext h t) t
 unfolding markedAt markedBelow
 below-marked h none s p = marked-other h none refl
 below-marked h (node l a b) first p = refl
@@ -67,7 +67,7 @@ below-marked h (node l a b) second p = refl
 
 -- ---- types, and links themselves, have no pairs
 
-unmarked : {s : Sort} (t : Ty s) (h : Handed) (p : List Step) → markedAt h (treeOfType t) p ≡ false
+unmarked : {s : Sort} (t : Ty s) (h : Handed) (p : List Branch) → markedAt h (treeOfType t) p ≡ false
 unfolding markedAt classOf pick
 unmarked named h [] = marked-other h _ refl
 unmarked named h (first ∷ p) = none-marked _ p
@@ -107,16 +107,16 @@ module _ (x : FixupContext) (l : Label) (a b : Tree) (s : Signs) (e : signsOf l 
 
 -- ---- an operand: its own pair is left out, or one inside it
 
-abbrev DropsAt : Expr one → FixupContext → Step → Type 0
+abbrev DropsAt : Expr one → FixupContext → Branch → Type 0
 DropsAt e x s =
-    (p : List Step) → markedBelow s p x (treeOf e) ≡ true
+    (p : List Branch) → markedBelow s p x (treeOf e) ≡ true
     → (q : Pair e (x .«next_operator_can_begin_generics»))
     × ((end : List Token) → insideBut s (tokensBut p) x (treeOf e) end ≡ write (dropPair e (x .«next_operator_can_begin_generics») q) end)
 
 abbrev DropsInside : Expr one → Type 0
-DropsInside e = (x : FixupContext) → Calm x → Settled x → (s : Step) → DropsAt e x s
+DropsInside e = (x : FixupContext) → Calm x → Settled x → (s : Branch) → DropsAt e x s
 
-abbrev DropsOperand : Handed → Expr one → Bool → Bool → List Step → Type 0
+abbrev DropsOperand : Handed → Expr one → Bool → Bool → List Branch → Type 0
 DropsOperand h a p g path =
     (q : PairAt p g (Pair a)) × ((rest : List Token) → tokensBut path h (treeOf a) rest ≡ write (dropAt p g (addPairs a) (Pair a) (dropPair a) q) rest)
 
@@ -133,12 +133,12 @@ module _ (h : Handed) (a : Expr one) (g : Bool) (is-a : InsideIs a) (drops-a : D
       (inl tt, λ rest. ap (λ x. insideFor x (treeOf a) rest) (own true o ∙ pick-true NONE (h .fixup) refl) ∙ is-a NONE calm-none (λ e. true-not-false (sym e)) rest)
   drop-own false o m = true-not-false (sym m ∙ row false o)
 
-  but-at : (b : Bool) (y : FixupContext) (s : Step) (path : List Step) (rest : List Token) → marked h (treeOf a) ≡ b → ownContext h (treeOf a) ≡ y
+  but-at : (b : Bool) (y : FixupContext) (s : Branch) (path : List Branch) (rest : List Token) → marked h (treeOf a) ≡ b → ownContext h (treeOf a) ≡ y
       → tokensBut (s ∷ path) h (treeOf a) rest ≡ within b (insideBut s (tokensBut path) y (treeOf a)) rest
   unfolding tokensBut
   but-at b y s path rest m e = ap₂ (λ c z. within c (insideBut s (tokensBut path) z (treeOf a)) rest) m e
 
-  drop-below : (p : Bool) → Operand h a p g → (s : Step) (path : List Step) → markedBelow s path (ownContext h (treeOf a)) (treeOf a) ≡ true → DropsOperand h a p g (s ∷ path)
+  drop-below : (p : Bool) → Operand h a p g → (s : Branch) (path : List Branch) → markedBelow s path (ownContext h (treeOf a)) (treeOf a) ≡ true → DropsOperand h a p g (s ∷ path)
   drop-below true o s path m =
       let e = own true o ∙ pick-true NONE (h .fixup) refl in
       let d = drops-a NONE calm-none (λ e. true-not-false (sym e)) s path (subst (λ y. markedBelow s path y (treeOf a) ≡ true) e m) in
@@ -149,34 +149,34 @@ module _ (h : Handed) (a : Expr one) (g : Bool) (is-a : InsideIs a) (drops-a : D
       subst (λ f. (q : Pair a f) × ((rest : List Token) → tokensBut (s ∷ path) h (treeOf a) rest ≡ write (dropPair a f q) rest)) (o .flag)
       (d .0, λ rest. but-at false (h .fixup) s path rest (row false o) e ∙ d .1 rest)
 
-  drop-operand : (p : Bool) → Operand h a p g → (path : List Step) → markedAt h (treeOf a) path ≡ true → DropsOperand h a p g path
+  drop-operand : (p : Bool) → Operand h a p g → (path : List Branch) → markedAt h (treeOf a) path ≡ true → DropsOperand h a p g path
   drop-operand p o [] m = drop-own p o (sym (here-marked h (treeOf a)) ∙ m)
   drop-operand p o (s ∷ path) m = drop-below p o s path (sym (below-marked h (treeOf a) s path) ∙ m)
 
-operand-drops : {h : Handed} {a : Expr one} {p g : Bool} → Operand h a p g → DropsInside a → (path : List Step) → markedAt h (treeOf a) path ≡ true → DropsOperand h a p g path
+operand-drops : {h : Handed} {a : Expr one} {p g : Bool} → Operand h a p g → DropsInside a → (path : List Branch) → markedAt h (treeOf a) path ≡ true → DropsOperand h a p g path
 operand-drops {h} {a} {p} {g} o drops-a path m = drop-operand h a g (is one a) drops-a p o path m
 
 -- ---- owner by owner
 
-abbrev DropsList : {s : Sort} → Expr s → Handed → List Step → Type 0
+abbrev DropsList : {s : Sort} → Expr s → Handed → List Branch → Type 0
 DropsList l h p =
     markedAt h (treeOf l) p ≡ true
     → (q : Pair l false) × ((end : List Token) → tokensBut p h (treeOf l) (RightParen ∷ end) ≡ write (dropPair l false q) end)
 
 abbrev Drops : (s : Sort) → Expr s → Type 0
 Drops one e = DropsInside e
-Drops list l = (h : Handed) (p : List Step) → DropsList l h p
-Drops items l = (h : Handed) (p : List Step) → DropsList l h p
+Drops list l = (h : Handed) (p : List Branch) → DropsList l h p
+Drops items l = (h : Handed) (p : List Branch) → DropsList l h p
 
 -- no pair where nothing stands
-nothing : {A : Type 0} (h : Handed) (p : List Step) → markedAt h none p ≡ true → A
+nothing : {A : Type 0} (h : Handed) (p : List Branch) → markedAt h none p ≡ true → A
 nothing h p m = true-not-false (sym m ∙ none-marked h p)
 
-split : (P : Step → Type 0) → P first → P second → (s : Step) → P s
+split : (P : Branch → Type 0) → P first → P second → (s : Branch) → P s
 split P a b first = a
 split P a b second = b
 
-by-path : (P : List Step → Type 0) → P [] → ((p : List Step) → P (first ∷ p)) → ((p : List Step) → P (second ∷ p)) → (p : List Step) → P p
+by-path : (P : List Branch → Type 0) → P [] → ((p : List Branch) → P (first ∷ p)) → ((p : List Branch) → P (second ∷ p)) → (p : List Branch) → P p
 by-path P here a b [] = here
 by-path P here a b (first ∷ p) = a p
 by-path P here a b (second ∷ p) = b p
@@ -192,7 +192,7 @@ link-unmarked h a b = marked-other h (linked a b) refl
 link-here : {A : Type 0} (h : Handed) (a b : Tree) → markedAt h (linked a b) [] ≡ true → A
 link-here h a b m = true-not-false (sym m ∙ here-marked h (linked a b) ∙ link-unmarked h a b)
 
-link-below : (h : Handed) (a b : Tree) (s : Step) (p : List Step) (rest : List Token)
+link-below : (h : Handed) (a b : Tree) (s : Branch) (p : List Branch) (rest : List Token)
     → tokensBut (s ∷ p) h (linked a b) rest ≡ insideBut s (tokensBut p) (ownContext h (linked a b)) (linked a b) rest
 unfolding tokensBut
 link-below h a b s p rest = ap (λ c. within c (insideBut s (tokensBut p) (ownContext h (linked a b)) (linked a b)) rest) (link-unmarked h a b)
@@ -356,6 +356,6 @@ drops s (moreArguments a l) = λ h.
     ))
 
 -- With a pair of the root's rows in context 0 left out.
-pub tokens-without : (e : Expr one) (p : List Step) → markedAt (neither NONE) (treeOf e) p ≡ true
+pub tokens-without : (e : Expr one) (p : List Branch) → markedAt (neither NONE) (treeOf e) p ≡ true
     → (q : Pair e false) × ((rest : List Token) → tokensBut p (neither NONE) (treeOf e) rest ≡ write (dropPair e false q) rest)
 tokens-without e p m = operand-drops (alone e) (drops one e) p m

@@ -19,7 +19,7 @@ use Rattle.expr.specs.Handed.{neither}
 use Rattle.expr.specs.Expr.{handsFirst, handsSecond}
 use Rattle.row.specs.Rows.{rowOf, ownContext, rowsOf}
 use Rattle.walk.specs.Walk.{contexts, contextNumbered, rootHanded, placed}
-use Rattle.walk.specs.Paths.{Step, first, second, numberAt, treeBy, handedBy, rowIn}
+use Rattle.walk.specs.Paths.{Branch, first, second, numberAt, treeBy, handedBy, rowIn}
 use Rattle.walk.proofs.Paths.{there-at, row-at, one-path}
 use Rattle.grammar.specs.Tokens.{Token, LeftParen, RightParen}
 use Rattle.plain.specs.Written.{Signs, signsOf, within, tokensAt, hasPair, butAt}
@@ -40,16 +40,16 @@ inside-by s {f} {f′} {g} {g′} u v end = ap (λ r. s .before ++ f (s .between
 
 -- ---- paths that differ
 
-abbrev starts : List Step → ℕ
+abbrev starts : List Branch → ℕ
 starts [] = 0
 starts (first ∷ p) = 1
 starts (second ∷ p) = 2
 
-abbrev behind : List Step → List Step
+abbrev behind : List Branch → List Branch
 behind [] = []
 behind (s ∷ p) = p
 
-differ : (p q : List Step) → (starts p ≡ starts q → ⊥) → p ≡ q → ⊥
+differ : (p q : List Branch) → (starts p ≡ starts q → ⊥) → p ≡ q → ⊥
 differ p q h e = h (ap starts e)
 
 -- ---- from numbers to paths
@@ -57,7 +57,7 @@ differ p q h e = h (ap starts e)
 module _ (cells : List ℕ) (count : ℕ) (pair : ℕ → Bool) where
   -- the pairs of the tree t at node i, which gets h, are those of its rows at every path that leads to a node
   abbrev Agrees : ℕ → Handed → Tree → Type 0
-  Agrees i h t = (p : List Step) → isThere (treeBy t p) ≡ true → pair (numberAt cells count i p) ≡ markedAt h t p
+  Agrees i h t = (p : List Branch) → isThere (treeBy t p) ≡ true → pair (numberAt cells count i p) ≡ markedAt h t p
 
   pub tokens-agree : (t : Tree) (i : ℕ) (h : Handed) → Agrees i h t → (rest : List Token) → tokensAt cells count pair i t rest ≡ tokensFor h t rest
   unfolding tokensAt tokensFor markedAt
@@ -71,11 +71,11 @@ module _ (cells : List ℕ) (count : ℕ) (pair : ℕ → Bool) where
       rest
 
   -- the same at every path but one, where there is no pair
-  abbrev AgreesBut : List Step → ℕ → Handed → Tree → Type 0
+  abbrev AgreesBut : List Branch → ℕ → Handed → Tree → Type 0
   AgreesBut but i h t =
-      ((p : List Step) → isThere (treeBy t p) ≡ true → (p ≡ but → ⊥) → pair (numberAt cells count i p) ≡ markedAt h t p) × (pair (numberAt cells count i but) ≡ false)
+      ((p : List Branch) → isThere (treeBy t p) ≡ true → (p ≡ but → ⊥) → pair (numberAt cells count i p) ≡ markedAt h t p) × (pair (numberAt cells count i but) ≡ false)
 
-  pub tokens-but : (but : List Step) (t : Tree) (i : ℕ) (h : Handed) → isThere (treeBy t but) ≡ true → AgreesBut but i h t
+  pub tokens-but : (but : List Branch) (t : Tree) (i : ℕ) (h : Handed) → isThere (treeBy t but) ≡ true → AgreesBut but i h t
       → (rest : List Token) → tokensAt cells count pair i t rest ≡ tokensBut but h t rest
   unfolding tokensAt tokensFor insideFor insideBut tokensBut markedAt
   tokens-but [] none i h e k rest = true-not-false (sym e)
@@ -112,7 +112,7 @@ module _ (count : ℕ) (cells : List ℕ) (ok : Accepted 0 count cells) (into : 
   abbrev rows : List ℕ
   rows = placed cells count 1 (rowsOf (rootHanded 0) root) into
 
-  pub pair-at : (p : List Step) → isThere (treeBy root p) ≡ true → hasPair rows (numberAt cells count 1 p) ≡ markedAt (neither NONE) root p
+  pub pair-at : (p : List Branch) → isThere (treeBy root p) ≡ true → hasPair rows (numberAt cells count 1 p) ≡ markedAt (neither NONE) root p
   unfolding hasPair markedAt marked contextNumbered contexts lookup pick
   pair-at p e =
       let k = count-bounds 0 count cells ok in
@@ -123,7 +123,7 @@ module _ (count : ℕ) (cells : List ℕ) (ok : Accepted 0 count cells) (into : 
   tokens-from rest = tokens-agree cells count (hasPair rows) root 1 (neither NONE) pair-at rest
 
   -- So without the pair of the node at a path.
-  pub tokens-leaving : (p : List Step) → isThere (treeBy root p) ≡ true → (rest : List Token)
+  pub tokens-leaving : (p : List Branch) → isThere (treeBy root p) ≡ true → (rest : List Token)
       → tokensAt cells count (butAt (numberAt cells count 1 p) (hasPair rows)) 1 root rest ≡ tokensBut p (neither NONE) root rest
   unfolding butAt
   tokens-leaving p e rest =
@@ -131,5 +131,5 @@ module _ (count : ℕ) (cells : List ℕ) (ok : Accepted 0 count cells) (into : 
       ((λ q there n. rw (ne-eqb (numberAt cells count 1 q) (numberAt cells count 1 p) (λ z. n (one q there z))) (pair-at q there)), rw (eq-eqb (numberAt cells count 1 p) (numberAt cells count 1 p) refl))
       rest
     where
-      one : (q : List Step) → isThere (treeBy root q) ≡ true → numberAt cells count 1 q ≡ numberAt cells count 1 p → q ≡ p
+      one : (q : List Branch) → isThere (treeBy root q) ≡ true → numberAt cells count 1 q ≡ numberAt cells count 1 p → q ≡ p
       one q there z = one-path cells count 0 ok 1 q p (omega arith) (count-bounds 0 count cells ok .0) (there-at cells count 1 q there) z

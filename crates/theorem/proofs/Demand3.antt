@@ -18,9 +18,9 @@ use Rattle.rules.proofs.Accepted.{count-bounds, levels-bound}
 use Rattle.fixup.specs.Contexts.{NONE as noContext}
 use Rattle.expr.specs.Handed.{neither}
 use Rattle.row.specs.Rows.{rowsOf}
-use Rattle.walk.specs.Walk.{rootHanded, placed, refusal12, decided, rowsAfter}
+use Rattle.walk.specs.Walk.{rootHanded, placed, decideRefusal12, decided, rowsAfter}
 use Rattle.walk.specs.Walk as walk
-use Rattle.walk.specs.Paths.{Step, numberAt, treeBy}
+use Rattle.walk.specs.Paths.{Branch, numberAt, treeBy}
 use Rattle.walk.proofs.Paths.{tree-at, reached}
 use Rattle.grammar.specs.Tokens.{Token, code}
 use Rattle.grammar.specs.Codes.{codesOf, tokensOf}
@@ -98,7 +98,7 @@ module _ (count : ℕ) (cells : List ℕ) (lent : ℕ) (taken : writeRefusal 0 c
   rows = placed cells count 1 (rowsOf (rootHanded 0) root) blank
 
   rows-are : rowsFor count cells ≡ rows
-  unfolding rowsFor rowsAfter decided refusal12 pick
+  unfolding rowsFor rowsAfter decided decideRefusal12 pick
   rows-are =
       rw (
         length-replicate {A = ℕ} (5 * count) 0,
@@ -167,7 +167,7 @@ module _ (count : ℕ) (cells : List ℕ) (lent : ℕ) (taken : writeRefusal 0 c
   -- ---- a pair left out
 
   module _ (j : ℕ) (added : Added count cells j) where
-    abbrev path : List Step
+    abbrev path : List Branch
     path = reached cells count 0 ok j (added .0) (added .1) .path
 
     leads : numberAt cells count 1 path ≡ j

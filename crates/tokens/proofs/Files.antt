@@ -13,7 +13,7 @@ use Rattle.laws.specs.Lists.{over}
 use Rattle.laws.proofs.Choice.{pick-true}
 use Rattle.laws.proofs.Lists.{length-over}
 use Rattle.tree_file.specs.declared.Loaded.the-variants as loader
-use Rattle.tree_file.specs.Files.{loaded, stored}
+use Rattle.tree_file.specs.Files.{loaded, loadedTable}
 use Rattle.tree_file.proofs.Loading.{stored-cells}
 use Rattle.grammar.specs.Codes.{codesOf}
 use Rattle.token_writer.specs.declared.Written.the-variants.{Refused, Tokens}
@@ -67,6 +67,6 @@ module _ (file table : List ℕ) (room : length table ≡ 20480) where
   unfolding printed loadedText
   refused-file n e = rw (← room, ← e)
 
-  pub accepted-file : (context count : ℕ) → loader.Accepted context count ≡ loaded file (length table) → tableText context count (take (5 * count) (stored file table)) ≡ printed file
+  pub accepted-file : (context count : ℕ) → loader.Accepted context count ≡ loaded file (length table) → tableText context count (take (5 * count) (loadedTable file table)) ≡ printed file
   unfolding printed loadedText
   accepted-file context count e = rw (stored-cells file table context count e (omega arith), ← room, ← e)

@@ -14,7 +14,7 @@ use Rattle.rules.proofs.First.{stop, skip, passed}
 use Rattle.rules.proofs.Count.{count-fits, fits-count}
 use Rattle.tree_file.specs.declared.Loaded.the-variants.{Refused, Accepted}
 use Rattle.tree_file.specs.Several.{Numbers, broken, numbers, numbersOf, isBroken, valuesIn, bytesAfter}
-use Rattle.tree_file.specs.Files.{header, contextIn, countIn, body, cellsIn, refusal1, refusal2, refusal5, fileRefusal, loaded, stored}
+use Rattle.tree_file.specs.Files.{header, contextIn, countIn, body, cellsIn, refusal1, refusal2, refusal5, fileRefusal, loaded, loadedTable}
 use Rattle.tree_file.specs.Reads.{Begun}
 use Rattle.tree_file.proofs.Several.{numbers-length}
 
@@ -26,12 +26,12 @@ nodes-refusal context count cells h e = skip _ _ (le-ltb 3 context h) ∙ skip _
 -- ---- what is answered and stored
 
 module _ (file table : List ℕ) where
-  pub refused : (n : ℕ) → fileRefusal file (length table) ≡ n → (n ≡ 0 → ⊥) → (Refused n ≡ loaded file (length table)) × (table ≡ stored file table)
-  unfolding loaded stored
+  pub refused : (n : ℕ) → fileRefusal file (length table) ≡ n → (n ≡ 0 → ⊥) → (Refused n ≡ loaded file (length table)) × (table ≡ loadedTable file table)
+  unfolding loaded loadedTable
   refused n e h = rw e (sym (pick-false _ _ (ne-eqb n 0 h)), sym (pick-false _ _ (ne-eqb n 0 h)))
 
-  accepted : fileRefusal file (length table) ≡ 0 → (Accepted (contextIn file) (countIn file) ≡ loaded file (length table)) × (over (cellsIn file) table ≡ stored file table)
-  unfolding loaded stored
+  accepted : fileRefusal file (length table) ≡ 0 → (Accepted (contextIn file) (countIn file) ≡ loaded file (length table)) × (over (cellsIn file) table ≡ loadedTable file table)
+  unfolding loaded loadedTable
   accepted e = (sym (pick-true _ _ (eq-eqb _ 0 e)), sym (pick-true _ _ (eq-eqb _ 0 e)))
 
 -- ---- the header
@@ -97,10 +97,10 @@ module _ (file : List ℕ) (lent context count at : ℕ) (b : Begun file context
 -- the answer once all the numbers are read and the table is checked
 module _ (file table : List ℕ) (context count at : ℕ) (b : Begun file context count at) (ok : context ≤ 3) (fits : refusal4 count (length table) ≡ false)
     (cells : List ℕ) (end : ℕ) (read : numbersOf (5 * count) (drop at file) ≡ numbers cells (drop end file)) (all : length file ≤ end) (long : length cells ≡ 5 * count) where
-  pub refused-nodes : (n : ℕ) → n ≡ refusal context count cells → (n ≡ 0 → ⊥) → (Refused n ≡ loaded file (length table)) × (table ≡ stored file table)
+  pub refused-nodes : (n : ℕ) → n ≡ refusal context count cells → (n ≡ 0 → ⊥) → (Refused n ≡ loaded file (length table)) × (table ≡ loadedTable file table)
   refused-nodes n e h = refused file table n (checked file (length table) context count at b ok fits cells end read all long ∙ sym e) h
 
-  pub accepted-nodes : 0 ≡ refusal context count cells → (Accepted context count ≡ loaded file (length table)) × (over cells table ≡ stored file table)
+  pub accepted-nodes : 0 ≡ refusal context count cells → (Accepted context count ≡ loaded file (length table)) × (over cells table ≡ loadedTable file table)
   accepted-nodes e =
       let a = accepted file table (checked file (length table) context count at b ok fits cells end read all long ∙ sym e) in
       let c = are-cells file (length table) context count at b ok fits cells end read in

@@ -14,7 +14,7 @@ use Rattle.laws.proofs.Choice.{pick-true}
 use Rattle.laws.proofs.Lists.{length-over}
 use Rattle.rules.specs.Refusals.{refusal}
 use Rattle.tree_file.specs.declared.Loaded.the-variants.{Refused, Accepted}
-use Rattle.tree_file.specs.Files.{contextIn, countIn, cellsIn, fileRefusal, loaded, stored}
+use Rattle.tree_file.specs.Files.{contextIn, countIn, cellsIn, fileRefusal, loaded, loadedTable}
 use Rattle.tree_file.proofs.Files.{accepted-cells}
 
 -- an accepted file's context and count
@@ -35,16 +35,16 @@ module _ (file table : List ℕ) (context count : ℕ) (e : Accepted context cou
   pub count-most : count ≤ 4096
   count-most = parts .0
 
-  is-over : stored file table ≡ over (cellsIn file) table
-  unfolding stored
+  is-over : loadedTable file table ≡ over (cellsIn file) table
+  unfolding loadedTable
   is-over = pick-true _ _ (eq-eqb _ 0 (are-header file (length table) context count e .0))
 
-  pub stored-room : 5 * count ≤ length (stored file table)
+  pub stored-room : 5 * count ≤ length (loadedTable file table)
   stored-room = let p = parts in rw (is-over, length-over (cellsIn file) table (omega arith)) (omega arith)
 
-  pub stored-cells : take (5 * count) (stored file table) ≡ cellsIn file
+  pub stored-cells : take (5 * count) (loadedTable file table) ≡ cellsIn file
   unfolding over
   stored-cells = rw is-over (take-at _ _ (5 * count) (parts .1))
 
-  pub not-refused : refusal context count (take (5 * count) (stored file table)) ≡ 0
+  pub not-refused : refusal context count (take (5 * count) (loadedTable file table)) ≡ 0
   not-refused = rw stored-cells (parts .2)

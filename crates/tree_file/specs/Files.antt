@@ -62,5 +62,5 @@ loaded file lent =
     pick (eqb (fileRefusal file lent) 0) (Accepted (contextIn file) (countIn file)) (Refused (fileRefusal file lent))
 
 -- the lent table afterwards: the file's numbers over its start, or, on a refusal, as it was
-unfoldable pub stored : List ℕ → List ℕ → List ℕ
-stored file table = pick (eqb (fileRefusal file (length table)) 0) (over (cellsIn file) table) table
+unfoldable pub loadedTable : List ℕ → List ℕ → List ℕ
+loadedTable file table = pick (eqb (fileRefusal file (length table)) 0) (over (cellsIn file) table) table

@@ -5,7 +5,7 @@ ghost use mathlib.Core.Path.{_≡_};
 ghost use Prim.Native.Nat.{_≤_};
 ghost use lib.ListN.{length, take};
 ghost use Rattle.laws.specs.Lists.{over};
-ghost use Rattle.tree_file.specs.Files.{loaded, stored};
+ghost use Rattle.tree_file.specs.Files.{loaded, loadedTable};
 ghost use Rattle.tree_file.specs.Reads.{HeaderRead, BodyRead, Begun};
 
 // ---- several numbers
@@ -81,7 +81,7 @@ pub enum Loaded {
 fn load_nodes(file: &[u8], context: u16, count: u16, at: usize, table: &mut [u16]) -> Loaded
     requires { ⌜ Begun (now file) context count at ⌝ }
     ensures { λ r. ⌜ r ≡ loaded (now (file .entry)) (length (now (table .entry))) ⌝ }
-    ensures { λ r. ⌜ now (table .exit) ≡ stored (now (file .entry)) (now (table .entry)) ⌝ }
+    ensures { λ r. ⌜ now (table .exit) ≡ loadedTable (now (file .entry)) (now (table .entry)) ⌝ }
 {
     if context > 3 {
         return Loaded::Refused(3);
@@ -108,7 +108,7 @@ fn load_nodes(file: &[u8], context: u16, count: u16, at: usize, table: &mut [u16
 // A tree file into a lent table: the context and the count, or the first refusal that applies.
 pub fn load(file: &[u8], table: &mut [u16]) -> Loaded
     ensures reply { λ r. ⌜ r ≡ loaded (now (file .entry)) (length (now (table .entry))) ⌝ }
-    ensures table { λ r. ⌜ now (table .exit) ≡ stored (now (file .entry)) (now (table .entry)) ⌝ }
+    ensures table { λ r. ⌜ now (table .exit) ≡ loadedTable (now (file .entry)) (now (table .entry)) ⌝ }
 {
     if file.len() > 65536 {
         return Loaded::Refused(1);

@@ -10,7 +10,7 @@ use Rattle.rules.specs.Refusals.{Accepted}
 use Rattle.tree.proofs.Unfold.{Standing, absent, present, standing, operand-range, operand-zero}
 use Rattle.rules.proofs.Accepted.{first-operand, second-operand, one-owner}
 use Rattle.rules.proofs.Owned.{OwnedOnce}
-use Rattle.walk.specs.Paths.{Step, first, second, numberAt}
+use Rattle.walk.specs.Paths.{Branch, first, second, numberAt}
 
 module _ (cells : List ℕ) (count : ℕ) where
   -- node j is the operand of node o at a place
@@ -81,21 +81,21 @@ module _ (cells : List ℕ) (count : ℕ) where
 
   -- ---- paths
 
-  number-zero : (p : List Step) → numberAt cells count 0 p ≡ 0
+  number-zero : (p : List Branch) → numberAt cells count 0 p ≡ 0
   unfolding cellAt
   number-zero [] = refl
   number-zero (first ∷ p) = rw (operand-zero count 0) (number-zero p)
   number-zero (second ∷ p) = rw (operand-zero count 0) (number-zero p)
 
   -- a number that a path leads to from an operand: the operand is there
-  pub owns : (i k : ℕ) (p : List Step) → 1 ≤ i → i ≤ count → (k ≡ 3) ⊎ (k ≡ 4) → 1 ≤ numberAt cells count (operandAt cells count i k) p → Owns i k (operandAt cells count i k)
+  pub owns : (i k : ℕ) (p : List Branch) → 1 ≤ i → i ≤ count → (k ≡ 3) ⊎ (k ≡ 4) → 1 ≤ numberAt cells count (operandAt cells count i k) p → Owns i k (operandAt cells count i k)
   owns i k p low high place h = go (operandAt cells count i k) refl
     where
       go : (o : ℕ) → operandAt cells count i k ≡ o → Owns i k (operandAt cells count i k)
       go zero e = absurd (let z = number-zero p in let y = rw e at h in omega arith)
       go (suc n) e = record { low = low; high = high; place = place; operand = refl; there = rw e (omega arith) }
 
-  pub path-below : (i : ℕ) (p : List Step) → 1 ≤ i → i ≤ count → 1 ≤ numberAt cells count i p → Below i (numberAt cells count i p)
+  pub path-below : (i : ℕ) (p : List Branch) → 1 ≤ i → i ≤ count → 1 ≤ numberAt cells count i p → Below i (numberAt cells count i p)
   path-below i [] low high h = same low
   path-below i (first ∷ p) low high h =
       let w = owns i 3 p low high (inl refl) h in

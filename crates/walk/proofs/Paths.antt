@@ -20,8 +20,8 @@ use Rattle.expr.specs.declared.Handed.{Handed}
 use Rattle.expr.specs.Expr.{handsFirst, handsSecond}
 use Rattle.row.specs.declared.Row.{Row}
 use Rattle.row.specs.Rows.{rowOf, ownContext, rowsOf}
-use Rattle.walk.specs.Walk.{rootHanded, stored, placed}
-use Rattle.walk.specs.Paths.{Step, first, second, numberAt, treeBy, handedBy, rowIn}
+use Rattle.walk.specs.Walk.{rootHanded, rowStored, placed}
+use Rattle.walk.specs.Paths.{Branch, first, second, numberAt, treeBy, handedBy, rowIn}
 use Rattle.walk.proofs.Placed.{length-stored, length-placed, placed-none, placed-node}
 use Rattle.walk.proofs.Below.{Owns, Below, below-least, apart, owns, path-below, operand-most}
 
@@ -45,8 +45,8 @@ module _ (i : ℕ) (r : Row) (cells : List ℕ) where
   c4 = set c3 (at + 3) (r .next)
 
   -- cells outside a node's five
-  stored-other : (n : ℕ) → (n < at) ⊎ (at + 5 ≤ n) → getD (stored i r cells) n 0 ≡ getD cells n 0
-  unfolding stored
+  stored-other : (n : ℕ) → (n < at) ⊎ (at + 5 ≤ n) → getD (rowStored i r cells) n 0 ≡ getD cells n 0
+  unfolding rowStored
   stored-other n h =
       getD-set-other c4 (at + 4) n (r .flags) 0 (off (at + 4) (omega arith) (omega arith))
       ∙ getD-set-other c3 (at + 3) n (r .next) 0 (off (at + 3) (omega arith) (omega arith))
@@ -61,7 +61,7 @@ module _ (i : ℕ) (r : Row) (cells : List ℕ) where
           go (inl x) = omega arith
           go (inr x) = omega arith
 
-  row-other : (j : ℕ) → 1 ≤ i → 1 ≤ j → (i ≡ j → ⊥) → rowIn (stored i r cells) j ≡ rowIn cells j
+  row-other : (j : ℕ) → 1 ≤ i → 1 ≤ j → (i ≡ j → ⊥) → rowIn (rowStored i r cells) j ≡ rowIn cells j
   row-other j low there ne =
       rw (
         stored-other (5 * (j - 1)) (side (5 * (j - 1)) (omega arith) (omega arith)),
@@ -85,28 +85,28 @@ module _ (i : ℕ) (r : Row) (cells : List ℕ) where
           go (yes h) = inl (before h ne)
           go (no h) = inr (omega arith)
 
-  row-same : 1 ≤ i → 5 * i ≤ length cells → rowIn (stored i r cells) i ≡ r
-  unfolding stored
+  row-same : 1 ≤ i → 5 * i ≤ length cells → rowIn (rowStored i r cells) i ≡ r
+  unfolding rowStored
   row-same low room =
-      let a : getD (stored i r cells) at 0 ≡ r .pair =
+      let a : getD (rowStored i r cells) at 0 ≡ r .pair =
       getD-set-other c4 (at + 4) at (r .flags) 0 (λ e. omega arith)
       ∙ getD-set-other c3 (at + 3) at (r .next) 0 (λ e. omega arith)
       ∙ getD-set-other c2 (at + 2) at (r .previous) 0 (λ e. omega arith)
       ∙ getD-set-other c1 (at + 1) at (r .precedence) 0 (λ e. omega arith)
       ∙ getD-set-same cells at (r .pair) 0 (omega arith) in
-      let b : getD (stored i r cells) (at + 1) 0 ≡ r .precedence =
+      let b : getD (rowStored i r cells) (at + 1) 0 ≡ r .precedence =
       getD-set-other c4 (at + 4) (at + 1) (r .flags) 0 (λ e. omega arith)
       ∙ getD-set-other c3 (at + 3) (at + 1) (r .next) 0 (λ e. omega arith)
       ∙ getD-set-other c2 (at + 2) (at + 1) (r .previous) 0 (λ e. omega arith)
       ∙ getD-set-same c1 (at + 1) (r .precedence) 0 (simp length-set (omega arith)) in
-      let c : getD (stored i r cells) (at + 2) 0 ≡ r .previous =
+      let c : getD (rowStored i r cells) (at + 2) 0 ≡ r .previous =
       getD-set-other c4 (at + 4) (at + 2) (r .flags) 0 (λ e. omega arith)
       ∙ getD-set-other c3 (at + 3) (at + 2) (r .next) 0 (λ e. omega arith)
       ∙ getD-set-same c2 (at + 2) (r .previous) 0 (simp length-set (omega arith)) in
-      let d : getD (stored i r cells) (at + 3) 0 ≡ r .next =
+      let d : getD (rowStored i r cells) (at + 3) 0 ≡ r .next =
       getD-set-other c4 (at + 4) (at + 3) (r .flags) 0 (λ e. omega arith)
       ∙ getD-set-same c3 (at + 3) (r .next) 0 (simp length-set (omega arith)) in
-      let f : getD (stored i r cells) (at + 4) 0 ≡ r .flags = getD-set-same c4 (at + 4) (r .flags) 0 (simp length-set (omega arith)) in
+      let f : getD (rowStored i r cells) (at + 4) 0 ≡ r .flags = getD-set-same c4 (at + 4) (r .flags) 0 (simp length-set (omega arith)) in
       rw (a, b, c, d, f)
 
 -- ---- the tree at a path, by the node's number
@@ -120,7 +120,7 @@ handed-here h none = refl
 handed-here h (node l a b) = refl
 
 module _ (cells : List ℕ) (count : ℕ) where
-  pub tree-at : (i : ℕ) (p : List Step) → 1 ≤ i → i ≤ count → 1 ≤ numberAt cells count i p → treeAt cells count (numberAt cells count i p) ≡ treeBy (treeAt cells count i) p
+  pub tree-at : (i : ℕ) (p : List Branch) → 1 ≤ i → i ≤ count → 1 ≤ numberAt cells count i p → treeAt cells count (numberAt cells count i p) ≡ treeBy (treeAt cells count i) p
   tree-at i [] low high h = sym (tree-here _)
   tree-at i (first ∷ p) low high h =
       let w = owns cells count i 3 p low high (inl refl) h in
@@ -130,7 +130,7 @@ module _ (cells : List ℕ) (count : ℕ) where
       tree-at (operandAt cells count i 4) p (w .there) (operand-most cells count w .1) h ∙ rw (unfolds cells count i low high)
 
   -- a path to a tree that stands leads to a node
-  nowhere : {A : Type 0} (i : ℕ) (p : List Step) → ((1 ≤ i) × (i ≤ count) → ⊥) → isThere (treeBy (treeAt cells count i) p) ≡ true → A
+  nowhere : {A : Type 0} (i : ℕ) (p : List Branch) → ((1 ≤ i) × (i ≤ count) → ⊥) → isThere (treeBy (treeAt cells count i) p) ≡ true → A
   nowhere i p out e = true-not-false (sym e ∙ ap (λ t. isThere (treeBy t p)) (outside (decLe 1 i)) ∙ empty p)
     where
       outside : Dec (1 ≤ i) → treeAt cells count i ≡ none
@@ -141,11 +141,11 @@ module _ (cells : List ℕ) (count : ℕ) where
           past (no k) = omega arith
       outside (no k) = let z : i ≡ 0 = omega arith in rw z (tree-zero cells count)
 
-      empty : (p : List Step) → isThere (treeBy none p) ≡ false
+      empty : (p : List Branch) → isThere (treeBy none p) ≡ false
       empty [] = refl
       empty (s ∷ p) = refl
 
-  in-range : (i : ℕ) (p : List Step) → isThere (treeBy (treeAt cells count i) p) ≡ true → (1 ≤ i) × (i ≤ count)
+  in-range : (i : ℕ) (p : List Branch) → isThere (treeBy (treeAt cells count i) p) ≡ true → (1 ≤ i) × (i ≤ count)
   in-range i p e = go (decLe 1 i) (decLe i count)
     where
       go : Dec (1 ≤ i) → Dec (i ≤ count) → (1 ≤ i) × (i ≤ count)
@@ -153,7 +153,7 @@ module _ (cells : List ℕ) (count : ℕ) where
       go (yes low) (no k) = nowhere i p (λ w. k (w .1)) e
       go (no k) d = nowhere i p (λ w. k (w .0)) e
 
-  pub there-at : (i : ℕ) (p : List Step) → isThere (treeBy (treeAt cells count i) p) ≡ true → 1 ≤ numberAt cells count i p
+  pub there-at : (i : ℕ) (p : List Branch) → isThere (treeBy (treeAt cells count i) p) ≡ true → 1 ≤ numberAt cells count i p
   there-at i [] e = in-range i [] e .0
   there-at i (first ∷ p) e =
       let r = in-range i (first ∷ p) e in
@@ -166,7 +166,7 @@ module _ (cells : List ℕ) (count : ℕ) where
 
   -- no path leads from node i to node j
   abbrev Apart : ℕ → ℕ → Type 0
-  Apart i j = (p : List Step) → numberAt cells count i p ≡ j → ⊥
+  Apart i j = (p : List Branch) → numberAt cells count i p ≡ j → ⊥
 
   abbrev Untouched : Tree → Type 0
   Untouched t = (i : ℕ) → treeAt cells count i ≡ t → (h : Handed) (into : List ℕ) (j : ℕ) → 1 ≤ j → Apart i j → rowIn (placed cells count i (rowsOf h (treeAt cells count i)) into) j ≡ rowIn into j
@@ -207,7 +207,7 @@ module _ (cells : List ℕ) (count : ℕ) where
   -- ---- the row of the node at a path
 
   module _ (context : ℕ) (ok : Accepted context count cells) where
-    pub row-at : (i : ℕ) (p : List Step) (h : Handed) (into : List ℕ) → 1 ≤ i → i ≤ count → 5 * count ≤ length into → 1 ≤ numberAt cells count i p
+    pub row-at : (i : ℕ) (p : List Branch) (h : Handed) (into : List ℕ) → 1 ≤ i → i ≤ count → 5 * count ≤ length into → 1 ≤ numberAt cells count i p
         → rowIn (placed cells count i (rowsOf h (treeAt cells count i)) into) (numberAt cells count i p) ≡ rowOf (handedBy h (treeAt cells count i) p) (treeBy (treeAt cells count i) p)
     row-at i [] h into low high room there =
         ap (λ (r : List ℕ). rowIn r i) (placed-node cells count i h into low high)
@@ -232,16 +232,16 @@ module _ (cells : List ℕ) (count : ℕ) where
         let w = owns cells count i 4 p low high (inr refl) there in
         let s = operand-most cells count w in
         ap (λ (r : List ℕ). rowIn r (numberAt cells count (operandAt cells count i 4) p)) (placed-node cells count i h into low high)
-        ∙ row-at (operandAt cells count i 4) p _ _ (w .there) (s .1) (rw (length-placed cells count (operandAt cells count i 3) (rowsOf (handsFirst (ownContext h (treeAt cells count i)) (treeAt cells count i)) (treeAt cells count (operandAt cells count i 3))) (stored i (rowOf h (treeAt cells count i)) into), length-stored i (rowOf h (treeAt cells count i)) into) room) there
+        ∙ row-at (operandAt cells count i 4) p _ _ (w .there) (s .1) (rw (length-placed cells count (operandAt cells count i 3) (rowsOf (handsFirst (ownContext h (treeAt cells count i)) (treeAt cells count i)) (treeAt cells count (operandAt cells count i 3))) (rowStored i (rowOf h (treeAt cells count i)) into), length-stored i (rowOf h (treeAt cells count i)) into) room) there
         ∙ rw (unfolds cells count i low high)
 
     -- ---- each node is at one path
 
     -- from an operand to the owner, and from both operands to one node, no paths lead
-    not-back : {A : Type 0} (i k : ℕ) (p : List Step) → 1 ≤ i → i ≤ count → (k ≡ 3) ⊎ (k ≡ 4) → numberAt cells count (operandAt cells count i k) p ≡ i → A
+    not-back : {A : Type 0} (i k : ℕ) (p : List Branch) → 1 ≤ i → i ≤ count → (k ≡ 3) ⊎ (k ≡ 4) → numberAt cells count (operandAt cells count i k) p ≡ i → A
     not-back i k p low high place e = absurd (not-own i k low high place p e)
 
-    not-both : {A : Type 0} (i : ℕ) (p q : List Step) → 1 ≤ i → i ≤ count → 1 ≤ numberAt cells count (operandAt cells count i 3) p
+    not-both : {A : Type 0} (i : ℕ) (p q : List Branch) → 1 ≤ i → i ≤ count → 1 ≤ numberAt cells count (operandAt cells count i 3) p
         → numberAt cells count (operandAt cells count i 3) p ≡ numberAt cells count (operandAt cells count i 4) q → A
     not-both i p q low high there e =
         let w = owns cells count i 3 p low high (inl refl) there in
@@ -250,7 +250,7 @@ module _ (cells : List ℕ) (count : ℕ) where
         (path-below cells count (operandAt cells count i 3) p (w .there) (operand-most cells count w .1) there)
         (subst (Below cells count (operandAt cells count i 4)) (sym e) (path-below cells count (operandAt cells count i 4) q (v .there) (operand-most cells count v .1) (rw e at there))))
 
-    pub one-path : (i : ℕ) (p q : List Step) → 1 ≤ i → i ≤ count → 1 ≤ numberAt cells count i p → numberAt cells count i p ≡ numberAt cells count i q → p ≡ q
+    pub one-path : (i : ℕ) (p q : List Branch) → 1 ≤ i → i ≤ count → 1 ≤ numberAt cells count i p → numberAt cells count i p ≡ numberAt cells count i q → p ≡ q
     one-path i [] [] low high there e = refl
     one-path i [] (first ∷ q) low high there e = not-back i 3 q low high (inl refl) (sym e)
     one-path i [] (second ∷ q) low high there e = not-back i 4 q low high (inr refl) (sym e)
@@ -266,10 +266,10 @@ module _ (cells : List ℕ) (count : ℕ) where
     one-path i (second ∷ p) (first ∷ q) low high there e = not-both i q p low high (rw e at there) (sym e)
 
     pub record Reached (j : ℕ) : Type 0 where
-      pub path : List Step
+      pub path : List Branch
       pub leads : numberAt cells count 1 path ≡ j
 
-    one-more : (i : ℕ) (p : List Step) → (numberAt cells count i (p ++ (first ∷ [])) ≡ operandAt cells count (numberAt cells count i p) 3) × (numberAt cells count i (p ++ (second ∷ [])) ≡ operandAt cells count (numberAt cells count i p) 4)
+    one-more : (i : ℕ) (p : List Branch) → (numberAt cells count i (p ++ (first ∷ [])) ≡ operandAt cells count (numberAt cells count i p) 3) × (numberAt cells count i (p ++ (second ∷ [])) ≡ operandAt cells count (numberAt cells count i p) 4)
     one-more i [] = (refl, refl)
     one-more i (first ∷ p) = one-more (operandAt cells count i 3) p
     one-more i (second ∷ p) = one-more (operandAt cells count i 4) p
@@ -302,7 +302,7 @@ module _ (cells : List ℕ) (count : ℕ) where
 pub renumbered : (context count count′ : ℕ) (cells cells′ : List ℕ) → Accepted context count cells → Accepted context count′ cells′
     → treeAt cells count 1 ≡ treeAt cells′ count′ 1
     → (into into′ : List ℕ) → 5 * count ≤ length into → 5 * count′ ≤ length into′
-    → (p : List Step) → 1 ≤ numberAt cells count 1 p → 1 ≤ numberAt cells′ count′ 1 p
+    → (p : List Branch) → 1 ≤ numberAt cells count 1 p → 1 ≤ numberAt cells′ count′ 1 p
     → rowIn (placed cells count 1 (rowsOf (rootHanded context) (treeAt cells count 1)) into) (numberAt cells count 1 p)
     ≡ rowIn (placed cells′ count′ 1 (rowsOf (rootHanded context) (treeAt cells′ count′ 1)) into′) (numberAt cells′ count′ 1 p)
 renumbered context count count′ cells cells′ ok ok′ e into into′ room room′ p there there′ =

@@ -16,12 +16,12 @@ use Rattle.row.specs.Rows as rows
 use Rattle.row.specs.Steps.{alone}
 use Rattle.walk.specs.Steps.{placedFirst, placedBelow, placedAlone}
 use Rattle.walk.proofs.Decisions.{row-other, own-other, first-other, second-other}
-use Rattle.walk.specs.Walk.{stored, placed}
+use Rattle.walk.specs.Walk.{rowStored, placed}
 
 -- ---- lengths
 
-pub length-stored : (i : ℕ) (r : Row) (cells : List ℕ) → length (stored i r cells) ≡ length cells
-unfolding stored
+pub length-stored : (i : ℕ) (r : Row) (cells : List ℕ) → length (rowStored i r cells) ≡ length cells
+unfolding rowStored
 length-stored i r cells = simp length-set
 
 pub length-placed : (cells : List ℕ) (count i : ℕ) (t : Rows) (into : List ℕ) → length (placed cells count i t into) ≡ length into
@@ -45,13 +45,13 @@ module _ (cells : List ℕ) (count i : ℕ) (h : Handed) (into : List ℕ) where
   pub placed-node : 1 ≤ i → i ≤ count → placed cells count i (rowsOf h (treeAt cells count i)) into
       ≡ placed cells count (operandAt cells count i 4) (rowsOf (handsSecond (ownContext h (treeAt cells count i)) (treeAt cells count i)) (treeAt cells count (operandAt cells count i 4)))
       (placed cells count (operandAt cells count i 3) (rowsOf (handsFirst (ownContext h (treeAt cells count i)) (treeAt cells count i)) (treeAt cells count (operandAt cells count i 3)))
-      (stored i (rowOf h (treeAt cells count i)) into))
+      (rowStored i (rowOf h (treeAt cells count i)) into))
   unfolding placed rowsOf
   placed-node low high = rw (unfolds cells count i low high)
 
   -- the same by steps: the node's own row, then its operands'
   pub placed-by : 1 ≤ i → i ≤ count → (x : FixupContext) → x ≡ ownContext h (treeAt cells count i) → (r : Row) → r ≡ rowOf h (treeAt cells count i)
-      → (own : List ℕ) → own ≡ stored i r into → (out : List ℕ) → out ≡ placedBelow x cells count i own
+      → (own : List ℕ) → own ≡ rowStored i r into → (out : List ℕ) → out ≡ placedBelow x cells count i own
       → out ≡ placed cells count i (rowsOf h (treeAt cells count i)) into
   placed-by low high x ex r er own eown out eout = eout ∙ rw (eown, er, ex) (sym (placed-node low high))
 
@@ -61,7 +61,7 @@ module _ (cells : List ℕ) (count i : ℕ) (h : Handed) (into : List ℕ) where
 
 -- a type or a link: what is left is its second operand's
 pub placed-other : (cells : List ℕ) (count i : ℕ) (into : List ℕ) → 1 ≤ i → i ≤ count → isExpression (treeAt cells count i) ≡ false
-    → (own : List ℕ) → own ≡ stored i zeros into → (o : ℕ) → o ≡ operandAt cells count i 3 → (first : List ℕ) → first ≡ placedAlone cells count o own → (p : ℕ) → p ≡ operandAt cells count i 4
+    → (own : List ℕ) → own ≡ rowStored i zeros into → (o : ℕ) → o ≡ operandAt cells count i 3 → (first : List ℕ) → first ≡ placedAlone cells count o own → (p : ℕ) → p ≡ operandAt cells count i 4
     → placedAlone cells count p first ≡ placedAlone cells count i into
 placed-other cells count i into low high e own eown o eo first ef p ep =
     placed-by cells count i alone into low high NONE (own-other alone (treeAt cells count i) e) zeros (row-other alone (treeAt cells count i) e) own eown _

@@ -9,25 +9,25 @@ use Rattle.row.specs.declared.Row.{Row}
 use Rattle.row.specs.Rows.{ownContext}
 
 -- from an owner to its first or its second operand
-pub data Step : Type 0 where
-  first : Step
-  second : Step
+pub data Branch : Type 0 where
+  first : Branch
+  second : Branch
 
 -- the number of the node at a path below node i, 0 where there is none
-abbrev pub numberAt : List ℕ → ℕ → ℕ → List Step → ℕ
+abbrev pub numberAt : List ℕ → ℕ → ℕ → List Branch → ℕ
 numberAt cells count i [] = i
 numberAt cells count i (first ∷ p) = numberAt cells count (operandAt cells count i 3) p
 numberAt cells count i (second ∷ p) = numberAt cells count (operandAt cells count i 4) p
 
 -- the tree at a path
-abbrev pub treeBy : Tree → List Step → Tree
+abbrev pub treeBy : Tree → List Branch → Tree
 treeBy t [] = t
 treeBy none (s ∷ p) = none
 treeBy (node l a b) (first ∷ p) = treeBy a p
 treeBy (node l a b) (second ∷ p) = treeBy b p
 
 -- what the node at a path gets, where the root gets h
-abbrev pub handedBy : Handed → Tree → List Step → Handed
+abbrev pub handedBy : Handed → Tree → List Branch → Handed
 handedBy h t [] = h
 handedBy h none (s ∷ p) = h
 handedBy h (node l a b) (first ∷ p) = handedBy (handsFirst (ownContext h (node l a b)) (node l a b)) a p

@@ -28,8 +28,8 @@ abbrev pub rootHanded : ℕ → Handed
 rootHanded context = neither (contextNumbered context)
 
 -- a row in the five cells of node i
-unfoldable pub stored : ℕ → Row → List ℕ → List ℕ
-stored i r rows =
+unfoldable pub rowStored : ℕ → Row → List ℕ → List ℕ
+rowStored i r rows =
     let at = 5 * (i - 1) in
     set (set (set (set (set rows at (r .pair)) (at + 1) (r .precedence)) (at + 2) (r .previous)) (at + 3) (r .next)) (at + 4) (r .flags)
 
@@ -37,16 +37,16 @@ stored i r rows =
 unfoldable pub placed : List ℕ → ℕ → ℕ → Rows → List ℕ → List ℕ
 placed cells count i absent rows = rows
 placed cells count i (present r a b) rows =
-    placed cells count (operandAt cells count i 4) b (placed cells count (operandAt cells count i 3) a (stored i r rows))
+    placed cells count (operandAt cells count i 4) b (placed cells count (operandAt cells count i 3) a (rowStored i r rows))
 
 -- 12. "A lent buffer is too short: five cells a node for rows, three for the walk's scratch"
-unfoldable pub refusal12 : ℕ → ℕ → ℕ → Bool
-refusal12 count rows scratch = ltb rows (5 * count) || ltb scratch (3 * count)
+unfoldable pub decideRefusal12 : ℕ → ℕ → ℕ → Bool
+decideRefusal12 count rows scratch = ltb rows (5 * count) || ltb scratch (3 * count)
 
 -- the reply: the table's refusal, then 12, or 0
 unfoldable pub decided : ℕ → ℕ → List ℕ → ℕ → ℕ → ℕ
 decided context count cells rows scratch =
-    pick (eqb (refusal context count cells) 0) (pick (refusal12 count rows scratch) 12 0) (refusal context count cells)
+    pick (eqb (refusal context count cells) 0) (pick (decideRefusal12 count rows scratch) 12 0) (refusal context count cells)
 
 -- the rows afterwards. "Otherwise .. every lent buffer keeps its contents. On 0, cells past the answer keep theirs."
 unfoldable pub rowsAfter : ℕ → ℕ → List ℕ → List ℕ → List ℕ → List ℕ

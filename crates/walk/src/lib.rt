@@ -18,7 +18,7 @@ ghost use Rattle.laws.specs.Lists.{over};
 ghost use Rattle.tree.specs.Trees.{treeAt};
 ghost use Rattle.row.specs.Rows.{zeros, rowsOf};
 ghost use Rattle.walk.specs.Steps.{placedFirst, placedBelow, placedAlone};
-ghost use Rattle.walk.specs.Walk.{contextNumbered, rootHanded, stored, placed, decided, rowsAfter, scratchAfter};
+ghost use Rattle.walk.specs.Walk.{contextNumbered, rootHanded, rowStored, placed, decided, rowsAfter, scratchAfter};
 
 // The row of a type or a link.
 fn no_row() -> Row
@@ -36,7 +36,7 @@ fn no_row() -> Row
 // A row into the five cells of its node.
 fn store(rows: &mut [u16], node: u16, row: Row)
     requires { ⌜ (1 ≤ node) × (5 * node ≤ length (now rows)) ⌝ }
-    ensures { λ _. ⌜ now (rows .exit) ≡ stored node row (now (rows .entry)) ⌝ }
+    ensures { λ _. ⌜ now (rows .exit) ≡ rowStored node row (now (rows .entry)) ⌝ }
 {
     let at = 5 * ((node - 1) as usize);
     rows[at] = row.pair;

@@ -13,7 +13,7 @@ use Rattle.expr.specs.Expr.{handsFirst, handsSecond}
 use Rattle.row.specs.declared.Row.{Row}
 use Rattle.row.specs.declared.Decision.{Decision}
 use Rattle.row.specs.Rows.{Rows, isExpression}
-use Rattle.walk.specs.Walk.{stored, placed}
+use Rattle.walk.specs.Walk.{rowStored, placed}
 use Rattle.row.specs.Steps.{alone}
 use Rattle.walk.specs.Steps.{placedAlone}
 use Rattle.walk.proofs.Decisions.{own-alone, own-outer, own-kept, row-expression, rows-other, class-is, there}
@@ -240,7 +240,7 @@ walk-alone-loop-again t c =
     let o = c .operand-number2 .ensures in (
       rw o (omega arith),
       ap length (c .before .before .before .walk-alone .ensures) ∙ length-placed _ _ _ _ _ ∙ ap length (c .before .before .before .before .before .before .before .before .store2 .ensures) ∙ length-stored _ _ _ ∙ l .inv .1,
-      placed-other (a .table .now) (a .count) (l .at) _ (omega arith) (omega arith) e _ (c .before .before .before .before .before .before .before .before .store2 .ensures ∙ ap (λ (r : Row). stored (l .at) r (l .rows)) (c .before .before .before .before .before .before .before .before .before .no-row .ensures)) _ (c .before .before .before .before .before .operand-number .ensures) _ (c .before .before .before .walk-alone .ensures) _ o ∙ l .inv .2,
+      placed-other (a .table .now) (a .count) (l .at) _ (omega arith) (omega arith) e _ (c .before .before .before .before .before .before .before .before .store2 .ensures ∙ ap (λ (r : Row). rowStored (l .at) r (l .rows)) (c .before .before .before .before .before .before .before .before .before .no-row .ensures)) _ (c .before .before .before .before .before .operand-number .ensures) _ (c .before .before .before .walk-alone .ensures) _ o ∙ l .inv .2,
     )
 
 walk-alone-same-length-3 : (t : ℕ) → walk-alone-lts.Need-same-length-3 (walk-alone-claims t) (walk-alone-at t) walk-alone.Post walk-alone-Inv-loop walk-alone-μ-loop

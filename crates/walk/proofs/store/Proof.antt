@@ -2,7 +2,7 @@
 use mathlib.Core.Path.{refl}
 use native.Mathlib.Omega.{arith}
 use lib.ListN.{length-set}
-use Rattle.walk.specs.Walk.{stored}
+use Rattle.walk.specs.Walk.{rowStored}
 use borrow.Author.Needs.{needs}
 use Rattle.walk.proofs.store.Statement.{statement}
 use Rattle.walk.proofs.store.Tie as tie
@@ -62,7 +62,7 @@ same-length : tie.Need-same-length
 same-length c = search needs
 
 returns : tie.Need-returns
-unfolding stored
+unfolding rowStored
 returns c = refl
 
 pub store-spec : {M : Type 1} → statement M
