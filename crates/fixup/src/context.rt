@@ -5,6 +5,7 @@ use bools::either;
 use precedence::Precedence;
 ghost use mathlib.Core.Path.{_≡_};
 ghost use Rattle.fixup.specs.Contexts.{NONE, newStmt, newMatchArm, newCondition, withOperator, withDot, rightmost};
+ghost use Rattle.fixup.specs.Steps.{withOperators};
 
 pub struct FixupContext {
     pub previous_operator: Precedence,
@@ -80,6 +81,26 @@ impl FixupContext {
         fixup
     }
 
+    // A copy with these operators on either side. A flag of a copy can be assigned, an operator cannot: it is an enum.
+    fn with_operators(self, previous: Precedence, next: Precedence) -> FixupContext
+        ensures { λ r. ⌜ r ≡ withOperators self previous next ⌝ }
+    {
+        FixupContext {
+            previous_operator: previous,
+            next_operator: next,
+            stmt: self.stmt,
+            leftmost_subexpression_in_stmt: self.leftmost_subexpression_in_stmt,
+            match_arm: self.match_arm,
+            leftmost_subexpression_in_match_arm: self.leftmost_subexpression_in_match_arm,
+            condition: self.condition,
+            rightmost_subexpression_in_condition: self.rightmost_subexpression_in_condition,
+            leftmost_subexpression_in_optional_operand: self.leftmost_subexpression_in_optional_operand,
+            next_operator_can_begin_expr: self.next_operator_can_begin_expr,
+            next_operator_can_continue_expr: self.next_operator_can_continue_expr,
+            next_operator_can_begin_generics: self.next_operator_can_begin_generics,
+        }
+    }
+
     // The context that leftmost_subexpression_with_operator makes.
     pub fn leftmost_fixup_with_operator(
         self,
@@ -90,23 +111,22 @@ impl FixupContext {
         ensures { λ r. ⌜ r ≡ withOperator self «next_operator_can_begin_expr» «next_operator_can_begin_generics» precedence ⌝ }
     {
         let previous = self.previous_operator;
-        FixupContext {
-            previous_operator: previous,
-            next_operator: precedence,
-            stmt: false,
-            leftmost_subexpression_in_stmt: either(self.stmt, self.leftmost_subexpression_in_stmt),
-            match_arm: false,
-            leftmost_subexpression_in_match_arm: either(
-                self.match_arm,
-                self.leftmost_subexpression_in_match_arm,
-            ),
-            condition: self.condition,
-            rightmost_subexpression_in_condition: false,
-            leftmost_subexpression_in_optional_operand: self.leftmost_subexpression_in_optional_operand,
-            next_operator_can_begin_expr: next_operator_can_begin_expr,
-            next_operator_can_continue_expr: true,
-            next_operator_can_begin_generics: next_operator_can_begin_generics,
-        }
+        let mut fixup = self.with_operators(previous, precedence);
+        fixup.stmt = false;
+        fixup.leftmost_subexpression_in_stmt = either(
+            self.stmt,
+            self.leftmost_subexpression_in_stmt,
+        );
+        fixup.match_arm = false;
+        fixup.leftmost_subexpression_in_match_arm = either(
+            self.match_arm,
+            self.leftmost_subexpression_in_match_arm,
+        );
+        fixup.rightmost_subexpression_in_condition = false;
+        fixup.next_operator_can_begin_expr = next_operator_can_begin_expr;
+        fixup.next_operator_can_continue_expr = true;
+        fixup.next_operator_can_begin_generics = next_operator_can_begin_generics;
+        fixup
     }
 
     // The context that leftmost_subexpression_with_dot makes.
@@ -114,20 +134,16 @@ impl FixupContext {
         ensures { λ r. ⌜ r ≡ withDot self ⌝ }
     {
         let previous = self.previous_operator;
-        FixupContext {
-            previous_operator: previous,
-            next_operator: Precedence::Unambiguous,
-            stmt: either(self.stmt, self.leftmost_subexpression_in_stmt),
-            leftmost_subexpression_in_stmt: false,
-            match_arm: either(self.match_arm, self.leftmost_subexpression_in_match_arm),
-            leftmost_subexpression_in_match_arm: false,
-            condition: self.condition,
-            rightmost_subexpression_in_condition: false,
-            leftmost_subexpression_in_optional_operand: self.leftmost_subexpression_in_optional_operand,
-            next_operator_can_begin_expr: false,
-            next_operator_can_continue_expr: true,
-            next_operator_can_begin_generics: false,
-        }
+        let mut fixup = self.with_operators(previous, Precedence::Unambiguous);
+        fixup.stmt = either(self.stmt, self.leftmost_subexpression_in_stmt);
+        fixup.leftmost_subexpression_in_stmt = false;
+        fixup.match_arm = either(self.match_arm, self.leftmost_subexpression_in_match_arm);
+        fixup.leftmost_subexpression_in_match_arm = false;
+        fixup.rightmost_subexpression_in_condition = false;
+        fixup.next_operator_can_begin_expr = false;
+        fixup.next_operator_can_continue_expr = true;
+        fixup.next_operator_can_begin_generics = false;
+        fixup
     }
 
     // The context of a right operand.
@@ -140,19 +156,13 @@ impl FixupContext {
         ensures { λ r. ⌜ r ≡ rightmost self «reset_allow_struct» «optional_operand» precedence ⌝ }
     {
         let next = self.next_operator;
-        FixupContext {
-            previous_operator: precedence,
-            next_operator: next,
-            stmt: false,
-            leftmost_subexpression_in_stmt: false,
-            match_arm: false,
-            leftmost_subexpression_in_match_arm: false,
-            condition: and_not(self.condition, reset_allow_struct),
-            rightmost_subexpression_in_condition: self.rightmost_subexpression_in_condition,
-            leftmost_subexpression_in_optional_operand: both(self.condition, optional_operand),
-            next_operator_can_begin_expr: self.next_operator_can_begin_expr,
-            next_operator_can_continue_expr: self.next_operator_can_continue_expr,
-            next_operator_can_begin_generics: self.next_operator_can_begin_generics,
-        }
+        let mut fixup = self.with_operators(precedence, next);
+        fixup.stmt = false;
+        fixup.leftmost_subexpression_in_stmt = false;
+        fixup.match_arm = false;
+        fixup.leftmost_subexpression_in_match_arm = false;
+        fixup.condition = and_not(self.condition, reset_allow_struct);
+        fixup.leftmost_subexpression_in_optional_operand = both(self.condition, optional_operand);
+        fixup
     }
 }
