@@ -37,4 +37,10 @@ handedBy h (node l a b) (second ∷ p) = handedBy (handsSecond (ownContext h (no
 abbrev pub rowIn : List ℕ → ℕ → Row
 rowIn rows j =
     let at = 5 * (j - 1) in
-    record { pair = getD rows at 0; precedence = getD rows (at + 1) 0; previous = getD rows (at + 2) 0; next = getD rows (at + 3) 0; flags = getD rows (at + 4) 0 }
+    record {
+      pair = getD rows at 0;
+      precedence = getD rows (at + 1) 0;
+      previous = getD rows (at + 2) 0;
+      next = getD rows (at + 3) 0;
+      flags = getD rows (at + 4) 0;
+    }
