@@ -9,7 +9,9 @@ use one_pass::check;
 use row::Row;
 use row::decision_of;
 use row::lone_row;
+use tree::table::Operand;
 use tree::table::form_at;
+use tree::table::operand_at;
 use tree::table::operand_number;
 ghost use mathlib.Core.Path.{_≡_};
 ghost use Prim.Native.Nat.{_*_, _≤_};
@@ -46,7 +48,7 @@ fn store(rows: &mut [u16], node: u16, row: Row)
     rows[at + 4] = row.flags;
 }
 
-// The rows of a node and of all below it. Number 0 stands for an operand that is absent.
+// The rows of a node and of all below it.
 fn walk_from(handed: Handed, table: &[u16], count: u16, node: u16, rows: &mut [u16])
     requires { ⌜ 5 * count ≤ length (now rows) ⌝ }
     ensures { λ _. ⌜ now (rows .exit) ≡ placed (now (table .entry)) count node (rowsOf handed (treeAt (now (table .entry)) count node)) (now (rows .entry)) ⌝ }
@@ -66,16 +68,15 @@ fn walk_from(handed: Handed, table: &[u16], count: u16, node: u16, rows: &mut [u
     walk_operands(own, table, count, node, rows);
 }
 
-// The rows below a node that is there, printed in a context of its own.
+// The rows below a node that is there, printed in a context of its own. "An absent operand ends the question before anything else".
 fn walk_operands(own: FixupContext, table: &[u16], count: u16, node: u16, rows: &mut [u16])
     requires { ⌜ (1 ≤ node) × (node ≤ count) × (5 * count ≤ length (now rows)) ⌝ }
     ensures { λ _. ⌜ now (rows .exit) ≡ placedBelow own (now (table .entry)) count node (now (rows .entry)) ⌝ }
 {
     walk_first(own, table, count, node, rows);
-    let operand = operand_number(table, count, node, 4);
-    if operand == 0 {
+    let Operand::Present(operand) = operand_at(table, count, node, 4) else {
         return;
-    }
+    };
     walk_from(
         second_operand(own, table, count, node),
         table,
@@ -90,10 +91,9 @@ fn walk_first(own: FixupContext, table: &[u16], count: u16, node: u16, rows: &mu
     requires { ⌜ (1 ≤ node) × (node ≤ count) × (5 * count ≤ length (now rows)) ⌝ }
     ensures { λ _. ⌜ now (rows .exit) ≡ placedFirst own (now (table .entry)) count node (now (rows .entry)) ⌝ }
 {
-    let operand = operand_number(table, count, node, 3);
-    if operand == 0 {
+    let Operand::Present(operand) = operand_at(table, count, node, 3) else {
         return;
-    }
+    };
     walk_from(
         first_operand(own, table, count, node),
         table,
@@ -103,7 +103,7 @@ fn walk_first(own: FixupContext, table: &[u16], count: u16, node: u16, rows: &mu
     );
 }
 
-// The same as `walk_from` for what no owner tests, in NONE: items, types and links, a list in a loop.
+// The same as `walk_from` for what no owner tests, in NONE: items, types and links, a list in a loop. Number 0 stands for an operand that is absent.
 fn walk_alone(table: &[u16], count: u16, node: u16, rows: &mut [u16])
     requires { ⌜ 5 * count ≤ length (now rows) ⌝ }
     ensures { λ _. ⌜ now (rows .exit) ≡ placedAlone (now (table .entry)) count node (now (rows .entry)) ⌝ }

@@ -9,6 +9,7 @@ use borrow.Author.Tests.{eq-eqb, ne-eqb}
 use Rattle.tree.specs.Table.{cellAt}
 use Rattle.tree.specs.Trees.{operandAt, treeAt}
 use Rattle.tree.proofs.Unfold.{tree-past, left, left-falls}
+use Rattle.tree.proofs.Walks.{present-above, absent-zero}
 use Rattle.expr.specs.Expr.{handsFirst, handsSecond}
 use Rattle.row.specs.declared.Row.{Row}
 use Rattle.row.specs.declared.Decision.{Decision}
@@ -37,6 +38,7 @@ use Rattle.expr.proofs.second_operand.Reads as second-operand-reads
 use Rattle.fixup.proofs.context.FixupContext.none.Reads as none-reads
 use Rattle.labels.proofs.form.class_of.Reads as class-of-reads
 use Rattle.tree.proofs.table.form_at.Reads as form-at-reads
+use Rattle.tree.proofs.table.operand_at.Reads as operand-at-reads
 use Rattle.tree.proofs.table.operand_number.Reads as operand-number-reads
 use Rattle.row.proofs.decision_of.Reads as decision-of-reads
 use Rattle.row.proofs.lone_row.Reads as lone-row-reads
@@ -97,13 +99,13 @@ abbrev walk-alone-claims : ℕ → walk-alone-lts.Claims
 walk-alone-claims t = (form-at-reads.Asked, form-at-reads.Learnt, class-of-reads.Asked, class-of-reads.Learnt, lone-row-reads.Asked, lone-row-reads.Learnt, store-reads.Asked, store-reads.Learnt, none-reads.Asked, none-reads.Learnt, walk-operands-below t, walk-operands.Post, no-row-reads.Asked, no-row-reads.Learnt, operand-number-reads.Asked, operand-number-reads.Learnt, walk-alone-below t, walk-alone.Post)
 
 abbrev walk-first-claims : ℕ → walk-first-lts.Claims
-walk-first-claims t = (operand-number-reads.Asked, operand-number-reads.Learnt, first-operand-reads.Asked, first-operand-reads.Learnt, walk-from-below t, walk-from.Post)
+walk-first-claims t = (operand-at-reads.Asked, operand-at-reads.Learnt, first-operand-reads.Asked, first-operand-reads.Learnt, walk-from-below t, walk-from.Post)
 
 abbrev walk-from-claims : ℕ → walk-from-lts.Claims
 walk-from-claims t = (form-at-reads.Asked, form-at-reads.Learnt, class-of-reads.Asked, class-of-reads.Learnt, walk-alone-below t, walk-alone.Post, decision-of-reads.Asked, decision-of-reads.Learnt, store-reads.Asked, store-reads.Learnt, none-reads.Asked, none-reads.Learnt, walk-operands-below t, walk-operands.Post)
 
 abbrev walk-operands-claims : ℕ → walk-operands-lts.Claims
-walk-operands-claims t = (walk-first-below t, walk-first.Post, operand-number-reads.Asked, operand-number-reads.Learnt, second-operand-reads.Asked, second-operand-reads.Learnt, walk-from-below t, walk-from.Post)
+walk-operands-claims t = (walk-first-below t, walk-first.Post, operand-at-reads.Asked, operand-at-reads.Learnt, second-operand-reads.Asked, second-operand-reads.Learnt, walk-from-below t, walk-from.Post)
 
 abbrev walk-alone-Inv-loop : walk-alone-lts.InvT-loop
 walk-alone-Inv-loop table count node rows₀ at₀ rows at = (left at ≤ left node) × (length rows ≡ length rows₀) × (placedAlone table count at rows ≡ placedAlone table count node rows₀)
@@ -254,34 +256,42 @@ walk-alone-returns-3 t c =
     let k = c .loop-test in
     sym (placed-absent (a .table .now) (a .count) (l .at) alone _ (omega arith)) ∙ l .inv .2
 
-walk-first-operand-number-requires : (t : ℕ) → walk-first-lts.Need-operand-number-requires (walk-first-claims t) (walk-first-at t) walk-first.Post
-walk-first-operand-number-requires t c κs = search needs
+walk-first-operand-at-requires : (t : ℕ) → walk-first-lts.Need-operand-at-requires (walk-first-claims t) (walk-first-at t) walk-first.Post
+walk-first-operand-at-requires t c κs = search needs
+
+walk-first-enum-known-operand : (t : ℕ) → walk-first-lts.Need-enum-known-operand (walk-first-claims t) (walk-first-at t) walk-first.Post
+walk-first-enum-known-operand t c = search needs
+
+walk-first-enum-told : (t : ℕ) → walk-first-lts.Need-enum-told (walk-first-claims t) (walk-first-at t) walk-first.Post
+walk-first-enum-told t c = search needs
 
 walk-first-returns : (t : ℕ) → walk-first-lts.Need-returns (walk-first-claims t) (walk-first-at t) walk-first.Post
 walk-first-returns t c =
-    let a = c .before .before .before .before .args in
-    sym (placed-absent (a .table .now) (a .count) (operandAt (a .table .now) (a .count) (a .node) 3) (handsFirst (a .own) (treeAt (a .table .now) (a .count) (a .node))) _ (sym (c .before .operand-number .ensures) ∙ c .if1 .taken))
+    let a = c .before .before .before .before .before .args in
+    sym (placed-absent (a .table .now) (a .count) (operandAt (a .table .now) (a .count) (a .node) 3) (handsFirst (a .own) (treeAt (a .table .now) (a .count) (a .node))) _ (absent-zero _ (sym (c .before .before .operand-at .ensures) ∙ c .enum-told .given .1)))
 
 walk-first-first-operand-requires : (t : ℕ) → walk-first-lts.Need-first-operand-requires (walk-first-claims t) (walk-first-at t) walk-first.Post
 walk-first-first-operand-requires t c κs = search needs
 
 walk-first-walk-from-requires : (t : ℕ) → walk-first-lts.Need-walk-from-requires (walk-first-claims t) (walk-first-at t) walk-first.Post
 walk-first-walk-from-requires t c κs =
-    let s = c .before .before .before .before .before .before in
+    let s = c .before .before .before .before .before .before .before .before in
     let a = s .args in
     let p = s .pre .1 in
     let t≡ = s .pre .0 in
     let w = s .fits in
-    let q = left-falls (a .count) (a .node) (cellAt (a .table .now) (a .node) 3) (omega arith) (omega arith) (omega arith) in
-    (rw (c .before .before .before .operand-number .ensures) (omega arith), omega arith)
+    let q = present-above (a .count) (a .node) (cellAt (a .table .now) (a .node) 3) _ (sym (c .before .before .before .before .before .operand-at .ensures) ∙ c .before .before .before .operand .given .1) in
+    let f = left-falls (a .count) (a .node) (cellAt (a .table .now) (a .node) 3) (omega arith) (omega arith) (omega arith) in
+    (rw (← q .0) (omega arith), omega arith)
 
 walk-first-same-length : (t : ℕ) → walk-first-lts.Need-same-length (walk-first-claims t) (walk-first-at t) walk-first.Post
 walk-first-same-length t c = search needs
 
 walk-first-returns-2 : (t : ℕ) → walk-first-lts.Need-returns-2 (walk-first-claims t) (walk-first-at t) walk-first.Post
 walk-first-returns-2 t c =
-    let a = c .before .before .before .before .before .before .before .before .before .args in
-    rw (← c .before .before .before .before .before .before .operand-number .ensures, ← c .before .before .before .before .first-operand .ensures) (c .before .before .walk-from .ensures)
+    let a = c .before .before .before .before .before .before .before .before .before .before .before .args in
+    let q = present-above (a .count) (a .node) (cellAt (a .table .now) (a .node) 3) _ (sym (c .before .before .before .before .before .before .before .before .operand-at .ensures) ∙ c .before .before .before .before .before .before .operand .given .1) in
+    rw (q .0, ← c .before .before .before .before .first-operand .ensures) (c .before .before .walk-from .ensures)
 
 walk-from-form-at-requires : (t : ℕ) → walk-from-lts.Need-form-at-requires (walk-from-claims t) (walk-from-at t) walk-from.Post
 walk-from-form-at-requires t c κs = search needs
@@ -372,39 +382,48 @@ walk-operands-walk-first-requires t c κs =
     let t≡ = s .pre .0 in
     (omega arith, (omega arith, omega arith, omega arith))
 
-walk-operands-operand-number-requires : (t : ℕ) → walk-operands-lts.Need-operand-number-requires (walk-operands-claims t) (walk-operands-at t) walk-operands.Post
-walk-operands-operand-number-requires t c κs = search needs
+walk-operands-operand-at-requires : (t : ℕ) → walk-operands-lts.Need-operand-at-requires (walk-operands-claims t) (walk-operands-at t) walk-operands.Post
+walk-operands-operand-at-requires t c κs = search needs
+
+walk-operands-enum-known-operand : (t : ℕ) → walk-operands-lts.Need-enum-known-operand (walk-operands-claims t) (walk-operands-at t) walk-operands.Post
+walk-operands-enum-known-operand t c = search needs
+
+walk-operands-enum-told : (t : ℕ) → walk-operands-lts.Need-enum-told (walk-operands-claims t) (walk-operands-at t) walk-operands.Post
+walk-operands-enum-told t c = search needs
 
 walk-operands-same-length : (t : ℕ) → walk-operands-lts.Need-same-length (walk-operands-claims t) (walk-operands-at t) walk-operands.Post
-walk-operands-same-length t c = ap length (c .before .before .before .before .walk-first .ensures) ∙ length-placed _ _ _ _ _
+walk-operands-same-length t c = ap length (c .before .before .before .before .before .walk-first .ensures) ∙ length-placed _ _ _ _ _
 
 walk-operands-returns : (t : ℕ) → walk-operands-lts.Need-returns (walk-operands-claims t) (walk-operands-at t) walk-operands.Post
 walk-operands-returns t c =
-    let a = c .before .before .before .before .before .before .before .before .args in
-    c .before .before .before .before .walk-first .ensures
-    ∙ sym (placed-absent (a .table .now) (a .count) (operandAt (a .table .now) (a .count) (a .node) 4) (handsSecond (a .own) (treeAt (a .table .now) (a .count) (a .node))) _ (sym (c .before .operand-number .ensures) ∙ c .if1 .taken))
+    let a = c .before .before .before .before .before .before .before .before .before .args in
+    c .before .before .before .before .before .walk-first .ensures
+    ∙ sym (placed-absent (a .table .now) (a .count) (operandAt (a .table .now) (a .count) (a .node) 4) (handsSecond (a .own) (treeAt (a .table .now) (a .count) (a .node))) _ (absent-zero _ (sym (c .before .before .operand-at .ensures) ∙ c .enum-told .given .1)))
 
 walk-operands-second-operand-requires : (t : ℕ) → walk-operands-lts.Need-second-operand-requires (walk-operands-claims t) (walk-operands-at t) walk-operands.Post
 walk-operands-second-operand-requires t c κs = search needs
 
 walk-operands-walk-from-requires : (t : ℕ) → walk-operands-lts.Need-walk-from-requires (walk-operands-claims t) (walk-operands-at t) walk-operands.Post
 walk-operands-walk-from-requires t c κs =
-    let s = c .before .before .before .before .before .before .before .before .before .before in
+    let s = c .before .before .before .before .before .before .before .before .before .before .before .before in
     let a = s .args in
     let p = s .pre .1 in
     let t≡ = s .pre .0 in
     let w = s .fits in
-    let z = ap length (c .before .before .before .before .before .before .walk-first .ensures) ∙ length-placed _ _ _ _ _ in
-    let q = left-falls (a .count) (a .node) (cellAt (a .table .now) (a .node) 4) (omega arith) (omega arith) (omega arith) in
-    (rw (c .before .before .before .operand-number .ensures) (omega arith), omega arith)
+    let z = ap length (c .before .before .before .before .before .before .before .before .walk-first .ensures) ∙ length-placed _ _ _ _ _ in
+    let q = present-above (a .count) (a .node) (cellAt (a .table .now) (a .node) 4) _ (sym (c .before .before .before .before .before .operand-at .ensures) ∙ c .before .before .before .operand .given .1) in
+    let f = left-falls (a .count) (a .node) (cellAt (a .table .now) (a .node) 4) (omega arith) (omega arith) (omega arith) in
+    (rw (← q .0) (omega arith), omega arith)
 
 walk-operands-same-length-2 : (t : ℕ) → walk-operands-lts.Need-same-length-2 (walk-operands-claims t) (walk-operands-at t) walk-operands.Post
 walk-operands-same-length-2 t c = search needs
 
 walk-operands-returns-2 : (t : ℕ) → walk-operands-lts.Need-returns-2 (walk-operands-claims t) (walk-operands-at t) walk-operands.Post
 walk-operands-returns-2 t c =
+    let a = c .before .before .before .before .before .before .before .before .before .before .before .before .before .before .before .args in
+    let q = present-above (a .count) (a .node) (cellAt (a .table .now) (a .node) 4) _ (sym (c .before .before .before .before .before .before .before .before .operand-at .ensures) ∙ c .before .before .before .before .before .before .operand .given .1) in
     c .before .before .walk-from .ensures
-    ∙ rw (c .before .before .before .before .before .before .operand-number .ensures, c .before .before .before .before .second-operand .ensures, c .before .before .before .before .before .before .before .before .before .walk-first .ensures)
+    ∙ rw (q .0, c .before .before .before .before .second-operand .ensures, c .before .before .before .before .before .before .before .before .before .before .before .walk-first .ensures)
 
 pub +walk-alone+walk-first+walk-from+walk-operands-spec : {M : Type 1} → statement M
 +walk-alone+walk-first+walk-from+walk-operands-spec =
@@ -436,7 +455,9 @@ pub +walk-alone+walk-first+walk-from+walk-operands-spec : {M : Type 1} → state
     (λ t. walk-first-lts.spec (walk-first-claims t)
     (walk-first-at t)
     walk-first.Post
-    (walk-first-operand-number-requires t)
+    (walk-first-operand-at-requires t)
+    (walk-first-enum-known-operand t)
+    (walk-first-enum-told t)
     (walk-first-returns t)
     (walk-first-first-operand-requires t)
     (walk-first-walk-from-requires t)
@@ -463,7 +484,9 @@ pub +walk-alone+walk-first+walk-from+walk-operands-spec : {M : Type 1} → state
     (walk-operands-at t)
     walk-operands.Post
     (walk-operands-walk-first-requires t)
-    (walk-operands-operand-number-requires t)
+    (walk-operands-operand-at-requires t)
+    (walk-operands-enum-known-operand t)
+    (walk-operands-enum-told t)
     (walk-operands-same-length t)
     (walk-operands-returns t)
     (walk-operands-second-operand-requires t)
