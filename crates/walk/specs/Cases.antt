@@ -89,6 +89,22 @@ returnBefore op = operator op (n ExprReturn 0 0 0 0 (name []))
 abbrev breakOverGroup : ℕ → List ℕ
 breakOverGroup attributes = n ExprBreak 0 0 2 0 (n ExprGroup attributes 0 3 0 (n ExprLoop 0 1 0 0 []))
 
+-- ---- P7 for all pairs of operators
+
+-- Eq Lt Le Ne Ge Gt
+abbrev comparisons : List ℕ
+comparisons = 12 ∷ 13 ∷ 14 ∷ 15 ∷ 16 ∷ 17 ∷ []
+
+-- an operator over each inner one, on the left and on the right, before other cases
+abbrev overEach : ℕ → List ℕ → List Case → List Case
+overEach outer [] rest = rest
+overEach outer (inner ∷ others) rest = case 0 (leftNested outer inner) 2 (pair 1) ∷ case 0 (rightNested outer inner) 3 (pair 1) ∷ overEach outer others rest
+
+-- each outer operator over each inner one
+abbrev everyPair : List ℕ → List ℕ → List Case → List Case
+everyPair [] inners rest = rest
+everyPair (outer ∷ others) inners rest = overEach outer inners (everyPair others inners rest)
+
 -- ---- the table
 
 abbrev pub cases : List Case
@@ -114,8 +130,7 @@ cases =
     case 0 (callOfField 0) 2 (pair 1) ∷
     case 0 (callOfField 1) 2 (pair 0) ∷
     -- P7 "comparison under comparison, either side: pair."
-    case 0 (leftNested 12 13) 2 (pair 1) ∷
-    case 0 (rightNested 12 13) 3 (pair 1) ∷
+    everyPair comparisons comparisons (
     -- P8 "context 1, Match left of `+`: pair; Match under Field: none."
     case 1 (operator 0 (n ExprMatch 0 0 0 0 (name []))) 2 (pair 1) ∷
     case 1 (n ExprField 0 0 2 0 (n ExprMatch 0 0 0 0 [])) 2 (pair 0) ∷
@@ -130,4 +145,4 @@ cases =
     case 0 (breakOverGroup 0) 2 (pair 1) ∷
     case 0 (breakOverGroup 1) 2 (pair 0) ∷
     case 0 (breakOverGroup 2) 2 (pair 0) ∷
-    []
+    [])
