@@ -6,6 +6,7 @@
 //!     cargo run --release -- instructions         instructions a node, with valgrind
 //!     cargo run --release -- nests [FOLDER]       nests of 4 to 126 levels
 //!     cargo run --release -- slowest [FOLDER]     the slowest trees that a search finds
+//!     cargo run --release -- reads FILE..         reads of the table a node, with valgrind
 //!     cargo run --release -- run SET SIDE TIMES   what valgrind and perf look at
 //!
 //! Inside the timing of each side, for one tree:
@@ -41,6 +42,7 @@
 
 mod clock;
 mod nests;
+mod reads;
 mod sets;
 mod sides;
 
@@ -64,6 +66,11 @@ fn main() -> ExitCode {
         ["nests", folder] => nests::time_nests(Some(folder)),
         ["slowest"] => nests::search_slowest(None),
         ["slowest", folder] => nests::search_slowest(Some(folder)),
+        ["reads", ref files @ ..] if !files.is_empty() => reads::count_reads(files),
+        ["read", side, file] => match Side::ALL.get(number(side)) {
+            Some(&side) => reads::read_once(side, file),
+            None => return usage(),
+        },
         ["run", set, side, times] => match (SETS.get(number(set)), Side::ALL.get(number(side))) {
             (Some(set), Some(&side)) => {
                 for group in &mut prepare(set, GROUP_NODES) {
@@ -78,7 +85,7 @@ fn main() -> ExitCode {
 }
 
 fn usage() -> ExitCode {
-    eprintln!("usage: bench [turns | instructions | nests [FOLDER] | slowest [FOLDER] | run SET SIDE TIMES], sets and sides from 0 on");
+    eprintln!("usage: bench [turns | instructions | nests [FOLDER] | slowest [FOLDER] | reads FILE.. | run SET SIDE TIMES], sets and sides from 0 on");
     ExitCode::FAILURE
 }
 

@@ -44,6 +44,10 @@ impl Prepared {
         self.table.count.into()
     }
 
+    pub fn cells(&self) -> &[u16] {
+        &self.table.cells
+    }
+
     pub fn expressions(&self) -> u64 {
         let NodeTable { count, ref cells, .. } = self.table;
         let is_expression = |&node: &u16| table::class(cells, node) == Class::Expression;

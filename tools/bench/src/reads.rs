@@ -1,0 +1,63 @@
+//! How often tezhukor_decide reads the cells of a table, as valgrind's lackey sees
+//! it: every load of the machine code from the memory that holds the table.
+
+use crate::sides::{Prepared, Side};
+use std::io::{BufRead, BufReader};
+use std::process::{Command, Stdio};
+
+/// A line for each tree file.
+pub fn count_reads(files: &[&str]) {
+    println!("| tree | nodes | reads a node | of them by the checks |");
+    println!("|---|---:|---:|---:|");
+    for file in files {
+        let nodes = prepared(file).nodes();
+        let [all, checks] = ["0", "1"].map(|side| loads(side, file) as f64 / nodes as f64);
+        println!("| {file} | {nodes} | {all:.1} | {checks:.1} |");
+    }
+}
+
+/// What lackey looks at: says where the table lies, and asks our side once.
+pub fn read_once(side: Side, file: &str) {
+    let mut tree = prepared(file);
+    let cells = tree.cells().as_ptr_range();
+    println!("table {:x} {:x}", cells.start as usize, cells.end as usize);
+    tree.ask(side);
+    // Nothing else is to read the table.
+    std::process::exit(0);
+}
+
+fn prepared(file: &str) -> Prepared {
+    let bytes = std::fs::read(file).expect("a tree file");
+    Prepared::new(oracle::table::read(&bytes).expect("an accepted tree"))
+}
+
+/// The loads from the table after it was said where it lies.
+fn loads(side: &str, file: &str) -> u64 {
+    let mut child = Command::new("valgrind")
+        .args(["--tool=lackey", "--trace-mem=yes", "--log-fd=1"])
+        .arg(std::env::current_exe().expect("a program that runs"))
+        .args(["read", side, file])
+        .stdout(Stdio::piped())
+        .spawn()
+        .expect("valgrind");
+    let mut table = 0..0;
+    let mut loads = 0;
+    for line in BufReader::new(child.stdout.take().expect("a pipe")).split(b'\n') {
+        let line = line.expect("what lackey says");
+        if let Some(place) = line.strip_prefix(b"table ") {
+            let place = String::from_utf8_lossy(place);
+            let (start, end) = place.split_once(' ').expect("two places");
+            table = hexadecimal(start)..hexadecimal(end);
+        } else if let Some(load) = line.strip_prefix(b" L ") {
+            let load = String::from_utf8_lossy(load);
+            let (place, _) = load.split_once(',').expect("a place and a size");
+            loads += u64::from(table.contains(&hexadecimal(place)));
+        }
+    }
+    assert!(child.wait().expect("valgrind").success());
+    loads
+}
+
+fn hexadecimal(digits: &str) -> u64 {
+    u64::from_str_radix(digits.trim(), 16).expect("a hexadecimal number")
+}
