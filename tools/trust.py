@@ -21,7 +21,7 @@ ROOTS = [
     'walk/Walk',
     'token_writer/Writes',
     'token_reader/Reading',
-    'answers/Plain',
+    'answers/Replies',
 ]
 
 # What the promises are checked against: not cited by them.

@@ -2,12 +2,12 @@
 use tree_file::Loaded;
 ghost use mathlib.Core.Path.{_≡_};
 ghost use lib.ListN.{length};
-ghost use Rattle.tree_file.specs.Files.{loaded, loadedTable};
-ghost use Rattle.answers.specs.Plain.{loadedNumber};
+ghost use Rattle.tree_file.specs.Files.{loaded, loadedTable, loadedInNumbers};
+ghost use Rattle.answers.specs.Replies.{oneNumber};
 
 // The refusal times 65,536, or the context times 8,192 and the count.
 fn number(answer: Loaded) -> u32
-    ensures { λ r. ⌜ r ≡ loadedNumber answer ⌝ }
+    ensures { λ r. ⌜ r ≡ oneNumber (loadedInNumbers answer) ⌝ }
 {
     match answer {
         Loaded::Refused(refusal) => 65536 * (refusal as u32),
@@ -18,7 +18,7 @@ fn number(answer: Loaded) -> u32
 // tree_file::load.
 #[no_mangle]
 pub extern "C" fn tezhukor_load(file: &[u8], table: &mut [u16]) -> u32
-    ensures reply { λ r. ⌜ r ≡ loadedNumber (loaded (now (file .entry)) (length (now (table .entry)))) ⌝ }
+    ensures reply { λ r. ⌜ r ≡ oneNumber (loadedInNumbers (loaded (now (file .entry)) (length (now (table .entry))))) ⌝ }
     ensures table { λ r. ⌜ now (table .exit) ≡ loadedTable (now (file .entry)) (now (table .entry)) ⌝ }
 {
     number(tree_file::load(file, table))

@@ -3,11 +3,12 @@ use token_reader::Reply;
 use token_writer::Written;
 ghost use mathlib.Core.Path.{_≡_};
 ghost use lib.ListN.{length};
-ghost use Rattle.token_writer.specs.Writes.{answered, tokensAfter};
-ghost use Rattle.answers.specs.Plain.{writtenNumber, replyNumber, ReadNumber};
+ghost use Rattle.token_writer.specs.Writes.{answered, tokensAfter, writtenInNumbers};
+ghost use Rattle.token_reader.specs.Reading.{replyInNumbers};
+ghost use Rattle.answers.specs.Replies.{oneNumber, ReadNumber};
 
 fn written_number(answer: Written) -> u32
-    ensures { λ r. ⌜ r ≡ writtenNumber answer ⌝ }
+    ensures { λ r. ⌜ r ≡ oneNumber (writtenInNumbers answer) ⌝ }
 {
     match answer {
         Written::Refused(refusal) => 65536 * (refusal as u32),
@@ -18,14 +19,14 @@ fn written_number(answer: Written) -> u32
 // token_writer::write.
 #[no_mangle]
 pub extern "C" fn tezhukor_write(context: u16, count: u16, table: &[u16], tokens: &mut [u16]) -> u32
-    ensures reply { λ r. ⌜ r ≡ writtenNumber (answered context count (now (table .entry)) (length (now (tokens .entry)))) ⌝ }
+    ensures reply { λ r. ⌜ r ≡ oneNumber (writtenInNumbers (answered context count (now (table .entry)) (length (now (tokens .entry))))) ⌝ }
     ensures tokens { λ r. ⌜ now (tokens .exit) ≡ tokensAfter context count (now (table .entry)) (now (tokens .entry)) ⌝ }
 {
     written_number(token_writer::write(context, count, table, tokens))
 }
 
 fn reply_number(answer: Reply) -> u32
-    ensures { λ r. ⌜ r ≡ replyNumber answer ⌝ }
+    ensures { λ r. ⌜ r ≡ oneNumber (replyInNumbers answer) ⌝ }
 {
     match answer {
         Reply::Refused(refusal) => 65536 * (refusal as u32),

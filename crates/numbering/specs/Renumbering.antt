@@ -1,6 +1,6 @@
 -- A tree numbered anew into a lent table: the answer, and what the table holds afterwards.
 use mathlib.Core.Bool.{Bool, _||_}
-use mathlib.Core.List.{List}
+use mathlib.Core.List.{List, [], _∷_}
 use Prim.Native.Nat.{ℕ, _*_}
 use lib.Dec.{ltb}
 use lib.ListN.{length}
@@ -21,3 +21,9 @@ renumbered t cells = pick (tooLarge t) TooLarge (pick (tooShort t cells) TooShor
 -- where it is refused, the lent table keeps its contents; otherwise the cells past the nodes keep theirs
 unfoldable pub renumberedAfter : Tree → List ℕ → List ℕ
 renumberedAfter t out = pick (tooLarge t || tooShort t (length out)) out (over (numbered t) out)
+
+-- "When an answer is an enum, a definition gives this paper's number and values for each of its cases." The reply number, 0 for done, and behind it the value
+abbrev pub renumberedInNumbers : Renumbered → List ℕ
+renumberedInNumbers TooLarge = 16 ∷ []
+renumberedInNumbers TooShort = 12 ∷ []
+renumberedInNumbers (Nodes n) = 0 ∷ n ∷ []

@@ -12,7 +12,8 @@ use borrow.Author.Tests.{le-leb, lt-leb, lt-ltb, le-ltb, eq-eqb, ne-eqb}
 use Rattle.laws.specs.Choice.{pick}
 use Rattle.laws.proofs.Choice.{pick-true, pick-false}
 use Rattle.numbers.specs.declared.Number.the-variants.{Malformed, Value}
-use Rattle.numbers.specs.Numbers.{followed, groups, valueOf, malformed, numberAt}
+use Rattle.numbers.specs.Numbers.{followed, groups, valueOf, malformed}
+use Rattle.numbers.specs.Standing.{standsAt}
 
 -- ---- one byte after the other
 
@@ -166,12 +167,12 @@ module _ (bytes : List ℕ) (on : 128 ≤ getD bytes 0 0) (on′ : 128 ≤ getD 
 -- ---- what stands at a place
 
 module _ (file : List ℕ) (at : ℕ) where
-  bad : malformed (drop at file) ≡ true → Malformed ≡ numberAt file at
-  unfolding numberAt
+  bad : malformed (drop at file) ≡ true → Malformed ≡ standsAt file at
+  unfolding standsAt
   bad e = sym (pick-true _ _ e)
 
-  good : (v k : ℕ) → malformed (drop at file) ≡ false → valueOf (drop at file) ≡ v → followed (drop at file) ≡ k → Value v (at + suc k) ≡ numberAt file at
-  unfolding numberAt
+  good : (v k : ℕ) → malformed (drop at file) ≡ false → valueOf (drop at file) ≡ v → followed (drop at file) ≡ k → Value v (at + suc k) ≡ standsAt file at
+  unfolding standsAt
   good v k e p q = rw (← p, ← q) (sym (pick-false _ _ e))
 
   long : length (drop at file) ≡ length file - at
@@ -180,14 +181,14 @@ module _ (file : List ℕ) (at : ℕ) where
   byte-at : (k n : ℕ) → at + k ≡ n → getD (drop at file) k 0 ≡ getD file n 0
   byte-at k n e = getD-drop at file k 0 ∙ ap (λ (m : ℕ). getD file m 0) e
 
-  pub nothing-left : length file ≤ at → Malformed ≡ numberAt file at
+  pub nothing-left : length file ≤ at → Malformed ≡ standsAt file at
   nothing-left h = bad (cut-off (drop at file) (let l = long in omega arith))
 
   module _ (low : ℕ) (is-low : low ≡ getD file at 0) (left : at < length file) where
     first-byte : getD (drop at file) 0 0 ≡ low
     first-byte = byte-at 0 at (omega arith) ∙ sym is-low
 
-    pub one-byte : low < 128 → Value low (at + 1) ≡ numberAt file at
+    pub one-byte : low < 128 → Value low (at + 1) ≡ standsAt file at
     one-byte h =
         let l = long in
         let b = first-byte in
@@ -195,7 +196,7 @@ module _ (file : List ℕ) (at : ℕ) where
         good low 0 (formed-one (drop at file) (omega arith) (omega arith) (g .0)) (omega arith) (g .0)
 
     module _ (on : 128 ≤ low) (low-byte : low < 256) where
-      pub cut-after-one : length file - at < 2 → Malformed ≡ numberAt file at
+      pub cut-after-one : length file - at < 2 → Malformed ≡ standsAt file at
       cut-after-one h =
           let l = long in
           let b = first-byte in
@@ -206,14 +207,14 @@ module _ (file : List ℕ) (at : ℕ) where
         second-byte : getD (drop at file) 1 0 ≡ middle
         second-byte = byte-at 1 (at + 1) refl ∙ sym is-middle
 
-        pub zero-second : middle ≡ 0 → Malformed ≡ numberAt file at
+        pub zero-second : middle ≡ 0 → Malformed ≡ standsAt file at
         zero-second z =
             let b = first-byte in
             let m = second-byte in
             let g = two-groups (drop at file) (omega arith) (omega arith) (omega arith) in
             bad (zero-end (drop at file) (omega arith) (rw (g .0) (omega arith)))
 
-        pub two-bytes : (middle ≡ 0 → ⊥) → middle < 128 → Value (low - 128 + 128 * middle) (at + 2) ≡ numberAt file at
+        pub two-bytes : (middle ≡ 0 → ⊥) → middle < 128 → Value (low - 128 + 128 * middle) (at + 2) ≡ standsAt file at
         two-bytes z h =
             let l = long in
             let b = first-byte in
@@ -222,7 +223,7 @@ module _ (file : List ℕ) (at : ℕ) where
             good _ 1 (formed-more (drop at file) (omega arith) (omega arith) (omega arith) (rw (g .0) (λ q. omega arith))) (omega arith) (g .0)
 
         module _ (on′ : 128 ≤ middle) (middle-byte : middle < 256) where
-          pub cut-after-two : length file - at < 3 → Malformed ≡ numberAt file at
+          pub cut-after-two : length file - at < 3 → Malformed ≡ standsAt file at
           cut-after-two h =
               let l = long in
               let b = first-byte in
@@ -234,7 +235,7 @@ module _ (file : List ℕ) (at : ℕ) where
             third-byte : getD (drop at file) 2 0 ≡ high
             third-byte = byte-at 2 (at + 2) refl ∙ sym is-high
 
-            pub zero-third : high ≡ 0 → Malformed ≡ numberAt file at
+            pub zero-third : high ≡ 0 → Malformed ≡ standsAt file at
             zero-third z =
                 let b = first-byte in
                 let m = second-byte in
@@ -242,10 +243,10 @@ module _ (file : List ℕ) (at : ℕ) where
                 let g = three-groups (drop at file) (omega arith) (omega arith) (omega arith) (omega arith) (omega arith) in
                 bad (zero-end (drop at file) (omega arith) (rw (g .0) (omega arith)))
 
-            pub high-third : 3 < high → Malformed ≡ numberAt file at
+            pub high-third : 3 < high → Malformed ≡ standsAt file at
             high-third h = go (decLe 128 high)
               where
-                go : Dec (128 ≤ high) → Malformed ≡ numberAt file at
+                go : Dec (128 ≤ high) → Malformed ≡ standsAt file at
                 go (yes p) =
                     let b = first-byte in
                     let m = second-byte in
@@ -259,7 +260,7 @@ module _ (file : List ℕ) (at : ℕ) where
                     let g = three-groups (drop at file) (omega arith) (omega arith) (omega arith) (omega arith) (omega arith) in
                     bad (too-large (drop at file) (omega arith) (omega arith))
 
-            pub three-bytes : (high ≡ 0 → ⊥) → high ≤ 3 → Value (low - 128 + 128 * (middle - 128) + 16384 * high) (at + 3) ≡ numberAt file at
+            pub three-bytes : (high ≡ 0 → ⊥) → high ≤ 3 → Value (low - 128 + 128 * (middle - 128) + 16384 * high) (at + 3) ≡ standsAt file at
             three-bytes z h =
                 let l = long in
                 let b = first-byte in

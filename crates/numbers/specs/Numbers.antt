@@ -5,8 +5,6 @@ use Prim.Native.Nat.{ℕ, suc, _+_, _*_, _%_}
 use lib.Dec.{eqb, leb, ltb}
 use lib.ListN.{length, getD, take, drop}
 use Rattle.laws.specs.Choice.{pick}
-use Rattle.numbers.specs.declared.Number.{Number}
-use Rattle.numbers.specs.declared.Number.the-variants.{Malformed, Value}
 
 -- ---- "A number is groups of seven bits, lowest group first; the high bit of a byte says another follows."
 
@@ -34,7 +32,3 @@ malformed bytes =
     leb (length bytes) (followed bytes)
     || (ltb 65535 (valueOf bytes)
     || (ltb 0 (followed bytes) && eqb (getD bytes (followed bytes) 0) 0))
-
--- the number that starts at a place, with the place after it
-unfoldable pub numberAt : List ℕ → ℕ → Number
-numberAt file at = pick (malformed (drop at file)) Malformed (Value (valueOf (drop at file)) (at + suc (followed (drop at file))))

@@ -1,7 +1,7 @@
 // The seven-bit numbers of a tree file.
 ghost use mathlib.Core.Path.{_≡_};
 ghost use Prim.Native.Nat.{_<_};
-ghost use Rattle.numbers.specs.Numbers.{numberAt};
+ghost use Rattle.numbers.specs.Standing.{standsAt};
 
 // What stands at a place of the file.
 pub enum Number {
@@ -19,7 +19,7 @@ fn wide(byte: u8) -> u16
 
 // The number that starts at a place. Three groups are the most that a number up to 65,535 has.
 pub fn number_at(file: &[u8], at: usize) -> Number
-    ensures { λ r. ⌜ r ≡ numberAt (now (file .entry)) at ⌝ }
+    ensures { λ r. ⌜ r ≡ standsAt (now (file .entry)) at ⌝ }
 {
     if file.len() <= at {
         return Number::Malformed;

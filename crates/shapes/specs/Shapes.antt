@@ -3,7 +3,7 @@ use mathlib.Core.List.{List, [], _∷_}
 use Prim.Native.Nat.{ℕ}
 use Rattle.laws.specs.Choice.{Row, row, lookup}
 use Rattle.tree.specs.declared.table.Operand.{Operand}
-use Rattle.tree.specs.declared.table.Operand.the-variants.{Absent}
+use Rattle.tree.specs.declared.table.Operand.the-variants.{Absent, Present}
 use Rattle.shapes.specs.declared.Shape.{Shape}
 use Rattle.shapes.specs.declared.Shape.the-variants.{Closed, One, Two}
 use Rattle.tree.specs.Forms.{ExprAssign, ExprAwait, ExprBinary, ExprBreak, ExprCall, ExprCast, ExprClosure, ExprField, ExprGroup, ExprIndex, ExprLet, ExprMethodCall, ExprParen, ExprRange, ExprRawAddr, ExprReference, ExprReturn, ExprTry, ExprUnary, ExprYield, TypeFnPtr, TypeImplTrait, TypePath, TypePtr, TypeReference, TypeTraitObject, Link}
@@ -36,3 +36,8 @@ unfoldable pub secondInShape : Shape → Operand
 secondInShape Closed = Absent
 secondInShape (One a) = Absent
 secondInShape (Two a b) = b
+
+-- "Operand 0 is absent."
+abbrev pub operandNumber : Operand → ℕ
+operandNumber Absent = 0
+operandNumber (Present n) = n

@@ -8,3 +8,4 @@ pub mod Steps
 pub mod ExprEnds
 pub mod Codes
 pub mod Whole
+pub mod Numbers

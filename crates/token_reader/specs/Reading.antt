@@ -40,3 +40,8 @@ pub record Answers (codes table : List ℕ) (reply : Reply) (after : List ℕ) :
   -- 15. "The grammar below gives the token list no reading."
   pub unread : refusal12 (length table) ≡ false → refusal14 codes ≡ false → ((t : Tree) → Reads codes t → ⊥) → (reply ≡ Refused 15) × (after ≡ table)
   pub read : refusal12 (length table) ≡ false → refusal14 codes ≡ false → (t : Tree) → Reads codes t → (reply ≡ countOrLarge t) × (after ≡ stored t table)
+
+-- "When an answer is an enum, a definition gives this paper's number and values for each of its cases." The reply number, 0 for done, and behind it the value
+abbrev pub replyInNumbers : Reply → List ℕ
+replyInNumbers (Refused n) = n ∷ []
+replyInNumbers (Nodes n) = 0 ∷ n ∷ []

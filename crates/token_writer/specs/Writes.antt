@@ -52,3 +52,8 @@ answered context count cells lent =
 unfoldable pub tokensAfter : ℕ → ℕ → List ℕ → List ℕ → List ℕ
 tokensAfter context count cells tokens =
     pick (eqb (writeRefusal context count cells (length tokens)) 0) (over (codesOf (written count cells)) tokens) tokens
+
+-- "When an answer is an enum, a definition gives this paper's number and values for each of its cases." The reply number, 0 for done, and behind it the value
+abbrev pub writtenInNumbers : Written → List ℕ
+writtenInNumbers (Refused n) = n ∷ []
+writtenInNumbers (Tokens n) = 0 ∷ n ∷ []

@@ -9,14 +9,15 @@ use lib.Seq.{drop-drop}
 use Rattle.laws.specs.Choice.{pick}
 use Rattle.laws.proofs.Choice.{pick-true, pick-false}
 use Rattle.numbers.specs.declared.Number.the-variants.{Malformed, Value}
-use Rattle.numbers.specs.Numbers.{followed, valueOf, restOf, malformed, numberAt}
+use Rattle.numbers.specs.Numbers.{followed, valueOf, restOf, malformed}
+use Rattle.numbers.specs.Standing.{standsAt}
 use Rattle.tree_file.specs.Several.{Numbers, broken, numbers, prepend, numbersOf}
 
 -- ---- what stands at a place
 
 module _ (file : List ℕ) (at : ℕ) where
-  pub number-bad : Malformed ≡ numberAt file at → malformed (drop at file) ≡ true
-  unfolding numberAt
+  pub number-bad : Malformed ≡ standsAt file at → malformed (drop at file) ≡ true
+  unfolding standsAt
   number-bad e = go (malformed (drop at file)) refl
     where
       go : (b : Bool) → malformed (drop at file) ≡ b → malformed (drop at file) ≡ true
@@ -29,8 +30,8 @@ module _ (file : List ℕ) (at : ℕ) where
     pub value : valueOf (drop at file) ≡ v
     pub rest : restOf (drop at file) ≡ drop next file
 
-  number-good : (v next : ℕ) → Value v next ≡ numberAt file at → Stands v next
-  unfolding numberAt restOf
+  number-good : (v next : ℕ) → Value v next ≡ standsAt file at → Stands v next
+  unfolding standsAt restOf
   number-good v next e = go (malformed (drop at file)) refl
     where
       go : (b : Bool) → malformed (drop at file) ≡ b → Stands v next
@@ -80,7 +81,7 @@ numbers-more (suc k) bytes vs r e h = go (apart k bytes vs r e) (λ ws p. number
     go (taken ws m p q) ih = one-more (suc k) bytes m ∙ rw (ih ws p, q)
 
 -- after k numbers the one that stands at the place after them
-pub numbers-next : (k : ℕ) (bytes vs file : List ℕ) (at v next : ℕ) → numbersOf k bytes ≡ numbers vs (drop at file) → Value v next ≡ numberAt file at → numbersOf (suc k) bytes ≡ numbers (vs ++ v ∷ []) (drop next file)
+pub numbers-next : (k : ℕ) (bytes vs file : List ℕ) (at v next : ℕ) → numbersOf k bytes ≡ numbers vs (drop at file) → Value v next ≡ standsAt file at → numbersOf (suc k) bytes ≡ numbers (vs ++ v ∷ []) (drop next file)
 numbers-next k bytes vs file at v next e n =
     let s = number-good file at v next n in
     numbers-more k bytes vs (drop at file) e (s .formed) ∙ rw (s .value, s .rest)

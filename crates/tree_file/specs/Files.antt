@@ -64,3 +64,8 @@ loaded file lent =
 -- the lent table afterwards: the file's numbers over its start, or, on a refusal, as it was
 unfoldable pub loadedTable : List ℕ → List ℕ → List ℕ
 loadedTable file table = pick (eqb (fileRefusal file (length table)) 0) (over (cellsIn file) table) table
+
+-- "When an answer is an enum, a definition gives this paper's number and values for each of its cases." The reply number, 0 for done, and behind it the values
+abbrev pub loadedInNumbers : Loaded → List ℕ
+loadedInNumbers (Refused n) = n ∷ []
+loadedInNumbers (Accepted context count) = 0 ∷ context ∷ count ∷ []

@@ -1,6 +1,8 @@
 -- `answers::files::number` meets its contract. Assumes nothing.
 use mathlib.Core.Path.{sym, ap}
-use Rattle.answers.specs.Plain.{loadedNumber}
+use Rattle.tree_file.specs.declared.Loaded.{Loaded}
+use Rattle.tree_file.specs.Files.{loadedInNumbers}
+use Rattle.answers.specs.Replies.{oneNumber}
 use borrow.Author.Needs.{needs}
 use Rattle.answers.proofs.files.number.Statement.{statement}
 use Rattle.answers.proofs.files.number.Tie as tie
@@ -30,10 +32,10 @@ add-result : tie.Need-add-result
 add-result c = search needs
 
 returns : tie.Need-returns
-returns c = sym (ap loadedNumber (c .before .answer .given .1))
+returns c = sym (ap (λ (x : Loaded). oneNumber (loadedInNumbers x)) (c .before .answer .given .1))
 
 returns-2 : tie.Need-returns-2
-returns-2 c = sym (ap loadedNumber (c .before .answer2 .given .1))
+returns-2 c = sym (ap (λ (x : Loaded). oneNumber (loadedInNumbers x)) (c .before .answer2 .given .1))
 
 pub number-spec : {M : Type 1} → statement M
 number-spec =

@@ -1,6 +1,8 @@
 -- `answers::plain::reply_number` meets its contract. Assumes nothing.
 use mathlib.Core.Path.{sym, ap}
-use Rattle.answers.specs.Plain.{replyNumber}
+use Rattle.token_reader.specs.declared.Reply.{Reply}
+use Rattle.token_reader.specs.Reading.{replyInNumbers}
+use Rattle.answers.specs.Replies.{oneNumber}
 use borrow.Author.Needs.{needs}
 use Rattle.answers.proofs.plain.reply_number.Statement.{statement}
 use Rattle.answers.proofs.plain.reply_number.Tie as tie
@@ -21,7 +23,7 @@ cast-result-2 : tie.Need-cast-result-2
 cast-result-2 c = search needs
 
 returns : tie.Need-returns
-returns c = sym (ap replyNumber (c .before .answer .given .1))
+returns c = sym (ap (λ (x : Reply). oneNumber (replyInNumbers x)) (c .before .answer .given .1))
 
 returns-2 : tie.Need-returns-2
 returns-2 c = search needs

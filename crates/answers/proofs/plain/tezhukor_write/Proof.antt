@@ -1,6 +1,8 @@
 -- `answers::plain::tezhukor_write` meets its contract. Assumes nothing.
 use mathlib.Core.Path.{ap, _∙_}
-use Rattle.answers.specs.Plain.{writtenNumber}
+use Rattle.token_writer.specs.declared.Written.{Written}
+use Rattle.token_writer.specs.Writes.{writtenInNumbers}
+use Rattle.answers.specs.Replies.{oneNumber}
 use borrow.Author.Needs.{needs}
 use Rattle.answers.proofs.plain.tezhukor_write.Statement.{statement}
 use Rattle.answers.proofs.plain.tezhukor_write.Tie as tie
@@ -15,7 +17,7 @@ same-length : tie.Need-same-length
 same-length c = search needs
 
 returns : tie.Need-returns
-returns c = let w = c .before .before .before .write .ensures in (c .written-number .ensures ∙ ap writtenNumber (w .0), w .1)
+returns c = let w = c .before .before .before .write .ensures in (c .written-number .ensures ∙ ap (λ (x : Written). oneNumber (writtenInNumbers x)) (w .0), w .1)
 
 pub tezhukor-write-spec : {M : Type 1} → statement M
 tezhukor-write-spec =

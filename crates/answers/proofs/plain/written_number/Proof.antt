@@ -1,6 +1,8 @@
 -- `answers::plain::written_number` meets its contract. Assumes nothing.
 use mathlib.Core.Path.{sym, ap}
-use Rattle.answers.specs.Plain.{writtenNumber}
+use Rattle.token_writer.specs.declared.Written.{Written}
+use Rattle.token_writer.specs.Writes.{writtenInNumbers}
+use Rattle.answers.specs.Replies.{oneNumber}
 use borrow.Author.Needs.{needs}
 use Rattle.answers.proofs.plain.written_number.Statement.{statement}
 use Rattle.answers.proofs.plain.written_number.Tie as tie
@@ -21,7 +23,7 @@ cast-result-2 : tie.Need-cast-result-2
 cast-result-2 c = search needs
 
 returns : tie.Need-returns
-returns c = sym (ap writtenNumber (c .before .answer .given .1))
+returns c = sym (ap (λ (x : Written). oneNumber (writtenInNumbers x)) (c .before .answer .given .1))
 
 returns-2 : tie.Need-returns-2
 returns-2 c = search needs

@@ -1,0 +1,22 @@
+-- An answer as one number: the refusal times 65,536, or the value; of two values the first times 8,192, which is above every count.
+use mathlib.Core.Path.{_≡_}
+use mathlib.Core.List.{List, [], _∷_}
+use Prim.Native.Nat.{ℕ, _+_, _*_}
+use Rattle.token_reader.specs.declared.Reply.{Reply}
+use Rattle.token_reader.specs.Reading.{Answers, replyInNumbers}
+
+-- values one behind the other, after what stands before them
+abbrev pub joined : ℕ → List ℕ → ℕ
+joined before [] = before
+joined before (value ∷ values) = joined (8192 * before + value) values
+
+-- of a reply number and the values behind it
+abbrev pub oneNumber : List ℕ → ℕ
+oneNumber [] = 0
+oneNumber (reply ∷ values) = 65536 * reply + joined 0 values
+
+-- the number of a reply that the reader gives, with what it leaves in the table
+pub record ReadNumber (codes table : List ℕ) (number : ℕ) (after : List ℕ) : Type 0 where
+  pub reply : Reply
+  pub answers : Answers codes table reply after
+  pub is : number ≡ oneNumber (replyInNumbers reply)
