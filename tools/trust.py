@@ -4,10 +4,13 @@
     python3 tools/trust.py
 
 Starts from the statements below, follows what they use, and prints each file of
-crates/*/specs with all its lines and those that are definitions: not blank, no
-comment, no `use`. Files come behind those that they use. The modules `declared` are
-made from the enums and structs of the Rattle code, and are listed by crate.
-Files that say of themselves that nothing in them is to be believed come last.
+crates/*/specs with all its lines, those that are definitions (not blank, no comment,
+no `use`) and their share of all. Files come behind those that they use. The modules
+`declared` are made from the enums and structs of the Rattle code, and are listed by
+crate.
+
+Some files say of themselves that nothing in them is to be believed. Ends with 1 if
+a statement uses such a file, or if the contract of a public function cites one.
 """
 
 import re
@@ -28,6 +31,11 @@ ROOTS = [
 BESIDE = ['precedence/Reference', 'walk/Cases']
 
 CRATES = Path(__file__).resolve().parent.parent / 'crates'
+GHOST_USE = re.compile(r'ghost use Rattle·(\w+)(?:·specs)?\.specs\.(\w+)\.\{([^}]*)\}')
+PUB_MOD = re.compile(r'^pub mod (\w+);', re.MULTILINE)
+PUB_FN = re.compile(r'pub (?:extern "C" )?fn (\w+)(.*?)\n *\{\n', re.DOTALL)
+ENSURES = re.compile(r'^ *ensures (.*)', re.MULTILINE)
+WORD = re.compile(r'[\w-]+')
 USE = re.compile(r'use Rattle·(\w+)(?:·specs)?\.specs\.([\w.]+?)(?:\.\{| as |\s|$)')
 
 
@@ -70,12 +78,33 @@ def is_scaffold(name):
 
 def table(title, names):
     print(f'\n{title}\n')
-    totals = [0, 0]
-    for name in names:
-        lines, kept = counts(name)
-        totals = [totals[0] + lines, totals[1] + kept]
-        print(f'{lines:5} {kept:5}  {path(name).relative_to(CRATES)}')
-    print(f'{totals[0]:5} {totals[1]:5}  together')
+    rows = [(*counts(name), path(name).relative_to(CRATES)) for name in names]
+    lines, definitions = sum(row[0] for row in rows), sum(row[1] for row in rows)
+    for all_lines, kept, file in rows:
+        print(f'{all_lines:5} {kept:5} {100 * kept / definitions:5.1f}%  {file}')
+    print(f'{lines:5} {definitions:5}         together')
+
+
+def public_modules(crate):
+    """The source files of a library that its users can name."""
+    root = CRATES / crate / 'src' / 'lib.rt'
+    if not root.exists():
+        return []
+    return [root] + [root.parent / f'{name}.rt' for name in PUB_MOD.findall(root.read_text())]
+
+
+def cited():
+    """Each public function with each file of definitions that its contract cites."""
+    for crate in sorted(folder.name for folder in CRATES.iterdir()):
+        for file in public_modules(crate):
+            text = file.read_text()
+            homes = {}
+            for home, module, names in GHOST_USE.findall(text):
+                homes.update((name.strip(), f'{home}/{module}') for name in names.split(','))
+            for function, head in PUB_FN.findall(text):
+                words = set(WORD.findall(' '.join(ENSURES.findall(head))))
+                for home in sorted({homes[word] for word in words if word in homes}):
+                    yield f'{crate}::{function}', home
 
 
 def main():
@@ -84,13 +113,18 @@ def main():
         visit(root, order, declared)
     print('lines, of them definitions, file')
     table('To be believed, in reading order:', [n for n in order if not is_scaffold(n)])
-    table('Used, but nothing in them is to be believed:', [n for n in order if is_scaffold(n)])
+    scaffold = [n for n in order if is_scaffold(n)]
+    if scaffold:
+        table('Used, but nothing in them is to be believed:', scaffold)
     table('Checked against the promises, not cited by them:', BESIDE)
     every = sorted(str(file.relative_to(CRATES)) for file in CRATES.glob('*/specs/*.antt'))
     left = [f'{file.split("/")[0]}/{Path(file).stem}' for file in every if not file.endswith('Lib.antt')]
     table('Not used by the promises:', [n for n in left if n not in order and n not in BESIDE])
     print('\nTypes from the code: ' + ', '.join(sorted(declared)))
-    return 0
+    wrong = [f'{function} cites {home}' for function, home in cited() if is_scaffold(home)]
+    if wrong:
+        print('\nPublic contracts that cite what is not to be believed: ' + ', '.join(wrong))
+    return 1 if scaffold or wrong else 0
 
 
 if __name__ == '__main__':
