@@ -10,10 +10,10 @@ use Rattle.laws.specs.Choice.{pick, lookup}
 use Rattle.laws.proofs.Choice.{alike, alike-same}
 use Rattle.laws.proofs.Each.{all-at}
 use Rattle.laws.proofs.Keys.{past-rows}
-use Rattle.grammar.specs.Tokens.{Token, Await}
-use Rattle.grammar.specs.Codes.{operators, spelled, tokenOf}
+use Rattle.grammar.specs.Tokens.{Token, Await, operators}
+use Rattle.grammar.specs.Codes.{spelled, tokenOf}
 use Rattle.grammar.specs.Grammar.{opensArguments}
-use Rattle.grammar.specs.Parser.{Next, nextOf, levelAt}
+use Rattle.grammar.specs.Next.{Next, nextOf, levelAt}
 use Rattle.follow.specs.Follow.{beforeAt, barredAt}
 use Rattle.follow.specs.Tables.{levelRows, pastRows, levelPast, levelOf, beforeOf, barredRows, barred}
 

@@ -4,7 +4,7 @@ use Prim.Native.Nat.{ℕ}
 use lib.Dec.{leb}
 use Rattle.grammar.specs.Levels.{casts, postfixes, kind, before}
 use Rattle.grammar.specs.Grammar.{opensArguments}
-use Rattle.grammar.specs.Parser.{Next, stops, operates, castsTo, dots, calls, indexes, tries, levelAt}
+use Rattle.grammar.specs.Next.{Next, stops, operates, castsTo, dots, calls, indexes, tries, levelAt}
 
 -- the lowest level of an expression before it
 abbrev pub beforeAt : Next → ℕ

@@ -1,7 +1,7 @@
 // What may follow an expression, by the code of the next token.
 ghost use mathlib.Core.Path.{_≡_};
 ghost use Rattle.grammar.specs.Codes.{tokenOf};
-ghost use Rattle.grammar.specs.Parser.{nextOf, levelAt};
+ghost use Rattle.grammar.specs.Next.{nextOf, levelAt};
 ghost use Rattle.follow.specs.Follow.{goesOnBy};
 ghost use Rattle.follow.specs.Tables.{levelPast, beforeOf, barred};
 

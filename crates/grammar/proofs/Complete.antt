@@ -11,7 +11,8 @@ use Rattle.grammar.specs.Levels.{prefixes, kind, level, after}
 use Rattle.grammar.specs.Types.{Sort, one, list, items, Ty, writeType}
 use Rattle.grammar.specs.Expressions.{Atom, path, literal, Prefix, neg, deref, invert, ref, refMut, Member, byName, byNumber, awaited, Expr, atom, paren, prefix, binary, cast, member, try, index, call, method, noArguments, arguments, lastArgument, moreArguments, atomToken, prefixToken, memberToken, write, kindOf}
 use Rattle.grammar.specs.Grammar.{Context, NONE, opensArguments, fits}
-use Rattle.grammar.specs.Parser.{Out, fail, ok, then, tail, isFirst, startOf, anAtom, aPrefix, AfterDot, noMember, aMember, afterDotOf, afterDot, isByName, Next, stops, operates, castsTo, dots, calls, indexes, tries, next, levelAt, goesOn, typeBy, exprBy, onBy, argumentsBy, someArgumentsBy}
+use Rattle.grammar.specs.Parser.{Out, fail, ok, then, tail, isFirst, startOf, anAtom, aPrefix, AfterDot, noMember, aMember, afterDotOf, afterDot, isByName, next, goesOn, typeBy, exprBy, onBy, argumentsBy, someArgumentsBy}
+use Rattle.grammar.specs.Next.{Next, stops, operates, castsTo, dots, calls, indexes, tries, levelAt}
 use Rattle.grammar.proofs.FirstTokens.{first-is}
 use Rattle.grammar.proofs.Levels.{level-before, operator-low, operator-high, after-low}
 use Rattle.grammar.proofs.Types.{typeSize, reads-type, slack, type-bound, TypeMayEnd}

@@ -6,7 +6,7 @@ use Rattle.laws.proofs.Choice.{true-not-false}
 use Rattle.grammar.specs.Tokens.{Token, operator, As, Name, Dot}
 use Rattle.grammar.specs.Types.{one, Ty, named, applied, pointing, sign, typePrefixToken, writeType, typeEndsInName}
 use Rattle.grammar.specs.Expressions.{Member, byName, byNumber, awaited, Expr, atom, paren, prefix, binary, cast, member, try, index, call, method, prefixToken, write, endsInTypeName, endsInDotName}
-use Rattle.grammar.proofs.Removed.{write-append}
+use Rattle.grammar.proofs.Appended.{write-append}
 
 -- what is written ends in the tokens `last`, whatever follows
 abbrev pub EndsIn : List Token → (List Token → List Token) → Type 0

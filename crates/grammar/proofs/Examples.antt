@@ -9,7 +9,7 @@ use Rattle.grammar.specs.Codes.{tokenOf, tokensOf}
 use Rattle.grammar.specs.Types.{one, named, applied, types, lastType}
 use Rattle.grammar.specs.Expressions.{path, neg, byName, byNumber, Expr, atom, paren, prefix, binary, cast, member, try, call, method, noArguments, arguments, lastArgument}
 use Rattle.grammar.specs.Grammar.{NONE, opensArguments}
-use Rattle.grammar.specs.Pairs.{strength, addPairs}
+use Rattle.grammar.proofs.Added.{strength, addPairs}
 use Rattle.grammar.specs.Parser.{Out, fail, ok, startOf, typeStartOf, afterDotOf, goesOn, typeBy, exprBy, parse}
 
 record Example : Type 0 where

@@ -9,7 +9,8 @@ use Rattle.laws.proofs.Choice.{true-not-false}
 use Rattle.grammar.specs.Tokens.{Token, operator, code, As, Name, Dot, LeftParen, LeftBracket, Question}
 use Rattle.grammar.specs.Types.{typePrefixToken, typeSignToken}
 use Rattle.grammar.specs.Expressions.{atomToken, prefixToken, memberToken}
-use Rattle.grammar.specs.Parser.{tail, isFirst, firstBy, Start, noStart, anAtom, aPrefix, aGroup, startOf, start, TypeStart, noType, aName, aTypePrefix, aSign, typeStartOf, typeStart, AfterDot, noMember, aMember, afterDotOf, afterDot, Next, stops, operates, castsTo, dots, calls, indexes, tries, nextOf, next}
+use Rattle.grammar.specs.Parser.{tail, isFirst, firstBy, Start, noStart, anAtom, aPrefix, aGroup, startOf, start, TypeStart, noType, aName, aTypePrefix, aSign, typeStartOf, typeStart, AfterDot, noMember, aMember, afterDotOf, afterDot, next}
+use Rattle.grammar.specs.Next.{Next, stops, operates, castsTo, dots, calls, indexes, tries, nextOf}
 use Rattle.grammar.proofs.Tokens.{code-same, ofTokens, each-token}
 
 pub first-is : (t : Token) (ts : List Token) → isFirst t ts ≡ true → t ∷ tail ts ≡ ts

@@ -10,7 +10,8 @@ use Rattle.grammar.specs.Levels.{casts, postfixes, kind, level, before, 
 use Rattle.grammar.specs.Types.{one}
 use Rattle.grammar.specs.Expressions.{Expr, kindOf, endsInTypeName, endsInDotName}
 use Rattle.grammar.specs.Grammar.{AtLeast, opensArguments, OperatorMayFollow, CallMayFollow}
-use Rattle.grammar.specs.Parser.{Next, stops, operates, castsTo, dots, calls, indexes, tries, levelAt, follows, goesOn}
+use Rattle.grammar.specs.Next.{Next, stops, operates, castsTo, dots, calls, indexes, tries, levelAt}
+use Rattle.grammar.specs.Parser.{follows, goesOn}
 use Rattle.grammar.proofs.Levels.{stays, after-positive}
 
 abbrev pub Follows : Expr one → Next → Type 0

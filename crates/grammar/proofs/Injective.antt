@@ -12,7 +12,7 @@ use Rattle.laws.proofs.Choice.{true-not-false}
 use Rattle.grammar.specs.Tokens.{Operator, Sub, Mul, BitAnd, Gt, number, Token, operator, code, Bang, AndMut, As, Name, Literal, Dot, LeftParen, RightParen, LeftBracket, RightBracket, Comma, Question}
 use Rattle.grammar.specs.Types.{Sort, one, list, items, Ty, named, applied, pointing, sign, noTypes, types, lastType, moreTypes, writeType}
 use Rattle.grammar.specs.Expressions.{Atom, path, literal, Prefix, neg, deref, invert, ref, refMut, Expr, atom, paren, prefix, binary, cast, member, try, index, call, method, noArguments, arguments, lastArgument, moreArguments, atomToken, prefixToken, memberToken, write}
-use Rattle.grammar.specs.Grammar.{bare}
+use Rattle.grammar.specs.Bare.{bare}
 use Rattle.grammar.proofs.Tokens.{number-below}
 
 -- ---- counted parentheses

@@ -1,11 +1,11 @@
-pub mod Theorems
 pub mod Readings
 pub mod Complete
 pub mod Sound
+pub mod Added
 pub mod Pairs
 pub mod Needed
 pub mod Injective
-pub mod Removed
+pub mod Appended
 pub mod Ends
 pub mod Follows
 pub mod Types

@@ -12,8 +12,9 @@ use Rattle.grammar.specs.Tokens.{Operator}
 use Rattle.grammar.specs.Levels.{casts, prefixes, postfixes, kind, level, before, after}
 use Rattle.grammar.specs.Types.{Sort, one, list, items}
 use Rattle.grammar.specs.Expressions.{Expr, atom, paren, prefix, binary, cast, member, try, index, call, method, noArguments, arguments, lastArgument, moreArguments, kindOf, endsInTypeName, endsInDotName}
-use Rattle.grammar.specs.Grammar.{Context, NONE, AtLeast, opensArguments, OperatorMayFollow, CallMayFollow, fits, bare}
-use Rattle.grammar.specs.Pairs.{isCastToName, strength, tooWeak, tooWeakAfter, tooWeakBefore, tooWeakToCall, addPairs, PairAt, Pair, dropAt, dropPair}
+use Rattle.grammar.specs.Grammar.{Context, NONE, AtLeast, opensArguments, OperatorMayFollow, CallMayFollow, fits}
+use Rattle.grammar.specs.Bare.{bare}
+use Rattle.grammar.proofs.Added.{isCastToName, strength, tooWeak, tooWeakAfter, tooWeakBefore, tooWeakToCall, addPairs, PairAt, Pair, dropAt, dropPair}
 use Rattle.grammar.proofs.Pairs.{with-bare, bare-pairs, same-kind, same-dot-name, lowest, lowest-after}
 
 -- ---- it is the same tree but for parentheses

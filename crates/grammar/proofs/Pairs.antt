@@ -11,8 +11,9 @@ use Rattle.grammar.specs.Tokens.{Operator}
 use Rattle.grammar.specs.Levels.{Kind, casts, prefixes, postfixes, kind, level, lean, before, after}
 use Rattle.grammar.specs.Types.{Sort, one, typeEndsInName}
 use Rattle.grammar.specs.Expressions.{Member, byName, byNumber, awaited, Expr, atom, paren, prefix, binary, cast, member, try, index, call, method, noArguments, arguments, lastArgument, moreArguments, kindOf, endsInTypeName, endsInDotName}
-use Rattle.grammar.specs.Grammar.{Context, NONE, AtLeast, opensArguments, OperatorMayFollow, CallMayFollow, fits, bare}
-use Rattle.grammar.specs.Pairs.{isCastToName, strength, tooWeak, lowestRight, tooWeakAfter, tooWeakBefore, tooWeakToCall, withPair, addPairs}
+use Rattle.grammar.specs.Grammar.{Context, NONE, AtLeast, opensArguments, OperatorMayFollow, CallMayFollow, fits}
+use Rattle.grammar.specs.Bare.{bare}
+use Rattle.grammar.proofs.Added.{isCastToName, strength, tooWeak, lowestRight, tooWeakAfter, tooWeakBefore, tooWeakToCall, withPair, addPairs}
 use Rattle.grammar.proofs.Tokens.{each-operator}
 use Rattle.grammar.proofs.Levels.{no-range, operator-le, operator-high, before-low, before-high, after-high}
 use Rattle.grammar.proofs.Complete.{low}

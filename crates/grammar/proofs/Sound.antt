@@ -10,7 +10,8 @@ use Rattle.grammar.specs.Levels.{prefixes, kind, after}
 use Rattle.grammar.specs.Types.{Sort, one, list, items}
 use Rattle.grammar.specs.Expressions.{Member, byName, byNumber, awaited, Expr, atom, paren, prefix, binary, cast, member, try, index, call, method, noArguments, arguments, lastArgument, moreArguments, prefixToken, memberToken, write}
 use Rattle.grammar.specs.Grammar.{Context, NONE, AtLeast, fits}
-use Rattle.grammar.specs.Parser.{Out, fail, ok, then, tail, isFirst, Start, noStart, anAtom, aPrefix, aGroup, start, AfterDot, noMember, aMember, afterDot, isByName, Next, stops, operates, castsTo, dots, calls, indexes, tries, next, levelAt, goesOn, typeBy, exprBy, onBy, argumentsBy, someArgumentsBy}
+use Rattle.grammar.specs.Parser.{Out, fail, ok, then, tail, isFirst, Start, noStart, anAtom, aPrefix, aGroup, start, AfterDot, noMember, aMember, afterDot, isByName, next, goesOn, typeBy, exprBy, onBy, argumentsBy, someArgumentsBy}
+use Rattle.grammar.specs.Next.{Next, stops, operates, castsTo, dots, calls, indexes, tries, levelAt}
 use Rattle.grammar.proofs.FirstTokens.{first-is, start-is, after-dot-is, next-is}
 use Rattle.grammar.proofs.Levels.{after-high}
 use Rattle.grammar.proofs.Answers.{Good, good-then}

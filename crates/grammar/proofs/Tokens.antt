@@ -6,12 +6,12 @@ use Prim.Native.Nat.{ℕ, zero, suc, _<_}
 use native.Mathlib.Omega.{arith}
 use lib.Dec.{T, eqb, ltb, eqb→eq, ltb→lt}
 use lib.ListN.{getD, length}
+use borrow.Author.Tests.{lt-ltb}
 use Rattle.laws.proofs.Choice.{true-of, of-true, and-true}
 use Rattle.laws.proofs.Each.{all-at}
 use Rattle.laws.proofs.Keys.{allBelow}
-use Rattle.grammar.specs.Tokens.{Operator, Add, Sub, Mul, Div, Rem, And, Or, BitXor, BitAnd, BitOr, Shl, Shr, Eq, Lt, Le, Ne, Ge, Gt, AddAssign, SubAssign, MulAssign, DivAssign, RemAssign, BitXorAssign, BitAndAssign, BitOrAssign, ShlAssign, ShrAssign, Assign, number}
-use Rattle.grammar.specs.Tokens.{Token, operator, code, Bang, AndMut, As, Name, Literal, Dot, LeftParen, RightParen, LeftBracket, RightBracket, Comma, Question, StarConst, StarMut, Underscore, NumberedMember, Await}
-use Rattle.grammar.specs.Codes.{operators, spelled, operatorOf, tokenOf, tokensOf, codesOf}
+use Rattle.grammar.specs.Tokens.{Operator, Add, Sub, Mul, Div, Rem, And, Or, BitXor, BitAnd, BitOr, Shl, Shr, Eq, Lt, Le, Ne, Ge, Gt, AddAssign, SubAssign, MulAssign, DivAssign, RemAssign, BitXorAssign, BitAndAssign, BitOrAssign, ShlAssign, ShrAssign, Assign, number, Token, operator, code, Bang, AndMut, As, Name, Literal, Dot, LeftParen, RightParen, LeftBracket, RightBracket, Comma, Question, StarConst, StarMut, Underscore, NumberedMember, Await, operators, operatorOf, codesOf}
+use Rattle.grammar.specs.Codes.{spelled, tokenOf, tokensOf}
 
 -- ---- the operators, by number
 
@@ -132,3 +132,7 @@ each-token p h t =
 
 pub code-below : (t : Token) → code t < 46
 code-below t = ltb→lt (code t) 46 (each-token (λ x. ltb (code x) 46) tt t)
+
+pub codes-below : (ts : List Token) → T (allBelow 46 (codesOf ts))
+codes-below [] = tt
+codes-below (t ∷ ts) = rw (lt-ltb (code t) 46 (code-below t)) (codes-below ts)

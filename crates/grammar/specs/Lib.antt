@@ -4,5 +4,6 @@ pub mod Levels
 pub mod Types
 pub mod Expressions
 pub mod Grammar
-pub mod Pairs
+pub mod Bare
+pub mod Next
 pub mod Parser

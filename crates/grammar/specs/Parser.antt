@@ -7,6 +7,7 @@ use lib.ListN.{length}
 use Rattle.laws.specs.Choice.{Row, row, lookup}
 use Rattle.grammar.specs.Tokens.{Operator, Lt, Gt, Token, operator, code, Bang, AndMut, As, Name, Literal, Dot, LeftParen, RightParen, LeftBracket, RightBracket, Comma, Question, StarConst, StarMut, Underscore, NumberedMember, Await}
 use Rattle.grammar.specs.Levels.{casts, prefixes, postfixes, kind, level, before, after}
+use Rattle.grammar.specs.Next.{Next, stops, operates, castsTo, dots, calls, indexes, tries, nextOf, levelAt}
 use Rattle.grammar.specs.Types.{one, list, items, TypePrefix, constPtr, mutPtr, sharedRef, mutRef, TypeSign, infer, never, Ty, named, applied, pointing, sign, noTypes, types, lastType, moreTypes}
 use Rattle.grammar.specs.Expressions.{Atom, path, literal, Prefix, neg, deref, invert, ref, refMut, Member, byName, byNumber, awaited, Expr, atom, paren, prefix, binary, cast, member, try, index, call, method, noArguments, arguments, lastArgument, moreArguments, kindOf, endsInTypeName, endsInDotName}
 use Rattle.grammar.specs.Grammar.{Context, NONE, opensArguments}
@@ -116,43 +117,8 @@ isByName byNumber = false
 isByName awaited = false
 
 -- after an expression
-pub data Next : Type 0 where
-  stops : Next
-  operates : Operator → Next
-  castsTo dots calls indexes tries : Next
-
-abbrev pub nextOf : Token → Next
-nextOf (operator o) = operates o
-nextOf Bang = stops
-nextOf AndMut = stops
-nextOf As = castsTo
-nextOf Name = stops
-nextOf Literal = stops
-nextOf Dot = dots
-nextOf LeftParen = calls
-nextOf RightParen = stops
-nextOf LeftBracket = indexes
-nextOf RightBracket = stops
-nextOf Comma = stops
-nextOf Question = tries
-nextOf StarConst = stops
-nextOf StarMut = stops
-nextOf Underscore = stops
-nextOf NumberedMember = stops
-nextOf Await = stops
-
 abbrev pub next : List Token → Next
 next ts = firstBy stops nextOf ts
-
--- the level of what it makes
-abbrev pub levelAt : Next → ℕ
-levelAt stops = 0
-levelAt (operates o) = level (kind o)
-levelAt castsTo = level casts
-levelAt dots = level postfixes
-levelAt calls = level postfixes
-levelAt indexes = level postfixes
-levelAt tries = level postfixes
 
 -- whether it may follow an expression
 abbrev pub follows : Expr one → Next → Bool

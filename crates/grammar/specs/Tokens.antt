@@ -1,5 +1,7 @@
 -- The plain tokens and their codes (document 01, 'Plain tokens and their grammar').
+use mathlib.Core.List.{List, [], _∷_}
 use Prim.Native.Nat.{ℕ}
+use lib.ListN.{getD}
 
 -- The operators of Binary, and the `=` of Assign.
 pub data Operator : Type 0 where
@@ -66,3 +68,15 @@ code StarMut = 42
 code Underscore = 43
 code NumberedMember = 44
 code Await = 45
+
+abbrev pub codesOf : List Token → List ℕ
+codesOf [] = []
+codesOf (t ∷ ts) = code t ∷ codesOf ts
+
+-- in the order of their numbers
+abbrev pub operators : List Operator
+operators = Add ∷ Sub ∷ Mul ∷ Div ∷ Rem ∷ And ∷ Or ∷ BitXor ∷ BitAnd ∷ BitOr ∷ Shl ∷ Shr ∷ Eq ∷ Lt ∷ Le ∷ Ne ∷ Ge ∷ Gt ∷ AddAssign ∷ SubAssign ∷ MulAssign ∷ DivAssign ∷ RemAssign ∷ BitXorAssign ∷ BitAndAssign ∷ BitOrAssign ∷ ShlAssign ∷ ShrAssign ∷ Assign ∷ []
+
+-- the operator with a number; from 29 on none has it
+unfoldable pub operatorOf : ℕ → Operator
+operatorOf n = getD operators n Assign

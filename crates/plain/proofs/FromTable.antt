@@ -20,8 +20,7 @@ use Rattle.places.specs.Places.{outputPlace, argumentsPlace, firstPlaces, first
 use Rattle.rules.specs.Refusals.{Accepted}
 use Rattle.tree.proofs.Unfold.{tree-zero, unfolds}
 use Rattle.rules.proofs.Accepted.{Within, Fits, count-bounds, root-expression, numbers-allowed, first-fits, second-fits, first-operand, second-operand}
-use Rattle.grammar.specs.Tokens.{Operator, number, Assign}
-use Rattle.grammar.specs.Codes.{operatorOf}
+use Rattle.grammar.specs.Tokens.{Operator, number, Assign, operatorOf}
 use Rattle.grammar.specs.Types.{one, list, items, TypePrefix, constPtr, mutPtr, sharedRef, mutRef, TypeSign, infer, never, Ty, named, applied, pointing, sign, noTypes, types, lastType, moreTypes}
 use Rattle.grammar.specs.Expressions.{Atom, path, literal, Prefix, neg, deref, invert, ref, refMut, Member, byName, byNumber, awaited, Expr, atom, paren, prefix, binary, cast, member, try, index, call, method, noArguments, arguments, lastArgument, moreArguments}
 use Rattle.grammar.proofs.Tokens.{number-operator}

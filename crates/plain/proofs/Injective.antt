@@ -8,8 +8,7 @@ use borrow.Author.Tests.{eqb-true}
 use Rattle.laws.specs.Choice.{Row, row, lookup, pick}
 use Rattle.tree.specs.Forms.{ExprAssign, ExprAwait, ExprBinary, ExprCall, ExprCast, ExprField, ExprIndex, ExprLit, ExprMethodCall, ExprParen, ExprPath, ExprReference, ExprTry, ExprUnary, TypeInfer, TypeNever, TypePath, TypePtr, TypeReference}
 use Rattle.tree.specs.Trees.{Label, Tree, none, node}
-use Rattle.grammar.specs.Tokens.{Operator, number, Assign}
-use Rattle.grammar.specs.Codes.{operatorOf}
+use Rattle.grammar.specs.Tokens.{Operator, number, Assign, operatorOf}
 use Rattle.grammar.specs.Types.{Sort, one, list, items, TypePrefix, constPtr, mutPtr, sharedRef, mutRef, TypeSign, infer, never, Ty, named, applied, pointing, sign, noTypes, types, lastType, moreTypes}
 use Rattle.grammar.specs.Expressions.{Atom, path, literal, Prefix, neg, deref, invert, ref, refMut, Member, byName, byNumber, awaited, Expr, atom, paren, prefix, binary, cast, member, try, index, call, method, noArguments, arguments, lastArgument, moreArguments}
 use Rattle.grammar.proofs.Tokens.{operator-number}

@@ -1,3 +1,4 @@
 pub mod Parens
 pub mod FromTable
 pub mod Injective
+pub mod Readings

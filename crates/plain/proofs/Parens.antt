@@ -9,7 +9,7 @@ use Rattle.tree.specs.Trees.{Label, Tree, none, node}
 use Rattle.grammar.specs.Tokens.{Operator, number}
 use Rattle.grammar.specs.Types.{Sort, TypePrefix, constPtr, mutPtr, sharedRef, mutRef, TypeSign, infer, never, Ty, named, applied, pointing, sign, noTypes, types, lastType, moreTypes}
 use Rattle.grammar.specs.Expressions.{Atom, path, literal, Prefix, neg, deref, invert, ref, refMut, Member, byName, byNumber, awaited, Expr, atom, paren, prefix, binary, cast, member, try, index, call, method, noArguments, arguments, lastArgument, moreArguments}
-use Rattle.grammar.specs.Grammar.{bare}
+use Rattle.grammar.specs.Bare.{bare}
 use Rattle.plain.specs.Trees.{label, atomLabel, prefixLabel, operatorLabel, memberLabel, typePrefixLabel, typeSignLabel, treeOf, treeOfType, withoutParens}
 
 -- a node that is no Paren stays

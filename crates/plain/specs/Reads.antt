@@ -1,18 +1,20 @@
--- "A reading of a token list is a tree that the grammar gives for the whole list", for lists of codes and trees of node tables.
+-- The readings that the grammar gives a list of codes.
 use mathlib.Core.Path.{_≡_}
-use mathlib.Core.List.{List}
+use mathlib.Core.List.{List, []}
 use Prim.Native.Nat.{ℕ}
 use Rattle.tree.specs.Trees.{Tree}
-use Rattle.grammar.specs.Tokens.{Token}
-use Rattle.grammar.specs.Codes.{codesOf}
+use Rattle.grammar.specs.Tokens.{codesOf}
 use Rattle.grammar.specs.Types.{one}
-use Rattle.grammar.specs.Expressions.{Expr}
-use Rattle.grammar.specs.Grammar.{NONE, Reading}
-use Rattle.plain.specs.Trees.{treeOf}
+use Rattle.grammar.specs.Expressions.{Expr, write}
+use Rattle.grammar.specs.Grammar.{NONE, fits}
+use Rattle.plain.specs.Trees.{treeOf, withoutParens}
 
+-- "A reading of a token list is a tree that the grammar gives for the whole list":
 pub record Reads (codes : List ℕ) (tree : Tree) : Type 0 where
-  pub tokens : List Token
-  pub spelled : codesOf tokens ≡ codes
-  pub expression : Expr one
-  pub reading : Reading NONE tokens expression
-  pub same : treeOf expression ≡ tree
+  -- some parse tree that the grammar allows,
+  pub parsed : Expr one
+  pub fit : fits NONE parsed
+  -- whose tokens are the whole list, no more and no less,
+  pub whole : codesOf (write parsed []) ≡ codes
+  -- is the tree. "Parentheses group and leave no node."
+  pub same : withoutParens (treeOf parsed) ≡ tree

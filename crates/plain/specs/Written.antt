@@ -9,8 +9,7 @@ use Rattle.laws.specs.Choice.{Row, row, lookup, pick, isOneOf}
 use Rattle.tree.specs.Forms.{ExprAssign, ExprAwait, ExprBinary, ExprCall, ExprCast, ExprField, ExprIndex, ExprLit, ExprMethodCall, ExprParen, ExprPath, ExprReference, ExprTry, ExprUnary, TypeInfer, TypeNever, TypePath, TypePtr, TypeReference, Link}
 use Rattle.tree.specs.Trees.{Label, Tree, none, node, operandAt}
 use Rattle.tree.specs.Walks.{isThere}
-use Rattle.grammar.specs.Tokens.{Token, operator, Sub, Mul, BitAnd, Lt, Gt, Assign, Bang, AndMut, As, Name, Literal, Dot, LeftParen, RightParen, LeftBracket, RightBracket, Comma, Question, StarConst, StarMut, Underscore, NumberedMember, Await}
-use Rattle.grammar.specs.Codes.{operatorOf}
+use Rattle.grammar.specs.Tokens.{Token, operator, Sub, Mul, BitAnd, Lt, Gt, Assign, Bang, AndMut, As, Name, Literal, Dot, LeftParen, RightParen, LeftBracket, RightBracket, Comma, Question, StarConst, StarMut, Underscore, NumberedMember, Await, operatorOf}
 
 -- A node's own tokens: before its first operand, between the two, and behind the second.
 pub record Signs : Type 0 where

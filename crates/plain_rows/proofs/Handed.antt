@@ -26,7 +26,7 @@ use Rattle.grammar.specs.Levels.{kind, level, before, after, casts, prefixes, p
 use Rattle.grammar.specs.Types.{one, list, Ty}
 use Rattle.grammar.specs.Expressions.{Prefix, neg, deref, invert, ref, refMut, Member, byName, byNumber, awaited, Expr, paren, prefix, binary, cast, member, try, index, call, method}
 use Rattle.grammar.specs.Grammar.{opensArguments}
-use Rattle.grammar.specs.Pairs.{strength, tooWeak, tooWeakBefore, tooWeakAfter, tooWeakToCall}
+use Rattle.grammar.proofs.Added.{strength, tooWeak, tooWeakBefore, tooWeakAfter, tooWeakToCall}
 use Rattle.grammar.proofs.Levels.{binop-level, operator-low, operator-high}
 use Rattle.plain.specs.Trees.{label, operatorLabel, treeOf}
 use Rattle.plain_rows.proofs.Contexts.{Calm, calm-none, calm-operator, calm-dot, calm-rightmost}

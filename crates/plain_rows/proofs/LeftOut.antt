@@ -19,7 +19,7 @@ use Rattle.walk.specs.Paths.{Branch, first, second, treeBy, handedBy}
 use Rattle.grammar.specs.Tokens.{Operator, Token, operator, As, Name, Dot, LeftParen, RightParen, LeftBracket, RightBracket, Comma, Question}
 use Rattle.grammar.specs.Types.{Sort, one, list, items, TypePrefix, constPtr, mutPtr, sharedRef, mutRef, TypeSign, infer, never, Ty, named, applied, pointing, sign, noTypes, types, lastType, moreTypes}
 use Rattle.grammar.specs.Expressions.{Atom, Prefix, Member, Expr, atom, paren, prefix, binary, cast, member, try, index, call, method, noArguments, arguments, lastArgument, moreArguments, atomToken, prefixToken, memberToken, write}
-use Rattle.grammar.specs.Pairs.{withPair, addPairs, PairAt, Pair, dropAt, dropPair}
+use Rattle.grammar.proofs.Added.{withPair, addPairs, PairAt, Pair, dropAt, dropPair}
 use Rattle.plain.specs.Trees.{label, typePrefixLabel, typeSignLabel, treeOf, treeOfType}
 use Rattle.plain.specs.Written.{Signs, signs, signRows, signsOf, within}
 use Rattle.plain_rows.proofs.Contexts.{Calm, calm-none}

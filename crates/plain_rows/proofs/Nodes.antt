@@ -19,13 +19,12 @@ use Rattle.classify.specs.Classify.{lastTypeInPath, pathRows, pathAsks, trailin
 use Rattle.fixup.specs.declared.context.FixupContext.{FixupContext}
 use Rattle.look.specs.Looks.{isBareJump, bareJumpRows, isOpenAhead, openAheadRows, isCastToPath, castToPathRows}
 use Rattle.fixup.specs.Fixup.{effective, scanLeftRows, scanLeft, leftOfBinary}
-use Rattle.grammar.specs.Tokens.{Operator, number}
+use Rattle.grammar.specs.Tokens.{Operator, number, operatorOf}
 use Rattle.grammar.specs.Tokens as token
-use Rattle.grammar.specs.Codes.{operatorOf}
 use Rattle.grammar.specs.Levels.{kind, level}
 use Rattle.grammar.specs.Types.{Sort, one, list, items, TypePrefix, constPtr, mutPtr, sharedRef, mutRef, TypeSign, infer, never, Ty, named, applied, pointing, sign, noTypes, types, lastType, moreTypes, typeEndsInName}
 use Rattle.grammar.specs.Expressions.{Atom, path, literal, Prefix, neg, deref, invert, ref, refMut, Member, byName, byNumber, awaited, Expr, atom, paren, prefix, binary, cast, member, try, index, call, method, kindOf}
-use Rattle.grammar.specs.Pairs.{isCastToName, strength}
+use Rattle.grammar.proofs.Added.{isCastToName, strength}
 use Rattle.grammar.proofs.Tokens.{operator-number, number-below}
 use Rattle.grammar.proofs.Levels.{binop-level}
 use Rattle.plain.specs.Trees.{label, operatorLabel, treeOf, treeOfType}

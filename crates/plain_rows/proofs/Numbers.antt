@@ -28,28 +28,28 @@ use Rattle.plain_rows.proofs.LeftOut.{insideBut, tokensBut, markedAt}
 
 -- ---- the same inside and out
 
-within-by : {c d : Bool} {f g : List Token → List Token} → c ≡ d → ((r : List Token) → f r ≡ g r) → (rest : List Token) → within c f rest ≡ within d g rest
+pub within-by : {c d : Bool} {f g : List Token → List Token} → c ≡ d → ((r : List Token) → f r ≡ g r) → (rest : List Token) → within c f rest ≡ within d g rest
 within-by {c} {d} {f} {g} e h rest = ap (λ b. within b f rest) e ∙ go d
   where
     go : (b : Bool) → within b f rest ≡ within b g rest
     go true = ap (λ r. LeftParen ∷ r) (h (RightParen ∷ rest))
     go false = h rest
 
-inside-by : (s : Signs) {f f′ g g′ : List Token → List Token} → ((r : List Token) → f r ≡ f′ r) → ((r : List Token) → g r ≡ g′ r) → (end : List Token) → inside s f g end ≡ inside s f′ g′ end
+pub inside-by : (s : Signs) {f f′ g g′ : List Token → List Token} → ((r : List Token) → f r ≡ f′ r) → ((r : List Token) → g r ≡ g′ r) → (end : List Token) → inside s f g end ≡ inside s f′ g′ end
 inside-by s {f} {f′} {g} {g′} u v end = ap (λ r. s .before ++ f (s .between ++ r)) (v (s .behind ++ end)) ∙ ap (λ r. s .before ++ r) (u (s .between ++ g′ (s .behind ++ end)))
 
 -- ---- paths that differ
 
-abbrev starts : List Branch → ℕ
+abbrev pub starts : List Branch → ℕ
 starts [] = 0
 starts (first ∷ p) = 1
 starts (second ∷ p) = 2
 
-abbrev behind : List Branch → List Branch
+abbrev pub behind : List Branch → List Branch
 behind [] = []
 behind (s ∷ p) = p
 
-differ : (p q : List Branch) → (starts p ≡ starts q → ⊥) → p ≡ q → ⊥
+pub differ : (p q : List Branch) → (starts p ≡ starts q → ⊥) → p ≡ q → ⊥
 differ p q h e = h (ap starts e)
 
 -- ---- from numbers to paths

@@ -19,7 +19,7 @@ use Rattle.grammar.specs.Tokens.{Operator, number}
 use Rattle.grammar.specs.Levels.{kind, level}
 use Rattle.grammar.specs.Types.{one}
 use Rattle.grammar.specs.Expressions.{Atom, path, literal, Prefix, neg, deref, invert, ref, refMut, Member, byName, byNumber, awaited, Expr, atom, paren, prefix, binary, cast, member, try, index, call, method, kindOf}
-use Rattle.grammar.specs.Pairs.{isCastToName, strength}
+use Rattle.grammar.proofs.Added.{isCastToName, strength}
 use Rattle.grammar.proofs.Levels.{binop-level}
 use Rattle.plain.specs.Trees.{operatorLabel, treeOf}
 use Rattle.plain_rows.proofs.Contexts.{Calm}

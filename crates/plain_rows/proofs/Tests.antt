@@ -28,7 +28,7 @@ use Rattle.grammar.specs.Levels.{kind, level, lean, before, postfixes}
 use Rattle.grammar.specs.Types.{one}
 use Rattle.grammar.specs.Expressions.{Atom, path, literal, Prefix, neg, deref, invert, ref, refMut, Member, byName, byNumber, awaited, Expr, atom, paren, prefix, binary, cast, member, try, index, call, method, kindOf, endsInDotName}
 use Rattle.grammar.specs.Grammar.{opensArguments}
-use Rattle.grammar.specs.Pairs.{isCastToName, strength, tooWeak, lowestRight, tooWeakBefore, tooWeakAfter, tooWeakToCall}
+use Rattle.grammar.proofs.Added.{isCastToName, strength, tooWeak, lowestRight, tooWeakBefore, tooWeakAfter, tooWeakToCall}
 use Rattle.grammar.proofs.Tokens.{ofOperators, each-operator}
 use Rattle.grammar.proofs.Levels.{no-range, operator-high}
 use Rattle.grammar.proofs.Pairs.{strength-no-range}

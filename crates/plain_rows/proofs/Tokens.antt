@@ -18,13 +18,12 @@ use Rattle.expr.specs.declared.Handed.{Handed}
 use Rattle.expr.specs.Handed.{beforeOperator, beforeDot, atEnd, afterPrefix, neither}
 use Rattle.expr.specs.Expr.{canBeginExpr, canBeginGenerics, leftTest, rightTest, binaryLeft, binaryRight, callTest, firstRows, handsFirst, secondRows, handsSecond}
 use Rattle.row.specs.Rows.{isExpression, outerPair, innerPair, pairBy, expressionRow, rowOf, ownContext}
-use Rattle.grammar.specs.Tokens.{Operator, number, Token, operator, Lt, Gt, As, Name, Dot, LeftParen, RightParen, LeftBracket, RightBracket, Comma, Question}
+use Rattle.grammar.specs.Tokens.{Operator, number, Token, operator, Lt, Gt, As, Name, Dot, LeftParen, RightParen, LeftBracket, RightBracket, Comma, Question, operatorOf}
 use Rattle.grammar.specs.Tokens as token
-use Rattle.grammar.specs.Codes.{operatorOf}
 use Rattle.grammar.specs.Levels.{kind, level}
 use Rattle.grammar.specs.Types.{Sort, one, list, items, TypePrefix, constPtr, mutPtr, sharedRef, mutRef, TypeSign, infer, never, Ty, named, applied, pointing, sign, noTypes, types, lastType, moreTypes, typePrefixToken, typeSignToken, writeType}
 use Rattle.grammar.specs.Expressions.{Atom, path, literal, Prefix, neg, deref, invert, ref, refMut, Member, byName, byNumber, awaited, Expr, atom, paren, prefix, binary, cast, member, try, index, call, method, noArguments, arguments, lastArgument, moreArguments, atomToken, prefixToken, memberToken, write}
-use Rattle.grammar.specs.Pairs.{withPair, addPairs}
+use Rattle.grammar.proofs.Added.{withPair, addPairs}
 use Rattle.grammar.proofs.Tokens.{operator-number}
 use Rattle.plain.specs.Trees.{label, atomLabel, prefixLabel, operatorLabel, memberLabel, typePrefixLabel, typeSignLabel, treeOf, treeOfType}
 use Rattle.plain.specs.Written.{Signs, signs, signRows, signsOf, within}

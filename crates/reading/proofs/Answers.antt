@@ -12,7 +12,7 @@ use Rattle.laws.proofs.Choice.{or-false}
 use Rattle.tree.specs.Trees.{Tree}
 use Rattle.numbering.specs.Numbered.{size, tooLarge}
 use Rattle.token_reader.specs.declared.Reply.the-variants.{Refused, Nodes}
-use Rattle.token_reader.specs.Reading.{refusal12, refusal14, countOrLarge, Answers}
+use Rattle.token_reader.specs.Reading.{readRefusal12, refusal14, countOrLarge, Answers}
 
 refused-nodes : {A : Type 0} (n m : ℕ) → Nodes n ≡ Refused m → A
 refused-nodes n m e = absurd (let z : _≡_ {A = ℕ} 0 1 = cc in omega arith)
@@ -31,16 +31,16 @@ counted-most n t e = go (tooLarge t) refl e
 
 -- a reading that is found has at most 4,096 nodes
 pub nodes-most : (codes table after : List ℕ) (n : ℕ) → Answers codes table (Nodes n) after → n ≤ 4096
-nodes-most codes table after n a = short (refusal12 (length table)) refl
+nodes-most codes table after n a = short (readRefusal12 (length table)) refl
   where
-    read : refusal12 (length table) ≡ false → refusal14 codes ≡ false → Dec (n ≤ 4096) → n ≤ 4096
+    read : readRefusal12 (length table) ≡ false → refusal14 codes ≡ false → Dec (n ≤ 4096) → n ≤ 4096
     read p q (yes h) = h
     read p q (no h) = refused-nodes n 15 (a .unread p q (λ t r. h (counted-most n t (a .read p q t r .0))) .0)
 
-    known : refusal12 (length table) ≡ false → (b : Bool) → refusal14 codes ≡ b → n ≤ 4096
+    known : readRefusal12 (length table) ≡ false → (b : Bool) → refusal14 codes ≡ b → n ≤ 4096
     known p true q = refused-nodes n 14 (a .unknown p q .0)
     known p false q = read p q (decLe n 4096)
 
-    short : (b : Bool) → refusal12 (length table) ≡ b → n ≤ 4096
+    short : (b : Bool) → readRefusal12 (length table) ≡ b → n ≤ 4096
     short true p = refused-nodes n 12 (a .short p .0)
     short false p = known p (refusal14 codes) refl

@@ -1,2 +1,4 @@
-pub mod Demand3
+pub mod Promise
+pub mod Witness
+pub mod LeftOut
 pub mod Smaller

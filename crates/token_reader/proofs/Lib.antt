@@ -9,3 +9,4 @@ pub mod ExprEnds
 pub mod Codes
 pub mod Whole
 pub mod Numbers
+pub mod Function

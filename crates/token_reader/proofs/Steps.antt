@@ -8,7 +8,8 @@ use Rattle.grammar.specs.Levels.{prefixes, kind, after}
 use Rattle.grammar.specs.Types.{one}
 use Rattle.grammar.specs.Expressions.{Expr, Member, atom, paren, prefix, binary, cast, member, index, call, method}
 use Rattle.grammar.specs.Grammar.{NONE}
-use Rattle.grammar.specs.Parser.{Out, fail, ok, then, tail, isFirst, Start, noStart, anAtom, aPrefix, aGroup, start, AfterDot, noMember, aMember, afterDot, isByName, Next, stops, operates, castsTo, dots, calls, indexes, tries, next, goesOn, typeBy, exprBy, onBy, argumentsBy}
+use Rattle.grammar.specs.Parser.{Out, fail, ok, then, tail, isFirst, Start, noStart, anAtom, aPrefix, aGroup, start, AfterDot, noMember, aMember, afterDot, isByName, next, goesOn, typeBy, exprBy, onBy, argumentsBy}
+use Rattle.grammar.specs.Next.{Next, stops, operates, castsTo, dots, calls, indexes, tries}
 use Rattle.grammar.proofs.Complete.{dotStep, onStep, on-step}
 use Rattle.token_reader.specs.Pieces.{closeBy, operandBy, memberBy, dotBy, stepBy}
 use Rattle.token_reader.proofs.Tables.{stops-not}

@@ -10,13 +10,14 @@ use Rattle.laws.specs.Choice.{pick, lookup, isOneOf}
 use Rattle.laws.proofs.Choice.{of-true, and-true, alike, alike-same}
 use Rattle.laws.proofs.Each.{all-at}
 use Rattle.tree.specs.Forms.{ExprAssign, ExprBinary}
-use Rattle.grammar.specs.Tokens.{number, operator}
-use Rattle.grammar.specs.Codes.{operatorOf, tokenOf}
+use Rattle.grammar.specs.Tokens.{number, operator, operatorOf}
+use Rattle.grammar.specs.Codes.{tokenOf}
 use Rattle.grammar.specs.Levels.{casts, postfixes, kind, level, before, after}
 use Rattle.grammar.specs.Types.{one}
 use Rattle.grammar.specs.Expressions.{Expr, kindOf, endsInTypeName, endsInDotName}
 use Rattle.grammar.specs.Grammar.{opensArguments}
-use Rattle.grammar.specs.Parser.{Next, stops, operates, castsTo, dots, calls, indexes, tries, nextOf, levelAt, follows, goesOn}
+use Rattle.grammar.specs.Next.{Next, stops, operates, castsTo, dots, calls, indexes, tries, nextOf, levelAt}
+use Rattle.grammar.specs.Parser.{follows, goesOn}
 use Rattle.grammar.proofs.Tokens.{number-operator, code-same, code-token}
 use Rattle.plain.specs.Trees.{label, operatorLabel}
 use Rattle.follow.specs.Follow.{beforeAt, barredAt, goesOnBy}

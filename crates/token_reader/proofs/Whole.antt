@@ -13,18 +13,20 @@ use Rattle.grammar.specs.Tokens.{Token}
 use Rattle.grammar.specs.Codes.{tokensOf}
 use Rattle.grammar.specs.Types.{one}
 use Rattle.grammar.specs.Expressions.{Expr}
-use Rattle.grammar.specs.Grammar.{NONE, bare, Reading}
+use Rattle.grammar.specs.Grammar.{NONE}
+use Rattle.grammar.specs.Bare.{bare}
 use Rattle.grammar.specs.Parser.{Out, fail, ok, exprBy, parse}
-use Rattle.grammar.proofs.Tokens.{tokens-codes, codes-tokens}
-use Rattle.grammar.proofs.Theorems.{one-reading, found, finds}
-use Rattle.plain.specs.Trees.{treeOf}
+use Rattle.grammar.proofs.Tokens.{codes-tokens}
+use Rattle.plain.specs.Trees.{treeOf, withoutParens}
 use Rattle.plain.specs.Reads.{Reads}
+use Rattle.plain.proofs.Parens.{without-bare}
+use Rattle.plain.proofs.Readings.{one-reading, found, finds}
 use Rattle.numbering.specs.Numbered.{size, tooLarge}
 use Rattle.numbering.specs.Renumbering.{tooShort, renumbered, renumberedAfter}
 use Rattle.token_reader.specs.declared.Reply.{Reply}
 use Rattle.token_reader.specs.declared.Reply.the-variants.{Refused}
 use Rattle.token_reader.specs.declared.piece.Parsed.{Parsed}
-use Rattle.token_reader.specs.Reading.{refusal12, anyAbove, refusal14, countOrLarge, stored, Answers}
+use Rattle.token_reader.specs.Reading.{readRefusal12, anyAbove, refusal14, countOrLarge, readTable, Answers}
 use Rattle.token_reader.specs.Pieces.{Tells, IsExpr, ExprAt, replyOf}
 use Rattle.token_reader.proofs.Codes.{all-below}
 use Rattle.token_reader.proofs.Nodes.{placed-tree}
@@ -48,28 +50,20 @@ module _ {codes own now : List ℕ} {free : ℕ} (r : Parsed) (i : ExprAt codes 
 
   pub unread : (r .at ≡ length codes → ⊥) → (t : Tree) → Reads codes t → ⊥
   unread n t x =
-      let same : x .tokens ≡ tokensOf codes = sym (tokens-codes (x .tokens)) ∙ ap tokensOf (x .spelled) in
-      let f = finds NONE (x .tokens) (x .expression) (x .reading) in
-      let g = subst (Tells (IsExpr now r) codes (r .at)) (ap (parse NONE) (sym same) ∙ f .1) tells in
+      let g = subst (Tells (IsExpr now r) codes (r .at)) (finds x) tells in
       n (left-none (tokensOf codes) (r .at) (omega (arith, length-tokens codes, g .0)) (sym (g .1)) ∙ length-tokens codes)
 
   -- the tree at the node after the free ones
-  pub whole : anyAbove 45 codes ≡ false → r .at ≡ length codes → (t : Tree) × Reads codes t × (treeAt now 24576 (r .free + 1) ≡ t) × ((u : Tree) → Reads codes u → u ≡ t)
+  pub whole : anyAbove 45 codes ≡ false → r .at ≡ length codes → Reads codes (treeAt now 24576 (r .free + 1))
   whole known e = go (parse NONE (tokensOf codes)) refl tells
     where
-      go : (o : Out (Expr one)) → parse NONE (tokensOf codes) ≡ o → Tells (IsExpr now r) codes (r .at) o →
-          (t : Tree) × Reads codes t × (treeAt now 24576 (r .free + 1) ≡ t) × ((u : Tree) → Reads codes u → u ≡ t)
+      go : (o : Out (Expr one)) → parse NONE (tokensOf codes) ≡ o → Tells (IsExpr now r) codes (r .at) o → Reads codes (treeAt now 24576 (r .free + 1))
       go fail q k = absurd (omega arith)
       go (ok x rest) q k =
           let z : rest ≡ [] = k .1 ∙ ap (λ n. drop n (tokensOf codes)) (e ∙ sym (length-tokens codes)) ∙ none-left (tokensOf codes) in
-          let reading = found NONE (tokensOf codes) x (q ∙ ap (ok x) z) in (
-            treeOf (bare x),
-            record { tokens = tokensOf codes; spelled = codes-tokens codes (all-below codes known); expression = bare x; reading = reading; same = refl },
-            placed-tree now (r .free) (r .free + 1) (treeOf (bare x)) (omega arith) (k .2 .placed),
-            λ u y.
-                let same : y .tokens ≡ tokensOf codes = sym (tokens-codes (y .tokens)) ∙ ap tokensOf (y .spelled) in
-                sym (y .same) ∙ ap treeOf (one-reading NONE (tokensOf codes) (y .expression) (bare x) (subst (λ ts. Reading NONE ts (y .expression)) same (y .reading)) reading),
-          )
+          let here = placed-tree now (r .free) (r .free + 1) (treeOf (bare x)) (omega arith) (k .2 .placed) in
+          subst (λ t. Reads codes t) (without-bare x ∙ sym here)
+          (subst (λ n. Reads n (withoutParens (treeOf x))) (codes-tokens codes (all-below codes known)) (found (tokensOf codes) x (q ∙ ap (ok x) z)))
 
 -- ---- replies
 
@@ -86,17 +80,17 @@ reply t cells h = go (tooLarge t) refl
     go true e = rw e
     go false e = rw (e, long-enough t cells h e)
 
-after : (t : Tree) (table : List ℕ) → 20480 ≤ length table → renumberedAfter t table ≡ stored t table
-unfolding renumberedAfter stored pick
+after : (t : Tree) (table : List ℕ) → 20480 ≤ length table → renumberedAfter t table ≡ readTable t table
+unfolding renumberedAfter readTable pick
 after t table h = go (tooLarge t) refl
   where
-    go : (b : Bool) → tooLarge t ≡ b → renumberedAfter t table ≡ stored t table
+    go : (b : Bool) → tooLarge t ≡ b → renumberedAfter t table ≡ readTable t table
     go true e = rw e
     go false e = rw (e, long-enough t (length table) h e)
 
 module _ (codes table : List ℕ) where
   pub answers-short : length table < 20480 → Answers codes table (Refused 12) table
-  unfolding refusal12
+  unfolding readRefusal12
   answers-short h =
       let e = lt-ltb (length table) 20480 h in
       record {
@@ -107,7 +101,7 @@ module _ (codes table : List ℕ) where
       }
 
   answers-unknown : 20480 ≤ length table → refusal14 codes ≡ true → Answers codes table (Refused 14) table
-  unfolding refusal12
+  unfolding readRefusal12
   answers-unknown h e =
       record {
         short = λ p. true-not-false (sym p ∙ le-ltb (length table) 20480 h);
@@ -129,7 +123,7 @@ module _ (codes table : List ℕ) where
   known-fits k e = or-next _ (le-ltb 24576 (length codes) k) ∙ e
 
   pub answers-unread : 20480 ≤ length table → length codes ≤ 24576 → anyAbove 45 codes ≡ false → ((t : Tree) → Reads codes t → ⊥) → Answers codes table (Refused 15) table
-  unfolding refusal12
+  unfolding readRefusal12
   answers-unread h k e n =
       record {
         short = λ p. true-not-false (sym p ∙ le-ltb (length table) 20480 h);
@@ -140,14 +134,14 @@ module _ (codes table : List ℕ) where
 
   pub answers-read : {own now out : List ℕ} {free : ℕ} {r : Reply} (x : Parsed) → 20480 ≤ length table → length codes ≤ 24576 → anyAbove 45 codes ≡ false → ExprAt codes own now 0 free 1 x → x .at ≡ length codes →
       r ≡ replyOf (renumbered (treeAt now 24576 (x .free + 1)) (length table)) → out ≡ renumberedAfter (treeAt now 24576 (x .free + 1)) table → Answers codes table r out
-  unfolding refusal12
+  unfolding readRefusal12
   answers-read {own} {now} {out} {free} {r} x h k e i z p q =
       let w = whole x i e z in
       record {
         short = λ a. true-not-false (sym a ∙ le-ltb (length table) 20480 h);
         unknown = λ a b. true-not-false (sym b ∙ known-fits k e);
-        unread = λ a b n. absurd (n (w .0) (w .1));
+        unread = λ a b n. absurd (n _ w);
         read = λ a b t y.
-            let s : treeAt now 24576 (x .free + 1) ≡ t = w .2 ∙ sym (w .3 t y) in
+            let s : treeAt now 24576 (x .free + 1) ≡ t = one-reading w y in
             (p ∙ ap (λ u. replyOf (renumbered u (length table))) s ∙ reply t (length table) h, q ∙ ap (λ u. renumberedAfter u table) s ∙ after t table h);
       }

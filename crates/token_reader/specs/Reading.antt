@@ -14,8 +14,8 @@ use Rattle.token_reader.specs.declared.Reply.{Reply}
 use Rattle.token_reader.specs.declared.Reply.the-variants.{Refused, Nodes}
 
 -- 12. "A lent buffer is too short: .. a table of 4,096 nodes for the token reader." `lent` is the table's length
-unfoldable pub refusal12 : ℕ → Bool
-refusal12 lent = ltb lent (5 * 4096)
+unfoldable pub readRefusal12 : ℕ → Bool
+readRefusal12 lent = ltb lent (5 * 4096)
 
 -- 14. "A token list is longer than 24,576 or holds a code above 45."
 unfoldable pub anyAbove : ℕ → List ℕ → Bool
@@ -30,16 +30,17 @@ unfoldable pub countOrLarge : Tree → Reply
 countOrLarge t = pick (tooLarge t) (Refused 16) (Nodes (size t))
 
 -- "On 0 the reader's table holds the reading of its token list", and cells past it are as they were
-unfoldable pub stored : Tree → List ℕ → List ℕ
-stored t table = pick (tooLarge t) table (over (numbered t) table)
+unfoldable pub readTable : Tree → List ℕ → List ℕ
+readTable t table = pick (tooLarge t) table (over (numbered t) table)
 
--- The reply and the table afterwards. Each token list has a reading or has none, and at most one: so both are fixed in every case.
+-- The reply and the table afterwards. A token list has a reading or has none (`read-or-not` in plain/proofs/Readings), and at most one
+-- (`one-reading` there): both are fixed for every input (`answers-one` in proofs/Function).
 pub record Answers (codes table : List ℕ) (reply : Reply) (after : List ℕ) : Type 0 where
-  pub short : refusal12 (length table) ≡ true → (reply ≡ Refused 12) × (after ≡ table)
-  pub unknown : refusal12 (length table) ≡ false → refusal14 codes ≡ true → (reply ≡ Refused 14) × (after ≡ table)
+  pub short : readRefusal12 (length table) ≡ true → (reply ≡ Refused 12) × (after ≡ table)
+  pub unknown : readRefusal12 (length table) ≡ false → refusal14 codes ≡ true → (reply ≡ Refused 14) × (after ≡ table)
   -- 15. "The grammar below gives the token list no reading."
-  pub unread : refusal12 (length table) ≡ false → refusal14 codes ≡ false → ((t : Tree) → Reads codes t → ⊥) → (reply ≡ Refused 15) × (after ≡ table)
-  pub read : refusal12 (length table) ≡ false → refusal14 codes ≡ false → (t : Tree) → Reads codes t → (reply ≡ countOrLarge t) × (after ≡ stored t table)
+  pub unread : readRefusal12 (length table) ≡ false → refusal14 codes ≡ false → ((t : Tree) → Reads codes t → ⊥) → (reply ≡ Refused 15) × (after ≡ table)
+  pub read : readRefusal12 (length table) ≡ false → refusal14 codes ≡ false → (t : Tree) → Reads codes t → (reply ≡ countOrLarge t) × (after ≡ readTable t table)
 
 -- "When an answer is an enum, a definition gives this paper's number and values for each of its cases." The reply number, 0 for done, and behind it the value
 abbrev pub replyInNumbers : Reply → List ℕ

@@ -5,7 +5,7 @@ use lib.Dec.{eqb}
 use Rattle.laws.specs.Choice.{pick}
 use Rattle.tree.specs.Forms.{ExprAssign, ExprBinary}
 use Rattle.grammar.specs.Codes.{tokenOf}
-use Rattle.grammar.specs.Parser.{nextOf, levelAt}
+use Rattle.grammar.specs.Next.{nextOf, levelAt}
 use Rattle.follow.specs.Follow.{goesOnBy}
 
 -- ---- after an expression

@@ -86,10 +86,8 @@ written-most count cells h =
     omega arith
 
 -- "Tokens written never pass 24,576.": six for each of at most 4,096 nodes
-pub tokens-bound : (context count : ℕ) (cells : List ℕ) (lent : ℕ) → writeRefusal context count cells lent ≡ 0
-    → (length (written count cells) ≤ 6 * count) × (length (written count cells) ≤ 24576)
-tokens-bound context count cells lent e =
-    let ok = accepted-first context count cells lent e in
+pub tokens-bound : (context count : ℕ) (cells : List ℕ) → Accepted context count cells → (length (written count cells) ≤ 6 * count) × (length (written count cells) ≤ 24576)
+tokens-bound context count cells ok =
     let nodes = size-accepted context count cells ok in
     let bounds = count-bounds context count cells ok in
     let most = written-most count cells (omega arith) in

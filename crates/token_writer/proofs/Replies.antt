@@ -11,12 +11,12 @@ use Rattle.laws.specs.Choice.{pick}
 use Rattle.laws.proofs.Choice.{pick-true, pick-false, or-here, or-next}
 use Rattle.rules.specs.Refusals.{firstOf, refusal}
 use Rattle.walk.specs.Walk.{rowsAfter}
-use Rattle.grammar.specs.Codes.{codesOf}
+use Rattle.grammar.specs.Tokens.{codesOf}
 use Rattle.plain.specs.Plain.{plainTable}
 use Rattle.token_writer.specs.declared.Written.{Written}
 use Rattle.token_writer.specs.declared.Written.the-variants.{Refused, Tokens}
 use Rattle.token_writer.specs.Puts.{Put, codesAt}
-use Rattle.token_writer.specs.Writes.{rowsFor, written, refusal12, refusal13, writeRefusal, answered, tokensAfter}
+use Rattle.token_writer.specs.Writes.{rowsFor, written, writeRefusal12, refusal13, writeRefusal, answered, tokensAfter}
 use Rattle.token_writer.proofs.Putting.{put-over}
 use Rattle.token_writer.proofs.Tokens.{length-codes}
 
@@ -56,17 +56,17 @@ module _ (context count : ℕ) (cells tokens : List ℕ) where
   refused r e n = refuses r (e ∙ sym (pick-false _ _ (rw (← e) (ne-eqb r 0 n)))) n
 
   module _ (accepted : refusal context count cells ≡ 0) where
-    after : writeRefusal context count cells (length tokens) ≡ pick (refusal12 count (length tokens)) 12 (pick (refusal13 context count cells) 13 0)
+    after : writeRefusal context count cells (length tokens) ≡ pick (writeRefusal12 count (length tokens)) 12 (pick (refusal13 context count cells) 13 0)
     unfolding writeRefusal firstOf
     after = pick-true _ _ (eq-eqb _ 0 accepted)
 
     pub short : length tokens < 6 * count → Answers (Refused 12) tokens
-    unfolding refusal12
+    unfolding writeRefusal12
     short h = refuses 12 (sym (after ∙ pick-true _ _ (lt-ltb _ _ h))) (λ z. omega arith)
 
     module _ (fits : 6 * count ≤ length tokens) where
       behind12 : writeRefusal context count cells (length tokens) ≡ pick (refusal13 context count cells) 13 0
-      unfolding refusal12
+      unfolding writeRefusal12
       behind12 = after ∙ pick-false _ _ (le-ltb _ _ fits)
 
       pub in-context : (context ≡ 0 → ⊥) → Answers (Refused 13) tokens

@@ -17,8 +17,7 @@ use Rattle.tree.specs.Operands.{presence}
 use Rattle.tree.specs.Trees.{labelAt, operandAt, treeAt}
 use Rattle.tree.specs.Walks.{isPresent}
 use Rattle.tree.proofs.Walks.{there}
-use Rattle.grammar.specs.Tokens.{Token, operator, Assign, Lt, Gt, Name, code, number}
-use Rattle.grammar.specs.Codes.{operators, operatorOf, codesOf}
+use Rattle.grammar.specs.Tokens.{Token, operator, Assign, Lt, Gt, Name, code, number, operators, operatorOf, codesOf}
 use Rattle.plain.specs.Written.{signs, signRows, signsOf}
 use Rattle.token_writer.specs.declared.signs.Few.{Few}
 use Rattle.token_writer.specs.declared.signs.Few.the-variants.{Nothing, One, Two}

@@ -8,8 +8,7 @@ use lib.ListN.{length}
 use lib.Seq.{sets}
 use Rattle.laws.specs.Choice.{pick}
 use Rattle.tree.specs.Trees.{treeAt}
-use Rattle.grammar.specs.Tokens.{code, operator, Lt, Gt, Name}
-use Rattle.grammar.specs.Codes.{codesOf}
+use Rattle.grammar.specs.Tokens.{code, operator, Lt, Gt, Name, codesOf}
 use Rattle.plain.specs.Written.{tokensAt, hasPair}
 use Rattle.plain.specs.Written as plain
 use Rattle.token_writer.specs.declared.signs.Few.{Few}

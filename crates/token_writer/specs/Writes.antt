@@ -9,8 +9,7 @@ use Rattle.laws.specs.Lists.{over}
 use Rattle.tree.specs.Trees.{treeAt}
 use Rattle.rules.specs.Refusals.{refusal, refuse, firstOf}
 use Rattle.walk.specs.Walk.{rowsAfter}
-use Rattle.grammar.specs.Tokens.{Token}
-use Rattle.grammar.specs.Codes.{codesOf}
+use Rattle.grammar.specs.Tokens.{Token, codesOf}
 use Rattle.plain.specs.Plain.{plainTable}
 use Rattle.plain.specs.Written.{tokensAt, hasPair}
 use Rattle.token_writer.specs.declared.Written.{Written}
@@ -25,8 +24,8 @@ unfoldable pub written : ℕ → List ℕ → List Token
 written count cells = tokensAt cells count (hasPair (rowsFor count cells)) 1 (treeAt cells count 1) []
 
 -- 12. "A lent buffer is too short: .. six for the writer's tokens" (cells a node); `lent` is the buffer's length
-unfoldable pub refusal12 : ℕ → ℕ → Bool
-refusal12 count lent = ltb lent (6 * count)
+unfoldable pub writeRefusal12 : ℕ → ℕ → Bool
+writeRefusal12 count lent = ltb lent (6 * count)
 
 -- 13. "The writer is given a tree that is not plain or a context that is not 0."
 unfoldable pub refusal13 : ℕ → ℕ → List ℕ → Bool
@@ -37,7 +36,7 @@ unfoldable pub writeRefusal : ℕ → ℕ → List ℕ → ℕ → ℕ
 writeRefusal context count cells lent =
     pick
     (eqb (refusal context count cells) 0)
-    (firstOf (refuse 12 (refusal12 count lent) ∷ refuse 13 (refusal13 context count cells) ∷ []))
+    (firstOf (refuse 12 (writeRefusal12 count lent) ∷ refuse 13 (refusal13 context count cells) ∷ []))
     (refusal context count cells)
 
 -- the answer: the number of tokens, or the refusal

@@ -15,7 +15,7 @@ ghost use Prim.Native.Nat.{_+_, _*_, _≤_};
 ghost use lib.ListN.{length, replicate};
 ghost use Rattle.rules.specs.Refusals.{refusal};
 ghost use Rattle.plain.specs.Written.{hasPair};
-ghost use Rattle.grammar.specs.Codes.{codesOf};
+ghost use Rattle.grammar.specs.Tokens.{codesOf};
 ghost use Rattle.token_writer.specs.Puts.{spelled, Put, codesAt};
 ghost use Rattle.token_writer.specs.Writes.{written, answered, tokensAfter};
 

@@ -8,8 +8,7 @@ ghost use mathlib.Core.List.{[]};
 ghost use lib.Dec.{eqb};
 ghost use Rattle.laws.specs.Choice.{pick, lookup};
 ghost use Rattle.tree.specs.Trees.{labelAt, treeAt, operandAt};
-ghost use Rattle.grammar.specs.Tokens.{number, code};
-ghost use Rattle.grammar.specs.Codes.{operatorOf};
+ghost use Rattle.grammar.specs.Tokens.{number, code, operatorOf};
 ghost use Rattle.plain.specs.Written.{unary, signs, signRows, signsOf};
 ghost use Rattle.token_writer.specs.Puts.{onlyBefore, onlyBetween, enclosing, pathType, oneIf, Spells};
 

@@ -15,10 +15,10 @@ use Rattle.laws.proofs.Lists.{length-over}
 use Rattle.tree_file.specs.declared.Loaded.the-variants as loader
 use Rattle.tree_file.specs.Files.{loaded, loadedTable}
 use Rattle.tree_file.proofs.Loading.{stored-cells}
-use Rattle.grammar.specs.Codes.{codesOf}
+use Rattle.grammar.specs.Tokens.{codesOf}
 use Rattle.token_writer.specs.declared.Written.the-variants.{Refused, Tokens}
 use Rattle.token_writer.specs.Writes.{written, writeRefusal, answered, tokensAfter}
-use Rattle.token_writer.proofs.Bounds.{tokens-bound}
+use Rattle.token_writer.proofs.Bounds.{accepted-first, tokens-bound}
 use Rattle.token_writer.proofs.Tokens.{length-codes}
 use Rattle.tokens.specs.Text.{refused, listed, answerText, tableText, loadedText, printed}
 
@@ -39,7 +39,7 @@ module _ (context count : ℕ) (cells tokens : List ℕ) (room : length tokens �
         go false p q = absurd (let z : _≡_ {A = ℕ} 0 1 = cc in omega arith)
 
     pub tokens-most : n ≤ 24576
-    tokens-most = rw (parts .1) (tokens-bound context count cells (length tokens) (parts .0) .1)
+    tokens-most = rw (parts .1) (tokens-bound context count cells (accepted-first context count cells (length tokens) (parts .0)) .1)
 
     -- the codes stand at the start of the buffer
     codes-taken : take n (tokensAfter context count cells tokens) ≡ codesOf (written count cells)

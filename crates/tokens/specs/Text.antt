@@ -6,7 +6,7 @@ use Rattle.tree_file.specs.declared.Loaded.{Loaded}
 use Rattle.tree_file.specs.declared.Loaded.the-variants as loaded
 use Rattle.tree_file.specs.Files.{cellsIn}
 use Rattle.tree_file.specs.Files as files
-use Rattle.grammar.specs.Codes.{codesOf}
+use Rattle.grammar.specs.Tokens.{codesOf}
 use Rattle.token_writer.specs.declared.Written.{Written}
 use Rattle.token_writer.specs.declared.Written.the-variants.{Refused, Tokens}
 use Rattle.token_writer.specs.Writes.{written, answered}

@@ -10,7 +10,7 @@ use borrow.Author.Tests.{not-true, not-false}
 use Rattle.rules.proofs.Accepted.{count-bounds}
 use Rattle.token_writer.specs.Writes.{written}
 use Rattle.token_writer.proofs.Bounds.{tokens-bound}
-use Rattle.token_writer.proofs.Replies.{take-zeros, length-zeros, refused, short, in-context, not-plain, not-refused, done}
+use Rattle.token_writer.proofs.Replies.{take-zeros, length-zeros, refused, short, in-context, not-plain, done}
 use Rattle.token_writer.proofs.Tokens.{length-codes}
 use Rattle.token_writer.proofs.write.Statement.{statement}
 use Rattle.token_writer.proofs.write.Tie as tie
@@ -83,9 +83,7 @@ write-plain-requires c κs =
     let a = c .before .before .before .before .before .before .before .before .before .before .before .args in
     let ok = sym (c .before .before .before .before .before .before .before .before .check .ensures) ∙ c .before .before .before .before .before .before .before .if1 .left in
     let fits = c .before .before .before .before .before .before .if2 .left in
-    let none = c .before .before .before .before .before .if3 .left in
-    let plain = not-false _ (ap not (sym (c .before .before .before .before .is-plain-table .ensures)) ∙ c .before .before .before .if4 .left) in
-    let most = tokens-bound (a .context) (a .count) (a .table .now) (length (a .tokens .now)) (not-refused (a .context) (a .count) (a .table .now) (a .tokens .now) ok fits none plain) in
+    let most = tokens-bound (a .context) (a .count) (a .table .now) ok in
     let bounds = count-bounds (a .context) (a .count) (a .table .now) ok in
     (take-zeros (5 * a .count) 20480 (times 5 (a .count) (bounds .1)), take-zeros (3 * a .count) 12288 (times 3 (a .count) (bounds .1)), le-trans (most .0) fits)
 
@@ -93,10 +91,7 @@ cast-t22 : tie.Need-cast-t22
 cast-t22 c =
     let a = c .before .before .before .before .before .before .before .before .before .before .before .before .before .before .before .before .args in
     let ok = sym (c .before .before .before .before .before .before .before .before .before .before .before .before .before .check .ensures) ∙ c .before .before .before .before .before .before .before .before .before .before .before .before .if1 .left in
-    let fits = c .before .before .before .before .before .before .before .before .before .before .before .if2 .left in
-    let none = c .before .before .before .before .before .before .before .before .before .before .if3 .left in
-    let plain = not-false _ (ap not (sym (c .before .before .before .before .before .before .before .before .before .is-plain-table .ensures)) ∙ c .before .before .before .before .before .before .before .before .if4 .left) in
-    let most = tokens-bound (a .context) (a .count) (a .table .now) (length (a .tokens .now)) (not-refused (a .context) (a .count) (a .table .now) (a .tokens .now) ok fits none plain) in
+    let most = tokens-bound (a .context) (a .count) (a .table .now) ok in
     let l = length-codes (written (a .count) (a .table .now)) in
     omega (arith, c .before .before .before .before .write-plain .ensures .ends)
 
@@ -110,7 +105,7 @@ returns-5 c =
     let fits = c .before .before .before .before .before .before .before .before .before .before .before .if2 .left in
     let none = c .before .before .before .before .before .before .before .before .before .before .if3 .left in
     let plain = not-false _ (ap not (sym (c .before .before .before .before .before .before .before .before .before .is-plain-table .ensures)) ∙ c .before .before .before .before .before .before .before .before .if4 .left) in
-    let most = tokens-bound (a .context) (a .count) (a .table .now) (length (a .tokens .now)) (not-refused (a .context) (a .count) (a .table .now) (a .tokens .now) ok fits none plain) in
+    let most = tokens-bound (a .context) (a .count) (a .table .now) ok in
     done (a .context) (a .count) (a .table .now) (a .tokens .now) ok fits none plain _ _ (le-trans (most .0) fits) (c .before .before .before .before .write-plain .ensures)
 
 pub write-spec : {M : Type 1} → statement M

@@ -1,12 +1,10 @@
 -- The pairs that a plain tree in context 0 needs, by levels: the tree with them, and with all of them but one.
-use mathlib.Core.Path.{_≡_}
 use mathlib.Core.Bool.{Bool, true, false, _&&_, _||_}
-use mathlib.Core.List.{List, _∷_, _++_}
 use mathlib.Core.Logic.{_⊎_, inl, inr}
 use Prim.Native.Nat.{ℕ, suc}
 use lib.Dec.{ltb}
 use Rattle.laws.specs.Choice.{pick}
-use Rattle.grammar.specs.Tokens.{Operator, Token, LeftParen, RightParen}
+use Rattle.grammar.specs.Tokens.{Operator}
 use Rattle.grammar.specs.Levels.{casts, prefixes, postfixes, Lean, left, right, neither, kind, level, lean, before, after}
 use Rattle.grammar.specs.Types.{Sort, one, typeEndsInName}
 use Rattle.grammar.specs.Expressions.{Expr, atom, paren, prefix, binary, cast, member, try, index, call, method, noArguments, arguments, lastArgument, moreArguments, kindOf, endsInDotName}
@@ -120,11 +118,3 @@ dropPair (arguments l) g q = arguments (dropPair l false q)
 dropPair (lastArgument a) g q = lastArgument (dropPair a false q)
 dropPair (moreArguments a l) g (inl q) = moreArguments (dropPair a false q) (addPairs l false)
 dropPair (moreArguments a l) g (inr q) = moreArguments (addPairs a false) (dropPair l false q)
-
--- "leaving it out removes them and no other token": a `(` and a `)` behind it
-pub record Removed (before after : List Token) : Type 0 where
-  pub front : List Token
-  pub inside : List Token
-  pub behind : List Token
-  pub had : front ++ (LeftParen ∷ (inside ++ (RightParen ∷ behind))) ≡ before
-  pub has : front ++ (inside ++ behind) ≡ after
