@@ -1,7 +1,7 @@
 -- The right spine of a tree is no longer than its levels, but for a link at its end. Assumes nothing.
 use mathlib.Core.Path.{_≡_, refl, sym}
 use mathlib.Core.Bool.{Bool, true, false}
-use Prim.Native.Nat.{ℕ, _+_, _≤_, max}
+use Prim.Native.Nat.{ℕ, _+_, _≤_, _<_, max}
 use native.Mathlib.Omega.{arith}
 use lib.Dec.{eqb, leb}
 use borrow.Author.Tests.{leb-true, leb-false}
@@ -52,6 +52,15 @@ operand-levels Let a b = omega arith
 operand-levels Group a b = omega arith
 operand-levels Closed a b = omega arith
 
+-- each node of the right spine has fewer levels than the one before
+pub fewer-levels : (t : Tree) → isThere (onwards t) ≡ true → levels (onwards t) < levels t
+unfolding levels onwards
+fewer-levels none e = true-not-false (sym e)
+fewer-levels (node l a b) e =
+    let own = level-of l a b (there-goes-on (node l a b) e) in
+    let m = operand-levels (armOf (node l a b)) a b in
+    omega arith
+
 absent-spine : (t : Tree) → isThere t ≡ false → spine t ≡ 0
 unfolding spine
 absent-spine none e = refl
@@ -62,17 +71,13 @@ Short t = spine t ≤ 1 + levels t
 
 -- one node more
 longer : (t : Tree) → (isThere (onwards t) ≡ true → Short (onwards t)) → Short t
-unfolding spine levels onwards
+unfolding spine levels
 longer none ih = omega arith
-longer (node l a b) ih = rw (spine-along l a b) (go (isThere (operandBy (armOf (node l a b)) none a b)) refl)
+longer (node l a b) ih = rw (spine-along l a b) (go (isThere (onwards (node l a b))) refl)
   where
-    go : (e : Bool) → isThere (operandBy (armOf (node l a b)) none a b) ≡ e → 1 + spine (operandBy (armOf (node l a b)) none a b) ≤ 1 + (ownLevel (l .form) + max (levels a) (levels b))
-    go true e =
-        let h = ih e in
-        let own = level-of l a b (there-goes-on (node l a b) e) in
-        let m = operand-levels (armOf (node l a b)) a b in
-        omega arith
-    go false e = let z = absent-spine (operandBy (armOf (node l a b)) none a b) e in omega arith
+    go : (e : Bool) → isThere (onwards (node l a b)) ≡ e → 1 + spine (onwards (node l a b)) ≤ 1 + levels (node l a b)
+    go true e = let h = ih e in let d = fewer-levels (node l a b) e in omega arith
+    go false e = let z = absent-spine (onwards (node l a b)) e in omega arith
 
 pub spine-levels : (t : Tree) → Short t
 spine-levels = along Short longer

@@ -8,9 +8,9 @@ use native.Mathlib.Decide.{decLe}
 use Rattle.laws.specs.Choice.{pick}
 use Rattle.laws.proofs.Choice.{pick-true, pick-false}
 use Rattle.tree.specs.declared.table.Operand.the-variants.{Absent, Present}
-use Rattle.tree.specs.Trees.{Tree, none, operandAt, treeAt}
+use Rattle.tree.specs.Trees.{Tree, none, operandAt, treeAt, levels}
 use Rattle.tree.specs.Operands.{presence}
-use Rattle.tree.specs.Walks.{atRoot}
+use Rattle.tree.specs.Walks.{isThere, atRoot}
 use Rattle.tree.proofs.Unfold.{tree-zero, tree-past, unfolds}
 use Rattle.tree.proofs.Walks.{present-above, absent-zero}
 use Rattle.precedence.specs.declared.Precedence.{Precedence}
@@ -26,25 +26,44 @@ use Rattle.scan.specs.declared.arm.Arm.the-variants.{Assign, Binary, Pre
 use Rattle.scan.specs.declared.visit.Visit.{Visit}
 use Rattle.scan.specs.Scans.{consumes, consumeBy, armOf, operandBy, leafScan, early, visitBy, leaveBy, settleBy, finish, notConsume, loose, scanned, rightBy, scanBy, nowhere, scanRight, rightmostPrecedence}
 use Rattle.scan.specs.Steps.{operandNumber}
-use Rattle.scan.specs.Linear.{asksAgain, rightGiven}
+use Rattle.scan.specs.Linear.{asksAgain, rightGiven, onwards}
+use Rattle.scan.proofs.Spine.{scan-along}
 use Rattle.scan.proofs.Again.{first-serves}
+use Rattle.scan.proofs.Levels.{fewer-levels}
 
 module _ (cells : List ℕ) (count : ℕ) where
-  -- an arm's operand: its number's tree, and that tree's scans
-  operand-scans : (arm : Arm) (i : ℕ) (x : FixupContext) (p : Precedence) (f b : ℕ)
-      → scanBy arm (operandBy arm none (treeAt cells count (operandAt cells count i 3)) (treeAt cells count (operandAt cells count i 4))) (operandBy arm nowhere (scanRight (treeAt cells count (operandAt cells count i 3))) (scanRight (treeAt cells count (operandAt cells count i 4)))) x p f b
-      ≡ scanBy arm (treeAt cells count (operandNumber arm cells count i)) (scanRight (treeAt cells count (operandNumber arm cells count i))) x p f b
-  unfolding scanBy pick
-  operand-scans Assign i x p f b = refl
-  operand-scans (Binary q) i x p f b = refl
-  operand-scans Prefix i x p f b = refl
-  operand-scans Range i x p f b = refl
-  operand-scans (Break lost) i x p f b = refl
-  operand-scans Return i x p f b = refl
-  operand-scans Closure i x p f b = rw (tree-zero cells count)
-  operand-scans Let i x p f b = refl
-  operand-scans Group i x p f b = refl
-  operand-scans Closed i x p f b = rw (tree-zero cells count)
+  -- an arm's operand is its number's tree
+  operand-tree : (arm : Arm) (i : ℕ) → operandBy arm none (treeAt cells count (operandAt cells count i 3)) (treeAt cells count (operandAt cells count i 4)) ≡ treeAt cells count (operandNumber arm cells count i)
+  operand-tree Assign i = refl
+  operand-tree (Binary q) i = refl
+  operand-tree Prefix i = refl
+  operand-tree Range i = refl
+  operand-tree (Break lost) i = refl
+  operand-tree Return i = refl
+  operand-tree Closure i = sym (tree-zero cells count)
+  operand-tree Let i = refl
+  operand-tree Group i = refl
+  operand-tree Closed i = sym (tree-zero cells count)
+
+  abbrev OnwardsAt : ℕ → Type 0
+  OnwardsAt i = onwards (treeAt cells count i) ≡ treeAt cells count (operandNumber (armOf (treeAt cells count i)) cells count i)
+
+  onwards-nowhere : (i : ℕ) → treeAt cells count i ≡ none → OnwardsAt i
+  unfolding onwards armOf atRoot
+  onwards-nowhere i e = rw e (operand-tree Closed i)
+
+  onwards-inside : (i : ℕ) → 1 ≤ i → i ≤ count → OnwardsAt i
+  unfolding onwards
+  onwards-inside i h k = rw (unfolds cells count i h k) (operand-tree (armOf _) i)
+
+  -- the next node of the right spine
+  pub onwards-at : (i : ℕ) → OnwardsAt i
+  onwards-at i = low (decLe 1 i) (decLe i count)
+    where
+      low : Dec (1 ≤ i) → Dec (i ≤ count) → OnwardsAt i
+      low (yes h) (yes k) = onwards-inside i h k
+      low (yes h) (no k) = onwards-nowhere i (tree-past cells count i (omega arith))
+      low (no h) d = onwards-nowhere i (let z : i ≡ 0 = omega arith in rw z (tree-zero cells count))
 
   -- an operand that is present is a node after its owner
   operand-above : (arm : Arm) (i n : ℕ) → presence (operandNumber arm cells count i) ≡ Present n → (operandNumber arm cells count i ≡ n) × (i < n) × (n ≤ count)
@@ -70,21 +89,8 @@ module _ (cells : List ℕ) (count : ℕ) where
     abbrev goes-on : Arm → Scan
     goes-on arm = scanBy arm (treeAt cells count (operandNumber arm cells count i)) (scanRight (treeAt cells count (operandNumber arm cells count i))) x p f b
 
-    nowhere-scans : here ≡ none → scanRight here x p f b ≡ pick (parenthesize x here) (consumeBy p next) (goes-on (armOf here))
-    unfolding scanRight armOf atRoot
-    nowhere-scans e = rw e (ap (pick (parenthesize x none) (consumeBy p next)) (operand-scans Closed i x p f b))
-
-    inside-scans : 1 ≤ i → i ≤ count → scanRight here x p f b ≡ pick (parenthesize x here) (consumeBy p next) (goes-on (armOf here))
-    unfolding scanRight
-    inside-scans h k = rw (unfolds cells count i h k) (ap (pick _ (consumeBy p next)) (operand-scans (armOf _) i x p f b))
-
     node-scans : scanRight here x p f b ≡ pick (parenthesize x here) (consumeBy p next) (goes-on (armOf here))
-    node-scans = low (decLe 1 i) (decLe i count)
-      where
-        low : Dec (1 ≤ i) → Dec (i ≤ count) → scanRight here x p f b ≡ pick (parenthesize x here) (consumeBy p next) (goes-on (armOf here))
-        low (yes h) (yes k) = inside-scans h k
-        low (yes h) (no k) = nowhere-scans (tree-past cells count i (omega arith))
-        low (no h) d = nowhere-scans (let z : i ≡ 0 = omega arith in rw z (tree-zero cells count))
+    node-scans = scan-along here x p f b ∙ rw (onwards-at i)
 
     pub scan-grouped : parenthesize x here ≡ true → scanRight here x p f b ≡ consumeBy p next
     scan-grouped g = node-scans ∙ pick-true _ _ g
@@ -98,8 +104,13 @@ module _ (cells : List ℕ) (count : ℕ) where
       scan-leaf e = bare-scans ∙ rw (absent-zero _ e, tree-zero cells count)
 
       module _ (n : ℕ) (present : presence (operandNumber arm cells count i) ≡ Present n) where
-        pub operand-after : (i < n) × (n ≤ count)
-        operand-after = let s = operand-above arm i n present in (s .1, s .2)
+        -- it has fewer levels than its owner
+        pub operand-below : levels (treeAt cells count n) < levels here
+        operand-below =
+            let s = operand-above arm i n present in
+            let e : onwards here ≡ treeAt cells count n = onwards-at i ∙ rw (← is, s .0) in
+            let t : isThere (onwards here) ≡ true = rw (e, unfolds cells count n (omega arith) (s .2)) in
+            rw (← e) (fewer-levels here t)
 
         abbrev v : Visit
         v = visitBy arm x p f b

@@ -1,13 +1,13 @@
--- The cycle of `scan_right` and `rightmost_subexpression_precedence`: the numbers above the node become fewer, counted twice, with one between for the precedence. Assumes nothing.
+-- The cycle of `scan_right` and `rightmost_subexpression_precedence`: the levels below the node become fewer, counted twice, with one between for the precedence. Assumes nothing.
 use mathlib.Core.Path.{sym, _∙_}
 use native.Mathlib.Omega.{arith}
 use borrow.Author.Needs.{needs}
-use Prim.Native.Nat.{ℕ, _+_, _*_, _-_, _<_}
+use Prim.Native.Nat.{ℕ, _+_, _*_, _<_}
 use borrow.Fn.Kinds.{In}
 use borrow.Fn.PlainCycle.{Measures, is, falls, and}
 use Rattle.laws.proofs.Choice.{and-by}
-use Rattle.tree.specs.Trees.{treeAt}
-use Rattle.scan.proofs.Nodes.{scan-grouped, scan-leaf, operand-after, scan-early, scan-answers, scan-settles, scan-serves, right-unscanned, right-grouped, right-consumed}
+use Rattle.tree.specs.Trees.{treeAt, levels}
+use Rattle.scan.proofs.Nodes.{scan-grouped, scan-leaf, operand-below, scan-early, scan-answers, scan-settles, scan-serves, right-unscanned, right-grouped, right-consumed}
 use Rattle.scan.proofs.right.rightmost_subexpression_precedence.Reads as rightmost-subexpression-precedence
 use Rattle.scan.proofs.right.rightmost_subexpression_precedence.Kinds as rightmost-subexpression-precedence-kinds
 use Rattle.scan.proofs.right.+rightmost_subexpression_precedence+scan_right.Lts-rightmost_subexpression_precedence as rightmost-subexpression-precedence-lts
@@ -37,10 +37,10 @@ use Rattle.scan.proofs.right.+rightmost_subexpression_precedence+scan_r
 
 abbrev μ-rightmost-subexpression-precedence :
     Measures 1 rightmost-subexpression-precedence-kinds.ps ℕ
-μ-rightmost-subexpression-precedence κs a = 2 * (65536 - a .1 .1 .1 .0) + 1
+μ-rightmost-subexpression-precedence κs a = 2 * levels (treeAt (a .1 .0 .now) (a .1 .1 .0) (a .1 .1 .1 .0)) + 1
 
 abbrev μ-scan-right : Measures 1 scan-right-kinds.ps ℕ
-μ-scan-right κs a = 2 * (65536 - a .1 .1 .0)
+μ-scan-right κs a = 2 * levels (treeAt (a .0 .now) (a .1 .0) (a .1 .1 .0))
 
 abbrev rightmost-subexpression-precedence-at : ℕ → In 1 rightmost-subexpression-precedence-kinds.ps
 rightmost-subexpression-precedence-at t =
@@ -174,7 +174,7 @@ scan-right-scan-right-requires : (t : ℕ) → scan-right-lts.Need-scan-right-re
 scan-right-scan-right-requires t c κs =
     let s = c .before .before .before .before .before .before .before .before .before .before .before .before .before in
     let a = s .args in
-    let w = operand-after (a .table .now) (a .count) (a .node) (a .fixup) (a .precedence) (a .fail-offset) (a .bailout-offset) (sym (c .before .before .before .before .before .before .before .before .before .before .before .parenthesize .ensures) ∙ c .before .before .before .before .before .before .before .before .before .before .if1 .left) _ (c .before .before .before .before .before .before .before .before .before .arm-at .ensures) _ (sym (c .before .before .before .before .before .before .before .before .operand-of .ensures) ∙ c .before .before .before .before .before .before .operand .given .1) in
+    let w = operand-below (a .table .now) (a .count) (a .node) (a .fixup) (a .precedence) (a .fail-offset) (a .bailout-offset) (sym (c .before .before .before .before .before .before .before .before .before .before .before .parenthesize .ensures) ∙ c .before .before .before .before .before .before .before .before .before .before .if1 .left) _ (c .before .before .before .before .before .before .before .before .before .arm-at .ensures) _ (sym (c .before .before .before .before .before .before .before .before .operand-of .ensures) ∙ c .before .before .before .before .before .before .operand .given .1) in
     let m = s .pre .0 in
     (omega arith, search needs)
 
@@ -194,7 +194,7 @@ scan-right-rightmost-subexpression-precedence-requires : (t : ℕ) → scan-righ
 scan-right-rightmost-subexpression-precedence-requires t c κs =
     let s = c .before .before .before .before .before .before .before .before .before .before .before .before .before .before .before .before .before .before .before in
     let a = s .args in
-    let w = operand-after (a .table .now) (a .count) (a .node) (a .fixup) (a .precedence) (a .fail-offset) (a .bailout-offset) (sym (c .before .before .before .before .before .before .before .before .before .before .before .before .before .before .before .before .before .parenthesize .ensures) ∙ c .before .before .before .before .before .before .before .before .before .before .before .before .before .before .before .before .if1 .left) _ (c .before .before .before .before .before .before .before .before .before .before .before .before .before .before .before .arm-at .ensures) _ (sym (c .before .before .before .before .before .before .before .before .before .before .before .before .before .before .operand-of .ensures) ∙ c .before .before .before .before .before .before .before .before .before .before .before .before .operand .given .1) in
+    let w = operand-below (a .table .now) (a .count) (a .node) (a .fixup) (a .precedence) (a .fail-offset) (a .bailout-offset) (sym (c .before .before .before .before .before .before .before .before .before .before .before .before .before .before .before .before .before .parenthesize .ensures) ∙ c .before .before .before .before .before .before .before .before .before .before .before .before .before .before .before .before .if1 .left) _ (c .before .before .before .before .before .before .before .before .before .before .before .before .before .before .before .arm-at .ensures) _ (sym (c .before .before .before .before .before .before .before .before .before .before .before .before .before .before .operand-of .ensures) ∙ c .before .before .before .before .before .before .before .before .before .before .before .before .operand .given .1) in
     let m = s .pre .0 in
     (omega arith, search needs)
 
