@@ -18,7 +18,7 @@ use Rattle.scan.proofs.Spine.{goesOn, there-goes-on, along}
 use Rattle.scan.proofs.Linear.{spine-along}
 
 -- 56 is the one link
-link-form : (form : ℕ) → eqb (classOf form) aLink ≡ true → form ≡ 56
+pub link-form : (form : ℕ) → eqb (classOf form) aLink ≡ true → form ≡ 56
 unfolding classOf pick
 link-form form e = go (eqb form 0) (leb form 40) (leb form 55) refl (leb form 56) refl e
   where

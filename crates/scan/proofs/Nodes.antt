@@ -66,7 +66,7 @@ module _ (cells : List ℕ) (count : ℕ) where
       low (no h) d = onwards-nowhere i (let z : i ≡ 0 = omega arith in rw z (tree-zero cells count))
 
   -- an operand that is present is a node after its owner
-  operand-above : (arm : Arm) (i n : ℕ) → presence (operandNumber arm cells count i) ≡ Present n → (operandNumber arm cells count i ≡ n) × (i < n) × (n ≤ count)
+  pub operand-above : (arm : Arm) (i n : ℕ) → presence (operandNumber arm cells count i) ≡ Present n → (operandNumber arm cells count i ≡ n) × (i < n) × (n ≤ count)
   unfolding presence
   operand-above Assign i n e = present-above count i _ n e
   operand-above (Binary q) i n e = present-above count i _ n e
@@ -78,6 +78,14 @@ module _ (cells : List ℕ) (count : ℕ) where
   operand-above Let i n e = present-above count i _ n e
   operand-above Group i n e = present-above count i _ n e
   operand-above Closed i n e = absurd (let z : _≡_ {A = ℕ} 0 1 = cc in omega arith)
+
+  -- the operand that a node's arm goes on with has fewer levels than the node
+  pub operand-below : (i : ℕ) (arm : Arm) → arm ≡ armOf (treeAt cells count i) → (n : ℕ) → presence (operandNumber arm cells count i) ≡ Present n → levels (treeAt cells count n) < levels (treeAt cells count i)
+  operand-below i arm is n present =
+      let s = operand-above arm i n present in
+      let e : onwards (treeAt cells count i) ≡ treeAt cells count n = onwards-at i ∙ rw (← is, s .0) in
+      let t : isThere (onwards (treeAt cells count i)) ≡ true = rw (e, unfolds cells count n (omega arith) (s .2)) in
+      rw (← e) (fewer-levels (treeAt cells count i) t)
 
   module _ (i : ℕ) (x : FixupContext) (p : Precedence) (f b : ℕ) where
     abbrev here : Tree
@@ -104,14 +112,6 @@ module _ (cells : List ℕ) (count : ℕ) where
       scan-leaf e = bare-scans ∙ rw (absent-zero _ e, tree-zero cells count)
 
       module _ (n : ℕ) (present : presence (operandNumber arm cells count i) ≡ Present n) where
-        -- it has fewer levels than its owner
-        pub operand-below : levels (treeAt cells count n) < levels here
-        operand-below =
-            let s = operand-above arm i n present in
-            let e : onwards here ≡ treeAt cells count n = onwards-at i ∙ rw (← is, s .0) in
-            let t : isThere (onwards here) ≡ true = rw (e, unfolds cells count n (omega arith) (s .2)) in
-            rw (← e) (fewer-levels here t)
-
         abbrev v : Visit
         v = visitBy arm x p f b
 

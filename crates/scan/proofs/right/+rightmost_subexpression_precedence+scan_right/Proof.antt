@@ -174,7 +174,7 @@ scan-right-scan-right-requires : (t : ℕ) → scan-right-lts.Need-scan-right-re
 scan-right-scan-right-requires t c κs =
     let s = c .before .before .before .before .before .before .before .before .before .before .before .before .before in
     let a = s .args in
-    let w = operand-below (a .table .now) (a .count) (a .node) (a .fixup) (a .precedence) (a .fail-offset) (a .bailout-offset) (sym (c .before .before .before .before .before .before .before .before .before .before .before .parenthesize .ensures) ∙ c .before .before .before .before .before .before .before .before .before .before .if1 .left) _ (c .before .before .before .before .before .before .before .before .before .arm-at .ensures) _ (sym (c .before .before .before .before .before .before .before .before .operand-of .ensures) ∙ c .before .before .before .before .before .before .operand .given .1) in
+    let w = operand-below (a .table .now) (a .count) (a .node) _ (c .before .before .before .before .before .before .before .before .before .arm-at .ensures) _ (sym (c .before .before .before .before .before .before .before .before .operand-of .ensures) ∙ c .before .before .before .before .before .before .operand .given .1) in
     let m = s .pre .0 in
     (omega arith, search needs)
 
@@ -194,7 +194,7 @@ scan-right-rightmost-subexpression-precedence-requires : (t : ℕ) → scan-righ
 scan-right-rightmost-subexpression-precedence-requires t c κs =
     let s = c .before .before .before .before .before .before .before .before .before .before .before .before .before .before .before .before .before .before .before in
     let a = s .args in
-    let w = operand-below (a .table .now) (a .count) (a .node) (a .fixup) (a .precedence) (a .fail-offset) (a .bailout-offset) (sym (c .before .before .before .before .before .before .before .before .before .before .before .before .before .before .before .before .before .parenthesize .ensures) ∙ c .before .before .before .before .before .before .before .before .before .before .before .before .before .before .before .before .if1 .left) _ (c .before .before .before .before .before .before .before .before .before .before .before .before .before .before .before .arm-at .ensures) _ (sym (c .before .before .before .before .before .before .before .before .before .before .before .before .before .before .operand-of .ensures) ∙ c .before .before .before .before .before .before .before .before .before .before .before .before .operand .given .1) in
+    let w = operand-below (a .table .now) (a .count) (a .node) _ (c .before .before .before .before .before .before .before .before .before .before .before .before .before .before .before .arm-at .ensures) _ (sym (c .before .before .before .before .before .before .before .before .before .before .before .before .before .before .operand-of .ensures) ∙ c .before .before .before .before .before .before .before .before .before .before .before .before .operand .given .1) in
     let m = s .pre .0 in
     (omega arith, search needs)
 
