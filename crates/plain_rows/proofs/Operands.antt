@@ -14,7 +14,8 @@ use Rattle.precedence.specs.declared.Precedence.the-variants as rank
 use Rattle.precedence.specs.Precedences.{rankOf, below, atMost, same, ofBinop}
 use Rattle.fixup.specs.declared.context.FixupContext.{FixupContext}
 use Rattle.fixup.specs.Fixup.{effective, leftOfBinary, scanLeftRows, scanLeft}
-use Rattle.scan.specs.Scans.{notConsume, loose, scanned, rightBy, scanRight, rightmostPrecedence, isBailout, bailsOut, leftmostPrecedence}
+use Rattle.scan.specs.Scans.{loose, scanned, rightBy, scanRight, rightmostPrecedence, bailsOut, leftmostPrecedence}
+use Rattle.scan.specs.Arms.{notConsume}
 use Rattle.grammar.specs.Tokens.{Operator, number}
 use Rattle.grammar.specs.Levels.{kind, level}
 use Rattle.grammar.specs.Types.{one}

@@ -19,7 +19,10 @@ use Rattle.scan.specs.declared.Scan.{Scan}
 use Rattle.scan.specs.declared.Scan.the-variants.{Fail, Bailout, Consume}
 use Rattle.scan.specs.declared.arm.Arm.{Arm}
 use Rattle.scan.specs.declared.arm.Arm.the-variants.{Assign, Binary, Prefix, Closed}
-use Rattle.scan.specs.Scans.{binds, consumes, consumeBy, armRows, armOf, operandBy, closedScan, leafScan, early, visitBy, leaveBailout, leaveBy, settleBy, finish, Scans, rightBy, scanBy, nowhere, scanRight}
+use Rattle.scan.specs.Scans.{binds, consumes, consumeBy, rightBy, scanRight}
+use Rattle.scan.specs.Arms.{armRows, armOf, operandBy, closedScan, early, visitBy, leaveBailout, leaveBy, settleBy, finish, scanBy}
+use Rattle.scan.specs.Linear.{onwards}
+use Rattle.scan.proofs.Spine.{scan-along}
 use Rattle.grammar.specs.Tokens.{Operator, number}
 use Rattle.grammar.specs.Tokens as token
 use Rattle.grammar.specs.Levels.{kind, level}
@@ -104,9 +107,9 @@ module _ (l : Label) (a b : Tree) (x : FixupContext) (calm : Calm x) (p : Preced
   here = node l a b
 
   -- an arm with its operand
-  scan-arm : (arm : Arm) → armOf here ≡ arm → scanRight here x p fail bailout ≡ scanBy arm (operandBy arm none a b) (operandBy arm nowhere (scanRight a) (scanRight b)) x p fail bailout
-  unfolding scanRight
-  scan-arm arm e = pick-false _ _ (calm-parenthesize x here calm) ∙ rw e
+  scan-arm : (arm : Arm) → armOf here ≡ arm → scanRight here x p fail bailout ≡ scanBy arm (operandBy arm none a b) (scanRight (operandBy arm none a b)) x p fail bailout
+  unfolding onwards
+  scan-arm arm e = scan-along here x p fail bailout ∙ pick-false _ _ (calm-parenthesize x here calm) ∙ rw e
 
   scan-closed : armOf here ≡ Closed → scanRight here x p fail bailout ≡ consumeBy p (x .«next_operator»)
   unfolding scanBy pick
@@ -114,13 +117,13 @@ module _ (l : Label) (a b : Tree) (x : FixupContext) (calm : Calm x) (p : Preced
 
   -- with an operand whose scan does not fail, the answer is Consume, or what the arm makes of Bailout
   scan-on : (P : Scan → Type 0) (arm : Arm) → armOf here ≡ arm → isThere (operandBy arm none a b) ≡ true
-      → (let v = visitBy arm x p fail bailout in NotFail (operandBy arm nowhere (scanRight a) (scanRight b) (v .context) (v .precedence) (v .«fail_offset») (v .«bailout_offset»)))
+      → (let v = visitBy arm x p fail bailout in NotFail (scanRight (operandBy arm none a b) (v .context) (v .precedence) (v .«fail_offset») (v .«bailout_offset»)))
       → P Consume → ((settled : Scan) → P (finish (leaveBailout arm p (x .«next_operator»)) settled))
       → P (scanRight here x p fail bailout)
   unfolding scanBy
   scan-on P arm e there well consume bail =
       let v = visitBy arm x p fail bailout in
-      let scans = operandBy arm nowhere (scanRight a) (scanRight b) in
+      let scans = scanRight (operandBy arm none a b) in
       subst P (sym (scan-arm arm e ∙ pick-false _ _ (ap not there)))
       (by (early arm (x .«next_operator») (consumes p (x .«next_operator»)) fail bailout) (scans (v .context) (v .precedence) (v .«fail_offset») (v .«bailout_offset»)) well
       (settleBy arm p (x .«next_operator») (rightBy (operandBy arm none a b) scans (v .context))))

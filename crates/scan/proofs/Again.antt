@@ -22,10 +22,12 @@ use Rattle.scan.specs.declared.Scan.the-variants.{Fail, Bailout, Consume
 use Rattle.scan.specs.declared.answer.Leave.the-variants.{Answer, Ask}
 use Rattle.scan.specs.declared.arm.Arm.{Arm}
 use Rattle.scan.specs.declared.arm.Arm.the-variants.{Assign, Binary, Prefix, Range, Break, Return, Closure, Let, Group, Closed}
-use Rattle.scan.specs.Scans.{binds, consumes, consumeBy, armOf, closedScan, bareScan, leafScan, failHanded, one, visitBy, leaveBy, notConsume, loose, scanned, rightBy, scanRight, rightmostPrecedence}
+use Rattle.scan.specs.Scans.{binds, consumes, consumeBy, loose, scanned, rightBy, scanRight, rightmostPrecedence}
+use Rattle.scan.specs.Arms.{armOf, closedScan, bareScan, leafScan, failHanded, one, visitBy, leaveBy, notConsume}
 use Rattle.scan.specs.Linear.{asksAgain, rightGiven, onwards}
-use Rattle.scan.proofs.Spine.{goesOn, along, asked, back, isEarly, body, both-scans}
-use Rattle.scan.proofs.Offsets.{consume-not-fail, consume-by-not-fail, answer-of, body-lower, lower-offsets, lowest, body-group, body-fail, late-unambiguous, binary-late, more-bailout}
+use Rattle.scan.proofs.Spine.{goesOn, along, body, both-scans}
+use Rattle.scan.proofs.Arms.{answer-of, asked, back, isEarly}
+use Rattle.scan.proofs.Offsets.{consume-not-fail, consume-by-not-fail, body-lower, lower-offsets, lowest, body-group, body-fail, late-unambiguous, binary-late, more-bailout}
 
 -- ---- a rule for every precedence is one computed test
 
@@ -165,25 +167,25 @@ body-lowest arm o x p f b e = body-lower arm o (lower-offsets o) x p 1 0 f b (λ
 
 body-again : (arm : Arm) → goesOn arm ≡ true → (o : Tree) → Again o → (x : FixupContext) (p : Precedence) (f b : ℕ) → same (x .«next_operator») level.Jump ≡ false → body arm o x p f b ≡ Fail → T (still (x .«next_operator») (body arm o x level.Prefix 1 0))
 body-again Assign goes o ih x p f b j e =
-    still-fail (x .«next_operator») _ (body-lowest Assign o x level.Prefix f b (ap (pick (isEarly Assign x p f b) Consume) (assign-any level.Prefix p (x .«next_operator») (asked Assign o x p f b) (rightmostPrecedence o (visitBy Assign x p f b .context))) ∙ e))
+    still-fail (x .«next_operator») _ (body-lowest Assign o x level.Prefix f b (ap (pick (isEarly Assign x p f b) Consume) (assign-any level.Prefix p (x .«next_operator») (asked Assign (scanRight o) x p f b) (rightmostPrecedence o (visitBy Assign x p f b .context))) ∙ e))
 body-again (Binary q) goes o ih x p f b j e =
     let next = x .«next_operator» in
     let y = rightmost x false false q in
     let d = body-fail (Binary q) o x p f b e in
-    let s = binary-any q p level.Prefix next (asked (Binary q) o x p f b) (rightmostPrecedence o y) (d .1) in
+    let s = binary-any q p level.Prefix next (asked (Binary q) (scanRight o) x p f b) (rightmostPrecedence o y) (d .1) in
     let low : scanRight o y q 1 0 ≡ Fail = lowest o y q (failHanded next f) (one (consumes p next)) (ap notConsume (s .0)) ∙ s .0 in
-    let more : asked (Binary q) o x level.Prefix 1 0 ≡ Fail = ap (λ k. scanRight o y q k (one (consumes level.Prefix next))) (handed-one next) ∙ more-bailout o y q (one (consumes level.Prefix next)) low in
+    let more : asked (Binary q) (scanRight o) x level.Prefix 1 0 ≡ Fail = ap (λ k. scanRight o y q k (one (consumes level.Prefix next))) (handed-one next) ∙ more-bailout o y q (one (consumes level.Prefix next)) low in
     still-fail next _ (pick-false _ _ (binary-late q next _ 0 (d .2)) ∙ ap (λ r. back (Binary q) level.Prefix next r (rightmostPrecedence o y)) more ∙ s .1)
 body-again Prefix goes o ih x p f b j e =
     let next = x .«next_operator» in
     let y = rightmost x false false level.Prefix in
     let d = body-fail Prefix o x p f b e in
-    let s = prefix-any p level.Prefix next (asked Prefix o x p f b) (rightmostPrecedence o y) (d .1) in
+    let s = prefix-any p level.Prefix next (asked Prefix (scanRight o) x p f b) (rightmostPrecedence o y) (d .1) in
     let low : scanRight o y level.Prefix 1 0 ≡ Fail = still-unambiguous next _ (d .2) (ih y p (failHanded next f) (one (consumes p next)) j (s .0)) in
-    let more : asked Prefix o x level.Prefix 1 0 ≡ Fail = ap (λ k. scanRight o y level.Prefix k (one (consumes level.Prefix next))) (handed-one next) ∙ more-bailout o y level.Prefix (one (consumes level.Prefix next)) low in
+    let more : asked Prefix (scanRight o) x level.Prefix 1 0 ≡ Fail = ap (λ k. scanRight o y level.Prefix k (one (consumes level.Prefix next))) (handed-one next) ∙ more-bailout o y level.Prefix (one (consumes level.Prefix next)) low in
     still-fail next _ (pick-false _ _ (late-unambiguous next _ 0 (d .2) .0) ∙ ap (λ r. back Prefix level.Prefix next r (rightmostPrecedence o y)) more ∙ s .1)
 body-again Range goes o ih x p f b j e =
-    still-fail (x .«next_operator») _ (body-lowest Range o x level.Prefix f b (ap (pick (isEarly Range x p f b) Consume) (range-any level.Prefix p (x .«next_operator») (asked Range o x p f b) (rightmostPrecedence o (visitBy Range x p f b .context))) ∙ e))
+    still-fail (x .«next_operator») _ (body-lowest Range o x level.Prefix f b (ap (pick (isEarly Range x p f b) Consume) (range-any level.Prefix p (x .«next_operator») (asked Range (scanRight o) x p f b) (rightmostPrecedence o (visitBy Range x p f b .context))) ∙ e))
 body-again (Break lost) goes o ih x p f b j e = true-not-false (sym (body-fail (Break lost) o x p f b e .2))
 body-again Return goes o ih x p f b j e = true-not-false (sym (body-fail Return o x p f b e .2))
 body-again Closure goes o ih x p f b j e = true-not-false (sym goes)
@@ -234,21 +236,21 @@ module _ (o : Tree) (x : FixupContext) (p : Precedence) (f b : ℕ) where
   lowest-asked : (arm : Arm) (y : FixupContext) (q : Precedence) (g c : ℕ) → leaveBy arm p (x .«next_operator») (scanRight o y q g c) ≡ Ask → notConsume (scanRight o y q 1 0) ≡ true
   lowest-asked arm y q g c e = let h = asks-not-consume arm p (x .«next_operator») (scanRight o y q g c) e in ap notConsume (lowest o y q g c h) ∙ h
 
-  asked-same : (arm : Arm) → leaveBy arm p (x .«next_operator») (asked arm o x p f b) ≡ Ask → asksAgain arm (x .«next_operator») ≡ false → notConsume (askedAgain arm) ≡ true
+  asked-same : (arm : Arm) → leaveBy arm p (x .«next_operator») (asked arm (scanRight o) x p f b) ≡ Ask → asksAgain arm (x .«next_operator») ≡ false → notConsume (askedAgain arm) ≡ true
   asked-same Assign e k = lowest-asked Assign _ _ _ _ e
   asked-same (Binary q) e k = lowest-asked (Binary q) _ _ _ _ e
-  asked-same Prefix e k = still-not-consume (x .«next_operator») (askedAgain Prefix) (fails-again o _ p _ _ k (prefix-asks p (x .«next_operator») (asked Prefix o x p f b) e))
+  asked-same Prefix e k = still-not-consume (x .«next_operator») (askedAgain Prefix) (fails-again o _ p _ _ k (prefix-asks p (x .«next_operator») (asked Prefix (scanRight o) x p f b) e))
   asked-same Range e k = lowest-asked Range _ _ _ _ e
   asked-same (Break lost) e k = lowest-asked (Break lost) _ _ _ _ e
   asked-same Return e k = lowest-asked Return _ _ _ _ e
-  asked-same Closure e k = closure-asks p (x .«next_operator») (asked Closure o x p f b) e
+  asked-same Closure e k = closure-asks p (x .«next_operator») (asked Closure (scanRight o) x p f b) e
   asked-same Let e k = lowest-asked Let _ _ _ _ e
-  asked-same Group e k = group-asks p (x .«next_operator») (asked Group o x p f b) e
-  asked-same Closed e k = closed-asks p (x .«next_operator») (asked Closed o x p f b) e
+  asked-same Group e k = group-asks p (x .«next_operator») (asked Group (scanRight o) x p f b) e
+  asked-same Closed e k = closed-asks p (x .«next_operator») (asked Closed (scanRight o) x p f b) e
 
   -- the operand's right precedence, from the answer that it gave
-  pub first-serves : (arm : Arm) → leaveBy arm p (x .«next_operator») (asked arm o x p f b) ≡ Ask → asksAgain arm (x .«next_operator») ≡ false → rightGiven o (asked arm o x p f b) (visitBy arm x p f b .context) ≡ rightmostPrecedence o (visitBy arm x p f b .context)
+  pub first-serves : (arm : Arm) → leaveBy arm p (x .«next_operator») (asked arm (scanRight o) x p f b) ≡ Ask → asksAgain arm (x .«next_operator») ≡ false → rightGiven o (asked arm (scanRight o) x p f b) (visitBy arm x p f b .context) ≡ rightmostPrecedence o (visitBy arm x p f b .context)
   unfolding rightGiven rightmostPrecedence rightBy
   first-serves arm e k =
       let y = visitBy arm x p f b .context in
-      ap (λ c. pick ((loose y (effective y o) && scanned y) && (c && scanLeft o y)) level.Prefix (effective y o)) (asks-not-consume arm p (x .«next_operator») (asked arm o x p f b) e ∙ sym (asked-same arm e k))
+      ap (λ c. pick ((loose y (effective y o) && scanned y) && (c && scanLeft o y)) level.Prefix (effective y o)) (asks-not-consume arm p (x .«next_operator») (asked arm (scanRight o) x p f b) e ∙ sym (asked-same arm e k))

@@ -12,7 +12,7 @@ use Rattle.tree.specs.Trees.{Label, Tree, none, node, ownLevel, levels}
 use Rattle.tree.specs.Walks.{isThere, atRoot}
 use Rattle.scan.specs.declared.arm.Arm.{Arm}
 use Rattle.scan.specs.declared.arm.Arm.the-variants.{Assign, Binary, Prefix, Range, Break, Return, Closure, Let, Group, Closed}
-use Rattle.scan.specs.Scans.{armRows, armOf, operandBy}
+use Rattle.scan.specs.Arms.{armRows, armOf, operandBy}
 use Rattle.scan.specs.Linear.{onwards, spine}
 use Rattle.scan.proofs.Spine.{goesOn, there-goes-on, along}
 use Rattle.scan.proofs.Linear.{spine-along}

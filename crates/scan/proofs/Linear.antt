@@ -1,4 +1,4 @@
--- The scan that the code runs is the plain one, and it visits each node of the right spine at most twice. Assumes nothing.
+-- The scan that the code runs is scan_right, and it visits each node of the right spine at most twice. Assumes nothing.
 use mathlib.Core.Path.{_≡_, refl, sym, ap, ap₂, _∙_}
 use mathlib.Core.Bool.{Bool, true, false, _&&_}
 use Prim.Native.Nat.{ℕ, _+_, _*_, _≤_}
@@ -20,9 +20,11 @@ use Rattle.scan.specs.declared.answer.Leave.{Leave}
 use Rattle.scan.specs.declared.answer.Leave.the-variants.{Answer, Ask}
 use Rattle.scan.specs.declared.arm.Arm.{Arm}
 use Rattle.scan.specs.declared.arm.Arm.the-variants.{Assign, Binary, Prefix, Range, Break, Return, Closure, Let, Group, Closed}
-use Rattle.scan.specs.Scans.{consumes, consumeBy, armOf, operandBy, failHanded, one, visitBy, leaveBy, settleBy, finish, notConsume, loose, scanned, rightBy, scanBy, nowhere, scanRight, rightmostPrecedence}
-use Rattle.scan.specs.Linear.{asksAgain, rightGiven, onwards, linearBy, linear, noVisit, rightVisitsBy, isAsk, visitsBy, visits, spine}
-use Rattle.scan.proofs.Spine.{goesOn, there-goes-on, along, scan-along, asked, back, isEarly, body, at-grouped, at-inner}
+use Rattle.scan.specs.Scans.{consumes, consumeBy, loose, scanned, rightBy, scanRight, rightmostPrecedence}
+use Rattle.scan.specs.Arms.{armOf, operandBy, failHanded, one, visitBy, leaveBy, settleBy, finish, notConsume, scanBy}
+use Rattle.scan.specs.Linear.{asksAgain, rightGiven, onwards, linearBy, nowhere, linear, noVisit, rightVisitsBy, isAsk, visitsBy, visits, spine}
+use Rattle.scan.proofs.Arms.{asked, back, isEarly}
+use Rattle.scan.proofs.Spine.{goesOn, there-goes-on, along, scan-along, body, at-grouped, at-inner}
 use Rattle.scan.proofs.Offsets.{consume-not-fail, consume-by-not-fail, body-fail, body-group, lower-offsets}
 use Rattle.scan.proofs.Again.{prefix-asks, first-serves}
 
@@ -49,8 +51,8 @@ unfolding linear onwards armOf atRoot
 linear-along none x p f b = ap (pick (parenthesize x none) (consumeBy p (x .«next_operator»))) (operand-linear Closed none none x p f b)
 linear-along (node l c d) x p f b = ap (pick (parenthesize x (node l c d)) (consumeBy p (x .«next_operator»))) (operand-linear (armOf (node l c d)) c d x p f b)
 
-abbrev Plain : Tree → Type 0
-Plain t = (x : FixupContext) (p : Precedence) (f b : ℕ) → linear t x p f b ≡ scanRight t x p f b
+abbrev Scanned : Tree → Type 0
+Scanned t = (x : FixupContext) (p : Precedence) (f b : ℕ) → linear t x p f b ≡ scanRight t x p f b
 
 -- an answer, settled by the one precedence or the other
 settled : (l : Leave) (again : Bool) (settle : Precedence → Scan) (q r : Precedence) → (l ≡ Ask → again ≡ false → r ≡ q) → finish l (settle (pick again q r)) ≡ finish l (settle q)
@@ -59,27 +61,27 @@ settled (Answer s) again settle q r h = refl
 settled Ask true settle q r h = refl
 settled Ask false settle q r h = ap settle (h refl refl)
 
-operand-plain : (arm : Arm) (o : Tree) → Plain o → (x : FixupContext) (p : Precedence) (f b : ℕ) →
+operand-linear-scan : (arm : Arm) (o : Tree) → Scanned o → (x : FixupContext) (p : Precedence) (f b : ℕ) →
     (let v = visitBy arm x p f b in
     let s = linear o (v .context) (v .precedence) (v .«fail_offset») (v .«bailout_offset») in
     finish (leaveBy arm p (x .«next_operator») s) (settleBy arm p (x .«next_operator») (pick (asksAgain arm (x .«next_operator»)) (rightBy o (linear o) (v .context)) (rightGiven o s (v .context)))))
-    ≡ back arm p (x .«next_operator») (asked arm o x p f b) (rightBy o (scanRight o) (visitBy arm x p f b .context))
+    ≡ back arm p (x .«next_operator») (asked arm (scanRight o) x p f b) (rightBy o (scanRight o) (visitBy arm x p f b .context))
 unfolding rightGiven rightBy rightmostPrecedence
-operand-plain arm o ih x p f b =
+operand-linear-scan arm o ih x p f b =
     let next = x .«next_operator» in
     let v = visitBy arm x p f b in
     let y = v .context in
     ap₂ (λ s r. finish (leaveBy arm p next s) (settleBy arm p next (pick (asksAgain arm next) (rightGiven o r y) (rightGiven o s y)))) (ih y (v .precedence) (v .«fail_offset») (v .«bailout_offset»)) (ih y (y .«previous_operator») 1 0)
-    ∙ settled (leaveBy arm p next (asked arm o x p f b)) (asksAgain arm next) (settleBy arm p next) (rightBy o (scanRight o) y) (rightGiven o (asked arm o x p f b) y) (first-serves o x p f b arm)
+    ∙ settled (leaveBy arm p next (asked arm (scanRight o) x p f b)) (asksAgain arm next) (settleBy arm p next) (rightBy o (scanRight o) y) (rightGiven o (asked arm (scanRight o) x p f b) y) (first-serves o x p f b arm)
 
-inner-plain : (arm : Arm) (o : Tree) → (isThere o ≡ true → Plain o) → (x : FixupContext) (p : Precedence) (f b : ℕ) → linearBy arm o (linear o) x p f b ≡ scanBy arm o (scanRight o) x p f b
+inner-linear-scan : (arm : Arm) (o : Tree) → (isThere o ≡ true → Scanned o) → (x : FixupContext) (p : Precedence) (f b : ℕ) → linearBy arm o (linear o) x p f b ≡ scanBy arm o (scanRight o) x p f b
 unfolding linearBy scanBy pick
-inner-plain arm none ih x p f b = refl
-inner-plain arm (node l c d) ih x p f b = ap (pick (isEarly arm x p f b) Consume) (operand-plain arm (node l c d) (ih refl) x p f b)
+inner-linear-scan arm none ih x p f b = refl
+inner-linear-scan arm (node l c d) ih x p f b = ap (pick (isEarly arm x p f b) Consume) (operand-linear-scan arm (node l c d) (ih refl) x p f b)
 
-pub linear-is-plain : (t : Tree) → Plain t
-linear-is-plain =
-    along Plain (λ t ih x p f b. linear-along t x p f b ∙ ap (pick (parenthesize x t) (consumeBy p (x .«next_operator»))) (inner-plain (armOf t) (onwards t) ih x p f b) ∙ sym (scan-along t x p f b))
+pub linear-is-scan : (t : Tree) → Scanned t
+linear-is-scan =
+    along Scanned (λ t ih x p f b. linear-along t x p f b ∙ ap (pick (parenthesize x t) (consumeBy p (x .«next_operator»))) (inner-linear-scan (armOf t) (onwards t) ih x p f b) ∙ sym (scan-along t x p f b))
 
 -- ---- the visits of a node, by those of the next one
 
@@ -103,7 +105,7 @@ abbrev scannedOnce : Arm → Tree → FixupContext → Precedence → ℕ → �
 scannedOnce arm o x p f b = let v = visitBy arm x p f b in visits o (v .context) (v .precedence) (v .«fail_offset») (v .«bailout_offset»)
 
 abbrev twiceAt : Arm → Tree → FixupContext → Precedence → ℕ → ℕ → Bool
-twiceAt arm o x p f b = asksAgain arm (x .«next_operator») && isAsk (leaveBy arm p (x .«next_operator») (asked arm o x p f b))
+twiceAt arm o x p f b = asksAgain arm (x .«next_operator») && isAsk (leaveBy arm p (x .«next_operator») (asked arm (scanRight o) x p f b))
 
 abbrev operandVisits : Arm → Tree → FixupContext → Precedence → ℕ → ℕ → ℕ
 operandVisits arm o x p f b = scannedOnce arm o x p f b + pick (twiceAt arm o x p f b) (rightVisitsBy o (visits o) (visitBy arm x p f b .context)) 0
@@ -117,7 +119,7 @@ visits-by-most : (arm : Arm) (o : Tree) (x : FixupContext) (p : Precedence) (f b
 unfolding visitsBy
 visits-by-most arm o x p f b =
     let v = visitBy arm x p f b in
-    rw (linear-is-plain o (v .context) (v .precedence) (v .«fail_offset») (v .«bailout_offset»)) (pick-most (isEarly arm x p f b) (operandVisits arm o x p f b))
+    rw (linear-is-scan o (v .context) (v .precedence) (v .«fail_offset») (v .«bailout_offset»)) (pick-most (isEarly arm x p f b) (operandVisits arm o x p f b))
 
 visits-most : (t : Tree) (x : FixupContext) (p : Precedence) (f b : ℕ) → visits t x p f b ≤ 1 + operandVisits (armOf t) (onwards t) x p f b
 unfolding visits onwards
@@ -201,8 +203,8 @@ range-fails p next Consume r j e = consume-not-fail e
 abbrev Once : Tree → Type 0
 Once t = (x : FixupContext) (p : Precedence) (f b : ℕ) → same (x .«next_operator») level.Jump ≡ true → scanRight t x p f b ≡ Fail → visits t x p f b ≤ spine t
 
-range-operand : (o : Tree) (x : FixupContext) (p : Precedence) (f b : ℕ) → same (x .«next_operator») level.Jump ≡ true → body Range o x p f b ≡ Fail → asked Range o x p f b ≡ Fail
-range-operand o x p f b j e = range-fails p (x .«next_operator») (asked Range o x p f b) (rightmostPrecedence o (visitBy Range x p f b .context)) j (body-fail Range o x p f b e .1)
+range-operand : (o : Tree) (x : FixupContext) (p : Precedence) (f b : ℕ) → same (x .«next_operator») level.Jump ≡ true → body Range o x p f b ≡ Fail → asked Range (scanRight o) x p f b ≡ Fail
+range-operand o x p f b j e = range-fails p (x .«next_operator») (asked Range (scanRight o) x p f b) (rightmostPrecedence o (visitBy Range x p f b .context)) j (body-fail Range o x p f b e .1)
 
 inner-once : (arm : Arm) → goesOn arm ≡ true → (o : Tree) → Once o → (x : FixupContext) (p : Precedence) (f b : ℕ) → same (x .«next_operator») level.Jump ≡ true → body arm o x p f b ≡ Fail → operandVisits arm o x p f b ≤ spine o
 unfolding pick
@@ -263,14 +265,14 @@ pick-within true n m h = h
 pick-within false n m h = omega arith
 
 -- where the operand is scanned twice, it fails with no next operator
-inner-twice : (arm : Arm) (o : Tree) (x : FixupContext) (p : Precedence) (f b : ℕ) → asksAgain arm (x .«next_operator») ≡ true → leaveBy arm p (x .«next_operator») (asked arm o x p f b) ≡ Ask → scannedOnce arm o x p f b + rightVisitsBy o (visits o) (visitBy arm x p f b .context) ≤ 2 * spine o
+inner-twice : (arm : Arm) (o : Tree) (x : FixupContext) (p : Precedence) (f b : ℕ) → asksAgain arm (x .«next_operator») ≡ true → leaveBy arm p (x .«next_operator») (asked arm (scanRight o) x p f b) ≡ Ask → scannedOnce arm o x p f b + rightVisitsBy o (visits o) (visitBy arm x p f b .context) ≤ 2 * spine o
 unfolding rightVisitsBy
 inner-twice Assign o x p f b j e = true-not-false (sym j)
 inner-twice (Binary q) o x p f b j e = true-not-false (sym j)
 inner-twice Prefix o x p f b j e =
     let y = rightmost x false false level.Prefix in
     let next = x .«next_operator» in
-    let s = prefix-asks p next (asked Prefix o x p f b) e in
+    let s = prefix-asks p next (asked Prefix (scanRight o) x p f b) e in
     let h = fails-once o y p (failHanded next f) (one (consumes p next)) j s in
     let k = fails-once-more o y p (failHanded next f) (one (consumes p next)) level.Prefix j s in
     let m = pick-within (loose y (effective y o) && scanned y) (visits o y level.Prefix 1 0) (spine o) k in
@@ -289,7 +291,7 @@ inner-visits arm o ih x p f b = go (twiceAt arm o x p f b) refl
   where
     go : (e : Bool) → twiceAt arm o x p f b ≡ e → scannedOnce arm o x p f b + pick e (rightVisitsBy o (visits o) (visitBy arm x p f b .context)) 0 ≤ 2 * spine o
     go true e =
-        let d = and-true (asksAgain arm (x .«next_operator»)) (isAsk (leaveBy arm p (x .«next_operator») (asked arm o x p f b))) e in
+        let d = and-true (asksAgain arm (x .«next_operator»)) (isAsk (leaveBy arm p (x .«next_operator») (asked arm (scanRight o) x p f b))) e in
         inner-twice arm o x p f b (d .0) (is-ask _ (d .1))
     go false e =
         let v = visitBy arm x p f b in

@@ -24,8 +24,8 @@ use Rattle.scan.specs.declared.answer.Leave.the-variants.{Answer, Ask}
 use Rattle.scan.specs.declared.arm.Arm.{Arm}
 use Rattle.scan.specs.declared.arm.Arm.the-variants.{Assign, Binary, Prefix, Range, Break, Return, Closure, Let, Group, Closed}
 use Rattle.scan.specs.declared.visit.Visit.{Visit}
-use Rattle.scan.specs.Scans.{consumes, consumeBy, armOf, operandBy, leafScan, early, visitBy, leaveBy, settleBy, finish, notConsume, loose, scanned, rightBy, scanBy, nowhere, scanRight, rightmostPrecedence}
-use Rattle.scan.specs.Steps.{operandNumber}
+use Rattle.scan.specs.Scans.{consumes, consumeBy, loose, scanned, rightBy, scanRight, rightmostPrecedence}
+use Rattle.scan.specs.Arms.{armOf, operandBy, leafScan, early, visitBy, leaveBy, settleBy, finish, notConsume, scanBy, operandNumber}
 use Rattle.scan.specs.Linear.{asksAgain, rightGiven, onwards}
 use Rattle.scan.proofs.Spine.{scan-along}
 use Rattle.scan.proofs.Again.{first-serves}

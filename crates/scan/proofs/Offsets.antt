@@ -14,12 +14,13 @@ use Rattle.precedence.specs.Precedences.{rankOf, below, atMost, same}
 use Rattle.fixup.specs.declared.context.FixupContext.{FixupContext}
 use Rattle.scan.specs.declared.Scan.{Scan}
 use Rattle.scan.specs.declared.Scan.the-variants.{Fail, Bailout, Consume}
-use Rattle.scan.specs.declared.answer.Leave.the-variants.{Answer, Ask}
 use Rattle.scan.specs.declared.arm.Arm.{Arm}
 use Rattle.scan.specs.declared.arm.Arm.the-variants.{Assign, Binary, Prefix, Range, Break, Return, Closure, Let, Group, Closed}
-use Rattle.scan.specs.Scans.{armOf, consumes, consumeBy, enough, early, failHanded, visitBy, failOr, finish, notConsume, scanRight, rightmostPrecedence}
+use Rattle.scan.specs.Scans.{consumes, consumeBy, scanRight, rightmostPrecedence}
+use Rattle.scan.specs.Arms.{enough, armOf, early, failHanded, visitBy, failOr, notConsume}
 use Rattle.scan.specs.Linear.{onwards}
-use Rattle.scan.proofs.Spine.{goesOn, along, asked, back, after, isEarly, body, both-scans}
+use Rattle.scan.proofs.Arms.{answer-of, back, group-back, isEarly, asked}
+use Rattle.scan.proofs.Spine.{goesOn, along, after, body, both-scans}
 
 -- ---- answers apart
 
@@ -100,7 +101,7 @@ context-same Let x p f b q g c = refl
 context-same Group x p f b q g c = refl
 context-same Closed x p f b q g c = refl
 
-asked-lower : (arm : Arm) (o : Tree) → Offsets o → (x : FixupContext) (p : Precedence) (f b g c : ℕ) → Lower (leb 2 f) (leb 2 g) → Lower (leb 1 b) (leb 1 c) → notConsume (asked arm o x p g c) ≡ true → asked arm o x p f b ≡ asked arm o x p g c
+asked-lower : (arm : Arm) (o : Tree) → Offsets o → (x : FixupContext) (p : Precedence) (f b g c : ℕ) → Lower (leb 2 f) (leb 2 g) → Lower (leb 1 b) (leb 1 c) → notConsume (asked arm (scanRight o) x p g c) ≡ true → asked arm (scanRight o) x p f b ≡ asked arm (scanRight o) x p g c
 asked-lower Assign o ih x p f b g c h k e = ih _ _ _ _ _ _ (lower-handed (x .«next_operator») f g h) (λ e. e) e
 asked-lower (Binary q) o ih x p f b g c h k e = ih _ _ _ _ _ _ (lower-handed (x .«next_operator») f g h) (λ e. e) e
 asked-lower Prefix o ih x p f b g c h k e = ih _ _ _ _ _ _ (lower-handed (x .«next_operator») f g h) (λ e. e) e
@@ -127,7 +128,7 @@ pub body-lower : (arm : Arm) (o : Tree) → Offsets o → (x : FixupContext) (p 
 body-lower arm o ih x p f b g c h k e =
     let late = late-not-consume (isEarly arm x p g c) _ e in
     pick-false _ _ (lower-early f b g c h k arm _ _ (late .0))
-    ∙ ap₂ (λ s y. back arm p (x .«next_operator») s (rightmostPrecedence o y)) (asked-lower arm o ih x p f b g c h k (back-not-consume arm p (x .«next_operator») (asked arm o x p g c) (rightmostPrecedence o (visitBy arm x p g c .context)) (late .1))) (context-same arm x p f b p g c)
+    ∙ ap₂ (λ s y. back arm p (x .«next_operator») s (rightmostPrecedence o y)) (asked-lower arm o ih x p f b g c h k (back-not-consume arm p (x .«next_operator») (asked arm (scanRight o) x p g c) (rightmostPrecedence o (visitBy arm x p g c .context)) (late .1))) (context-same arm x p f b p g c)
     ∙ sym (pick-false _ _ (late .0))
 
 -- at lower offsets, the answer is Consume no more often, and otherwise the same
@@ -177,11 +178,6 @@ unfolding pick
 pick-of true s r a e P h k = h e
 pick-of false s r a e P h k = k e
 
-pub answer-of : (t : Bool) (s r : Scan) → finish (pick t (Answer s) Ask) r ≡ pick t s r
-unfolding pick
-answer-of true s r = refl
-answer-of false s r = refl
-
 back-fail : (arm : Arm) (p next : Precedence) (s : Scan) (r : Precedence) → back arm p next s r ≡ Fail → handsFail arm next ≡ true
 back-fail Assign p next Fail r e = fail-or next e
 back-fail Assign p next Bailout r e = consume-not-fail e
@@ -206,11 +202,6 @@ back-fail Let p next Consume r e = consume-not-fail e
 back-fail Group p next s r e = refl
 back-fail Closed p next s r e = refl
 
-group-back : (p next : Precedence) (s : Scan) (r : Precedence) → back Group p next s r ≡ s
-group-back p next Fail r = refl
-group-back p next Bailout r = refl
-group-back p next Consume r = refl
-
 -- a Group answers as its operand
 pub body-group : (o : Tree) (x : FixupContext) (p : Precedence) (f b : ℕ) → body Group o x p f b ≡ scanRight o x p f b
 unfolding pick
@@ -219,7 +210,7 @@ body-group o x p f b = group-back p (x .«next_operator») (scanRight o x p f b)
 pub body-fail : (arm : Arm) (o : Tree) (x : FixupContext) (p : Precedence) (f b : ℕ) → body arm o x p f b ≡ Fail → (isEarly arm x p f b ≡ false) × (after arm o x p f b ≡ Fail) × (handsFail arm (x .«next_operator») ≡ true)
 body-fail arm o x p f b e =
     let d = late-fail (isEarly arm x p f b) (after arm o x p f b) e in
-    (d .0, d .1, back-fail arm p (x .«next_operator») (asked arm o x p f b) (rightmostPrecedence o (visitBy arm x p f b .context)) (d .1))
+    (d .0, d .1, back-fail arm p (x .«next_operator») (asked arm (scanRight o) x p f b) (rightmostPrecedence o (visitBy arm x p f b .context)) (d .1))
 
 -- ---- more of bailout
 

@@ -13,8 +13,10 @@ use Rattle.scan.specs.declared.Scan.{Scan}
 use Rattle.scan.specs.declared.Scan.the-variants.{Consume}
 use Rattle.scan.specs.declared.arm.Arm.{Arm}
 use Rattle.scan.specs.declared.arm.Arm.the-variants.{Assign, Binary, Prefix, Range, Break, Return, Closure, Let, Group, Closed}
-use Rattle.scan.specs.Scans.{consumes, consumeBy, armOf, operandBy, leafScan, early, visitBy, leaveBy, settleBy, finish, scanBy, nowhere, scanRight, rightmostPrecedence}
+use Rattle.scan.specs.Scans.{consumeBy, scanRight, rightmostPrecedence}
+use Rattle.scan.specs.Arms.{armOf, operandBy, leafScan, visitBy, scanBy}
 use Rattle.scan.specs.Linear.{onwards}
+use Rattle.scan.proofs.Arms.{back, isEarly, asked, closed-is, arms-agree}
 
 -- ---- induction along the spine
 
@@ -67,40 +69,14 @@ along P step (node l a b) = step (node l a b) (operand-has P (armOf (node l a b)
 
 -- ---- one node
 
-operand-scans : (arm : Arm) (a b : Tree) (x : FixupContext) (p : Precedence) (f c : ℕ)
-    → scanBy arm (operandBy arm none a b) (operandBy arm nowhere (scanRight a) (scanRight b)) x p f c
-    ≡ scanBy arm (operandBy arm none a b) (scanRight (operandBy arm none a b)) x p f c
-unfolding scanBy pick
-operand-scans Assign a b x p f c = refl
-operand-scans (Binary q) a b x p f c = refl
-operand-scans Prefix a b x p f c = refl
-operand-scans Range a b x p f c = refl
-operand-scans (Break lost) a b x p f c = refl
-operand-scans Return a b x p f c = refl
-operand-scans Closure a b x p f c = refl
-operand-scans Let a b x p f c = refl
-operand-scans Group a b x p f c = refl
-operand-scans Closed a b x p f c = refl
-
 pub scan-along : (t : Tree) (x : FixupContext) (p : Precedence) (f b : ℕ)
     → scanRight t x p f b ≡ pick (parenthesize x t) (consumeBy p (x .«next_operator»)) (scanBy (armOf t) (onwards t) (scanRight (onwards t)) x p f b)
 unfolding scanRight onwards armOf atRoot
-scan-along none x p f b = ap (pick (parenthesize x none) (consumeBy p (x .«next_operator»))) (operand-scans Closed none none x p f b)
-scan-along (node l c d) x p f b = ap (pick (parenthesize x (node l c d)) (consumeBy p (x .«next_operator»))) (operand-scans (armOf (node l c d)) c d x p f b)
-
--- what an arm's operand answers to its first question
-abbrev pub asked : Arm → Tree → FixupContext → Precedence → ℕ → ℕ → Scan
-asked arm o x p f b = let v = visitBy arm x p f b in scanRight o (v .context) (v .precedence) (v .«fail_offset») (v .«bailout_offset»)
-
--- the answer of an arm whose operand answers s, with right precedence r
-abbrev pub back : Arm → Precedence → Precedence → Scan → Precedence → Scan
-back arm p next s r = finish (leaveBy arm p next s) (settleBy arm p next r)
+scan-along none x p f b = ap (pick (parenthesize x none) (consumeBy p (x .«next_operator»))) (closed-is x p f b (scanRight none))
+scan-along (node l c d) x p f b = ap (pick (parenthesize x (node l c d)) (consumeBy p (x .«next_operator»))) (arms-agree x p f b l c d)
 
 abbrev pub after : Arm → Tree → FixupContext → Precedence → ℕ → ℕ → Scan
-after arm o x p f b = back arm p (x .«next_operator») (asked arm o x p f b) (rightmostPrecedence o (visitBy arm x p f b .context))
-
-abbrev pub isEarly : Arm → FixupContext → Precedence → ℕ → ℕ → Bool
-isEarly arm x p f b = early arm (x .«next_operator») (consumes p (x .«next_operator»)) f b
+after arm o x p f b = back arm p (x .«next_operator») (asked arm (scanRight o) x p f b) (rightmostPrecedence o (visitBy arm x p f b .context))
 
 abbrev pub body : Arm → Tree → FixupContext → Precedence → ℕ → ℕ → Scan
 body arm o x p f b = pick (isEarly arm x p f b) Consume (after arm o x p f b)

@@ -1,3 +1,3 @@
 pub mod Scans
-pub mod Steps
+pub mod Arms
 pub mod Linear

@@ -1,4 +1,4 @@
--- scan_right as the code runs it, and how many nodes it visits. The theorem `linear-is-plain` (proofs/Linear.antt) makes `linear` the plain scan: of this file, only what counts the visits has to be believed.
+-- scan_right as the code runs it, and how many nodes it visits. The theorem `linear-is-scan` (proofs/Linear.antt) makes `linear` scan_right: of this file, only what counts the visits has to be believed.
 use mathlib.Core.Bool.{Bool, true, false, not, _&&_}
 use Prim.Native.Nat.{ℕ, _+_}
 use Rattle.laws.specs.Choice.{pick}
@@ -15,7 +15,8 @@ use Rattle.scan.specs.declared.answer.Leave.{Leave}
 use Rattle.scan.specs.declared.answer.Leave.the-variants.{Answer, Ask}
 use Rattle.scan.specs.declared.arm.Arm.{Arm}
 use Rattle.scan.specs.declared.arm.Arm.the-variants.{Assign, Binary, Prefix, Range, Break, Return, Closure, Let, Group, Closed}
-use Rattle.scan.specs.Scans.{consumes, consumeBy, armOf, operandBy, leafScan, early, visitBy, leaveBy, settleBy, finish, Scans, notConsume, loose, scanned, rightBy, nowhere}
+use Rattle.scan.specs.Scans.{consumes, consumeBy, Scans, loose, scanned, rightBy}
+use Rattle.scan.specs.Arms.{armOf, operandBy, leafScan, early, visitBy, leaveBy, settleBy, finish, notConsume}
 
 -- ---- the scan
 
@@ -55,6 +56,9 @@ linearBy arm t scans x p fail bailout =
     finish
     (leaveBy arm p (x .«next_operator») s)
     (settleBy arm p (x .«next_operator») (pick (asksAgain arm (x .«next_operator»)) (rightBy t scans (v .context)) (rightGiven t s (v .context))))))
+
+abbrev pub nowhere : Scans
+nowhere x p fail bailout = Consume
 
 unfoldable pub linear : Tree → Scans
 linear none x p fail bailout = pick (parenthesize x none) (consumeBy p (x .«next_operator»)) (linearBy Closed none nowhere x p fail bailout)

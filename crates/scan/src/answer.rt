@@ -6,7 +6,8 @@ ghost use mathlib.Core.Path.{_≡_};
 ghost use mathlib.Core.Bool.{_||_};
 ghost use Rattle.precedence.specs.Precedences.{same};
 ghost use Rattle.precedence.specs.declared.Precedence.the-variants.{Assign, Range};
-ghost use Rattle.scan.specs.Scans.{binds, consumes, consumeBy, notConsume, isBailout};
+ghost use Rattle.scan.specs.Scans.{binds, consumes, consumeBy};
+ghost use Rattle.scan.specs.Arms.{notConsume, isBailout};
 
 // What follows from the operand's scan: the answer, or the operand's right precedence is asked.
 pub enum Leave {

@@ -10,10 +10,9 @@ use tree::table::operand_at;
 ghost use mathlib.Core.Path.{_≡_};
 ghost use Rattle.tree.specs.Trees.{treeAt};
 ghost use Rattle.tree.specs.Operands.{presence};
-ghost use Rattle.scan.specs.Scans.{plain, armOf};
 ghost use Rattle.tree.specs.Walks.{treeOf};
 ghost use Rattle.classify.specs.Classify.{leadingLabel};
-ghost use Rattle.scan.specs.Steps.{operandNumber};
+ghost use Rattle.scan.specs.Arms.{unattributed, armOf, operandNumber};
 
 pub enum Arm {
     // Expr::Assign without attributes
@@ -35,8 +34,8 @@ pub enum Arm {
     Closed,
 }
 
-fn plain(attributes: u16, arm: Arm) -> Arm
-    ensures { λ r. ⌜ r ≡ plain attributes arm ⌝ }
+fn unattributed(attributes: u16, arm: Arm) -> Arm
+    ensures { λ r. ⌜ r ≡ unattributed attributes arm ⌝ }
 {
     if attributes == 0 { arm } else { Arm::Closed }
 }
@@ -54,14 +53,14 @@ pub fn arm_at(table: &[u16], count: u16, node: u16) -> Arm
     ensures { λ r. ⌜ r ≡ armOf (treeAt (now (table .entry)) count node) ⌝ }
 {
     match form_at(table, count, node) {
-        forms::EXPR_ASSIGN => plain(cell(table, node, 1), Arm::Assign),
-        forms::EXPR_BINARY => plain(
+        forms::EXPR_ASSIGN => unattributed(cell(table, node, 1), Arm::Assign),
+        forms::EXPR_BINARY => unattributed(
             cell(table, node, 1),
             Arm::Binary(Precedence::of_binop(cell(table, node, 2))),
         ),
         forms::EXPR_RAW_ADDR | forms::EXPR_UNARY => Arm::Prefix,
         forms::EXPR_REFERENCE => Arm::Prefix,
-        forms::EXPR_RANGE => plain(cell(table, node, 1), Arm::Range),
+        forms::EXPR_RANGE => unattributed(cell(table, node, 1), Arm::Range),
         forms::EXPR_BREAK => Arm::Break(both(
             cell(table, node, 2) == 0,
             leading_label(table, count, first_at(table, count, node)),

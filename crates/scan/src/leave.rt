@@ -12,7 +12,7 @@ ghost use mathlib.Core.Path.{_≡_};
 ghost use Rattle.laws.specs.Choice.{pick};
 ghost use Rattle.scan.specs.declared.answer.Leave.the-variants.{Answer, Ask};
 ghost use Rattle.scan.specs.Linear.{asksAgain};
-ghost use Rattle.scan.specs.Scans.{closedScan, bareScan, leafScan, failOr, leaveFail, leaveBailout, leaveBy, settleBy};
+ghost use Rattle.scan.specs.Arms.{closedScan, bareScan, leafScan, failOr, leaveFail, leaveBailout, leaveBy, settleBy};
 
 fn choose(test: bool, yes: Scan, no: Scan) -> Scan
     ensures { λ r. ⌜ r ≡ pick test yes no ⌝ }

@@ -8,7 +8,7 @@ use bools::either;
 use fixup::context::FixupContext;
 use precedence::Precedence;
 ghost use mathlib.Core.Path.{_≡_};
-ghost use Rattle.scan.specs.Scans.{enough, early, failHanded, one, visit, visitBy};
+ghost use Rattle.scan.specs.Arms.{enough, early, failHanded, one, visit, visitBy};
 ghost use Rattle.laws.specs.Choice.{pick};
 
 pub struct Visit {

@@ -3,7 +3,7 @@ use mathlib.Core.Path.{_≡_, refl, sym, ap, _∙_}
 use mathlib.Core.Bool.{Bool, true, false}
 use mathlib.Core.List.{List, [], _∷_}
 use mathlib.Core.Logic.{_⊎_, inl, inr}
-use Prim.Native.Nat.{ℕ, _+_, _≤_, _<_, max}
+use Prim.Native.Nat.{ℕ, _+_, _≤_, max}
 use native.Mathlib.Omega.{arith}
 use lib.Dec.{eqb}
 use lib.ListN.{length}
@@ -14,9 +14,9 @@ use Rattle.tree.specs.Trees.{Tree, none, node, operandAt, treeAt, ownLevel, lev
 use Rattle.places.specs.declared.place.Place.the-variants.{Item}
 use Rattle.places.specs.Places.{firstPlaces, firstPlace}
 use Rattle.rules.specs.Refusals.{Accepted}
-use Rattle.rules.proofs.Accepted.{Within, Fits, count-bounds, levels-bound, first-fits, first-operand}
+use Rattle.rules.proofs.Accepted.{Within, count-bounds, levels-bound, first-fits, first-operand}
 use Rattle.rules.proofs.Depth.{levels-node}
-use Rattle.scan.specs.Scans.{armOf}
+use Rattle.scan.specs.Arms.{armOf}
 use Rattle.scan.proofs.Levels.{link-form}
 use Rattle.scan.proofs.Nodes.{operand-above, operand-below}
 use Rattle.walk.specs.Paths.{Step, first, second, treeBy}

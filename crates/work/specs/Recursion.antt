@@ -5,8 +5,7 @@ use Prim.Native.Nat.{ℕ}
 use Rattle.tree.specs.declared.table.Operand.the-variants.{Present}
 use Rattle.tree.specs.Trees.{treeAt}
 use Rattle.tree.specs.Operands.{presence}
-use Rattle.scan.specs.Scans.{armOf}
-use Rattle.scan.specs.Steps.{operandNumber}
+use Rattle.scan.specs.Arms.{armOf, operandNumber}
 
 -- node j is the operand that scan_right of node i scans, by itself and, for its right precedence, by way of rightmost_subexpression_precedence of j
 abbrev pub Scans : List ℕ → ℕ → ℕ → ℕ → Type 0

@@ -15,7 +15,7 @@ use Rattle.precedence.specs.declared.Precedence.{Precedence}
 use Rattle.precedence.specs.Precedences.{ofBinop}
 use Rattle.classify.specs.Classify.{leadingLabel}
 use Rattle.scan.specs.declared.arm.Arm.the-variants.{Assign, Binary, Range, Break, Closed}
-use Rattle.scan.specs.Scans.{plain, armRows, armOf}
+use Rattle.scan.specs.Arms.{unattributed, armRows, armOf}
 use borrow.Author.Needs.{needs}
 use Rattle.scan.proofs.arm.arm_at.Statement.{statement}
 use Rattle.scan.proofs.arm.arm_at.Tie as tie
@@ -26,8 +26,8 @@ form-at-requires c κs = search needs
 cell-requires : tie.Need-cell-requires
 cell-requires c κs = search needs
 
-plain-requires : tie.Need-plain-requires
-plain-requires c κs = search needs
+unattributed-requires : tie.Need-unattributed-requires
+unattributed-requires c κs = search needs
 
 cell-requires-2 : tie.Need-cell-requires-2
 cell-requires-2 c κs = search needs
@@ -38,14 +38,14 @@ cell-requires-3 c κs = search needs
 of-binop-requires : tie.Need-of-binop-requires
 of-binop-requires c κs = search needs
 
-plain-requires-2 : tie.Need-plain-requires-2
-plain-requires-2 c κs = search needs
+unattributed-requires-2 : tie.Need-unattributed-requires-2
+unattributed-requires-2 c κs = search needs
 
 cell-requires-4 : tie.Need-cell-requires-4
 cell-requires-4 c κs = search needs
 
-plain-requires-3 : tie.Need-plain-requires-3
-plain-requires-3 c κs = search needs
+unattributed-requires-3 : tie.Need-unattributed-requires-3
+unattributed-requires-3 c κs = search needs
 
 cell-requires-5 : tie.Need-cell-requires-5
 cell-requires-5 c κs = search needs
@@ -61,11 +61,11 @@ both-requires c κs = search needs
 
 returns : tie.Need-returns
 unfolding armOf armRows labelAt
-returns c = c .plain .ensures ∙ ap (λ (n : ℕ). plain n Assign) (c .before .cell .ensures) ∙ root-arm _ _ _ armRows Closed _ (c .before .before .before .form-at .ensures) tt 0 tt (c .before .before .match .keys1)
+returns c = c .unattributed .ensures ∙ ap (λ (n : ℕ). unattributed n Assign) (c .before .cell .ensures) ∙ root-arm _ _ _ armRows Closed _ (c .before .before .before .form-at .ensures) tt 0 tt (c .before .before .match .keys1)
 
 returns-2 : tie.Need-returns-2
 unfolding armOf armRows labelAt
-returns-2 c = c .plain2 .ensures ∙ ap₂ (λ (n : ℕ) (q : Precedence). plain n (Binary q)) (c .before .before .before .cell2 .ensures) (c .before .of-binop .ensures ∙ ap ofBinop (c .before .before .cell3 .ensures)) ∙ root-arm _ _ _ armRows Closed _ (c .before .before .before .before .before .form-at .ensures) tt 1 tt (c .before .before .before .before .match .keys2)
+returns-2 c = c .unattributed2 .ensures ∙ ap₂ (λ (n : ℕ) (q : Precedence). unattributed n (Binary q)) (c .before .before .before .cell2 .ensures) (c .before .of-binop .ensures ∙ ap ofBinop (c .before .before .cell3 .ensures)) ∙ root-arm _ _ _ armRows Closed _ (c .before .before .before .before .before .form-at .ensures) tt 1 tt (c .before .before .before .before .match .keys2)
 
 returns-3 : tie.Need-returns-3
 unfolding armOf armRows
@@ -77,7 +77,7 @@ returns-4 c = root-arm _ _ _ armRows Closed _ (c .before .form-at .ensures) tt 3
 
 returns-5 : tie.Need-returns-5
 unfolding armOf armRows labelAt
-returns-5 c = c .plain3 .ensures ∙ ap (λ (n : ℕ). plain n Range) (c .before .cell4 .ensures) ∙ root-arm _ _ _ armRows Closed _ (c .before .before .before .form-at .ensures) tt 4 tt (c .before .before .match .keys5)
+returns-5 c = c .unattributed3 .ensures ∙ ap (λ (n : ℕ). unattributed n Range) (c .before .cell4 .ensures) ∙ root-arm _ _ _ armRows Closed _ (c .before .before .before .form-at .ensures) tt 4 tt (c .before .before .match .keys5)
 
 returns-6 : tie.Need-returns-6
 unfolding armOf armRows labelAt shapeRows firstInShape
@@ -117,13 +117,13 @@ arm-at-spec =
     (tie.spec
     form-at-requires
     cell-requires
-    plain-requires
+    unattributed-requires
     cell-requires-2
     cell-requires-3
     of-binop-requires
-    plain-requires-2
+    unattributed-requires-2
     cell-requires-4
-    plain-requires-3
+    unattributed-requires-3
     cell-requires-5
     first-at-requires
     leading-label-requires

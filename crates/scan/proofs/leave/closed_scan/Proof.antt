@@ -2,7 +2,7 @@
 use mathlib.Core.Path.{refl, ap₂, _∙_}
 use mathlib.Core.Bool.{_&&_, _||_}
 use Rattle.laws.proofs.Choice.{pick-by}
-use Rattle.scan.specs.Scans.{closedScan}
+use Rattle.scan.specs.Arms.{closedScan}
 use borrow.Author.Needs.{needs}
 use Rattle.scan.proofs.leave.closed_scan.Statement.{statement}
 use Rattle.scan.proofs.leave.closed_scan.Tie as tie

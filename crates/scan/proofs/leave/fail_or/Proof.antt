@@ -1,7 +1,7 @@
 -- `scan::leave::fail_or` meets its contract. Assumes nothing.
 use mathlib.Core.Path.{refl, _∙_}
 use Rattle.laws.proofs.Choice.{pick-by}
-use Rattle.scan.specs.Scans.{failOr}
+use Rattle.scan.specs.Arms.{failOr}
 use borrow.Author.Needs.{needs}
 use Rattle.scan.proofs.leave.fail_or.Statement.{statement}
 use Rattle.scan.proofs.leave.fail_or.Tie as tie

@@ -2,7 +2,8 @@
 use mathlib.Core.Path.{refl, sym, ap, ap₂, _∙_}
 use mathlib.Core.Bool.{not, _&&_}
 use Rattle.laws.proofs.Choice.{or-by, and-here}
-use Rattle.scan.specs.Scans.{isBailout, bailsOut}
+use Rattle.scan.specs.Scans.{bailsOut}
+use Rattle.scan.specs.Arms.{isBailout}
 use borrow.Author.Needs.{needs}
 use Rattle.scan.proofs.right.bails_out.Statement.{statement}
 use Rattle.scan.proofs.right.bails_out.Tie as tie

@@ -1,7 +1,7 @@
 -- `scan::visit::fail_handed` meets its contract. Assumes nothing.
 use mathlib.Core.Path.{sym, _∙_}
 use Rattle.laws.proofs.Choice.{pick-true, pick-false}
-use Rattle.scan.specs.Scans.{failHanded}
+use Rattle.scan.specs.Arms.{failHanded}
 use borrow.Author.Needs.{needs}
 use Rattle.scan.proofs.visit.fail_handed.Statement.{statement}
 use Rattle.scan.proofs.visit.fail_handed.Tie as tie

@@ -3,7 +3,7 @@ use mathlib.Core.Path.{refl, ap, _∙_}
 use mathlib.Core.Bool.{_&&_}
 use lib.Dec.{leb}
 use Rattle.laws.proofs.Choice.{pick-by}
-use Rattle.scan.specs.Scans.{enough}
+use Rattle.scan.specs.Arms.{enough}
 use borrow.Author.Needs.{needs}
 use Rattle.scan.proofs.visit.is_enough.Statement.{statement}
 use Rattle.scan.proofs.visit.is_enough.Tie as tie

@@ -1,6 +1,6 @@
 -- `scan::visit::one` meets its contract. Assumes nothing.
 use Rattle.laws.specs.Choice.{pick}
-use Rattle.scan.specs.Scans.{one}
+use Rattle.scan.specs.Arms.{one}
 use Rattle.scan.proofs.visit.one.Statement.{statement}
 use Rattle.scan.proofs.visit.one.Tie as tie
 

@@ -1,7 +1,7 @@
 -- `scan::visit::visit_of` meets its contract. Assumes nothing.
 use mathlib.Core.Path.{refl, ap, _∙_}
 use mathlib.Core.Bool.{Bool, not}
-use Rattle.scan.specs.Scans.{one}
+use Rattle.scan.specs.Arms.{one}
 use Rattle.scan.proofs.Visits.{visit-by}
 use borrow.Author.Needs.{needs}
 use Rattle.scan.proofs.visit.visit_of.Statement.{statement}
