@@ -1,11 +1,11 @@
 -- What the arms of a `match` know of a number, or of an enum's tag, as tests. Assumes nothing.
-use mathlib.Core.Path.{_≡_, refl, sym, _∙_}
+use mathlib.Core.Path.{_≡_, refl, sym, ap, _∙_}
 use mathlib.Core.Bool.{Bool, true, false, not, _&&_, _||_}
 use mathlib.Core.List.{List, [], _∷_}
 use Prim.Native.Nat.{ℕ, zero, suc, _+_, _≤_, _<_}
 use native.Mathlib.Omega.{arith}
 use native.Mathlib.Decide.{decLe}
-use lib.Dec.{T, ltb, eqb, not-T}
+use lib.Dec.{T, ltb, leb, eqb}
 use borrow.Author.Tests.{ltb-true, eq-eqb, ne-eqb, eqb-true}
 use mir.Val.{hasKey}
 use types.Run.{OneOf, hit, miss}
@@ -136,11 +136,91 @@ past-rows (row js a ∷ rows) other n x t h =
     let d = and-true (allBelow n js) (rowsBelow n rows) (true-of t) in
     pick-false a _ (past js n x (of-true (d .0)) h) ∙ past-rows rows other n x (of-true (d .1)) h
 
--- the arm of row j
-pub arm : {A : Type 0} (rows : List (Row A)) (other : A) (x j : ℕ) → T (apartBefore rows j (numbersAt rows j)) → OneOf (numbersAt rows j) x → lookup rows other x ≡ givenAt rows other j
-arm rows other x j t h = found rows other j (numbersAt rows j) x (within-self (numbersAt rows j)) t (among (numbersAt rows j) x h)
+-- ---- a table's rows as the arms of a `match`. The toolchain sorts an arm's numbers, and makes a range of two neighbours: a row that holds neighbours is two arms
 
--- what a default arm knows: the number is in none of the rows
+-- a number at its place in a sorted list
+abbrev insert : ℕ → List ℕ → List ℕ
+insert k [] = k ∷ []
+insert k (m ∷ ms) = elim (leb k m) [ true ↦ k ∷ m ∷ ms | false ↦ m ∷ insert k ms ]
+
+abbrev sorted : List ℕ → List ℕ
+sorted [] = []
+sorted (k ∷ ks) = insert k (sorted ks)
+
+-- of sorted numbers: those that do not follow one taken before, and those that do. ns are the numbers next to those taken
+abbrev taken : List ℕ → List ℕ → List ℕ
+taken ns [] = []
+taken ns (k ∷ ks) = elim (hasKey ns k) [ true ↦ taken ns ks | false ↦ k ∷ taken (suc k ∷ ns) ks ]
+
+abbrev left : List ℕ → List ℕ → List ℕ
+left ns [] = []
+left ns (k ∷ ks) = elim (hasKey ns k) [ true ↦ k ∷ left ns ks | false ↦ left (suc k ∷ ns) ks ]
+
+-- a row as one arm or two
+abbrev cut : {A : Type 0} → List ℕ → List ℕ → A → List (Row A) → List (Row A)
+cut ks [] a rows = row ks a ∷ rows
+cut ks (m ∷ ms) a rows = row ks a ∷ row (m ∷ ms) a ∷ rows
+
+abbrev pub arms : {A : Type 0} → List (Row A) → List (Row A)
+arms [] = []
+arms (row ks a ∷ rows) = cut (taken [] (sorted ks)) (left [] (sorted ks)) a (arms rows)
+
+-- two alternatives of three, changed over
+or-behind : (a b c d : Bool) → b || c ≡ d → b || (a || c) ≡ a || d
+or-behind true true c d e = refl
+or-behind true false c d e = refl
+or-behind false b c d e = e
+
+or-before : (a b c d : Bool) → b || c ≡ d → (a || b) || c ≡ a || d
+or-before true b c d e = refl
+or-before false b c d e = e
+
+insert-keys : (k : ℕ) (ms : List ℕ) (x : ℕ) → hasKey (insert k ms) x ≡ eqb k x || hasKey ms x
+insert-keys k [] x = refl
+insert-keys k (m ∷ ms) x = go (leb k m) (insert-keys k ms x)
+  where
+    go : (b : Bool) → hasKey (insert k ms) x ≡ eqb k x || hasKey ms x → hasKey (elim b [ true ↦ k ∷ m ∷ ms | false ↦ m ∷ insert k ms ]) x ≡ eqb k x || (eqb m x || hasKey ms x)
+    go true e = refl
+    go false e = rw e (or-behind (eqb k x) (eqb m x) (hasKey ms x) (eqb m x || hasKey ms x) refl)
+
+sorted-keys : (ks : List ℕ) (x : ℕ) → hasKey (sorted ks) x ≡ hasKey ks x
+sorted-keys [] x = refl
+sorted-keys (k ∷ ks) x = insert-keys k (sorted ks) x ∙ ap (λ (b : Bool). eqb k x || b) (sorted-keys ks x)
+
+taken-or-left : (ns ks : List ℕ) (x : ℕ) → hasKey (taken ns ks) x || hasKey (left ns ks) x ≡ hasKey ks x
+taken-or-left ns [] x = refl
+taken-or-left ns (k ∷ ks) x = go (hasKey ns k) (taken-or-left ns ks x) (taken-or-left (suc k ∷ ns) ks x)
+  where
+    go : (b : Bool) → hasKey (taken ns ks) x || hasKey (left ns ks) x ≡ hasKey ks x → hasKey (taken (suc k ∷ ns) ks) x || hasKey (left (suc k ∷ ns) ks) x ≡ hasKey ks x
+        → hasKey (elim b [ true ↦ taken ns ks | false ↦ k ∷ taken (suc k ∷ ns) ks ]) x || hasKey (elim b [ true ↦ k ∷ left ns ks | false ↦ left (suc k ∷ ns) ks ]) x ≡ eqb k x || hasKey ks x
+    go true e f = or-behind (eqb k x) (hasKey (taken ns ks) x) (hasKey (left ns ks) x) (hasKey ks x) e
+    go false e f = or-before (eqb k x) (hasKey (taken (suc k ∷ ns) ks) x) (hasKey (left (suc k ∷ ns) ks) x) (hasKey ks x) f
+
+-- the arms of a table give what its rows give
+arms-same : {A : Type 0} (rows : List (Row A)) (other : A) (x : ℕ) → lookup (arms rows) other x ≡ lookup rows other x
+unfolding lookup pick
+arms-same [] other x = refl
+arms-same {A} (row ks a ∷ rows) other x = go (left [] (sorted ks)) (taken-or-left [] (sorted ks) x ∙ sorted-keys ks x) ∙ ap (pick (hasKey ks x) a) (arms-same rows other x)
+  where
+    one : (b c : Bool) (z : A) → b || false ≡ c → pick b a z ≡ pick c a z
+    one true c z e = rw (← e)
+    one false c z e = rw (← e)
+
+    two : (b c d : Bool) (z : A) → b || c ≡ d → pick b a (pick c a z) ≡ pick d a z
+    two true c d z e = rw (← e)
+    two false c d z e = rw (← e)
+
+    go : (ms : List ℕ) → hasKey (taken [] (sorted ks)) x || hasKey ms x ≡ hasKey ks x → lookup (cut (taken [] (sorted ks)) ms a (arms rows)) other x ≡ pick (hasKey ks x) a (lookup (arms rows) other x)
+    go [] e = one (hasKey (taken [] (sorted ks)) x) (hasKey ks x) _ e
+    go (m ∷ ms) e = two (hasKey (taken [] (sorted ks)) x) (hasKey (m ∷ ms) x) (hasKey ks x) _ e
+
+-- arm j of the table
+pub arm : {A : Type 0} (rows : List (Row A)) (other : A) (x j : ℕ) → T (apartBefore (arms rows) j (numbersAt (arms rows) j)) → OneOf (numbersAt (arms rows) j) x → lookup rows other x ≡ givenAt (arms rows) other j
+arm rows other x j t h =
+    sym (arms-same rows other x)
+    ∙ found (arms rows) other j (numbersAt (arms rows) j) x (within-self (numbersAt (arms rows) j)) t (among (numbersAt (arms rows) j) x h)
+
+-- what a default arm knows: the number is in none of the arms
 abbrev pub Missed : {A : Type 0} → Type 0 → List (Row A) → ℕ → Type 0
 Missed N [] x = N
 Missed N (row ks a ∷ rows) x = Missed (N × (OneOf ks x → ⊥)) rows x
@@ -153,8 +233,8 @@ missed (row ks a ∷ rows) other x N m =
     (r .0 .0, pick-false a _ (outside ks x (r .0 .1)) ∙ r .1)
 
 -- the default arm
-pub rest : {A : Type 0} (rows : List (Row A)) (other : A) (x : ℕ) → Missed (Unit {0}) rows x → lookup rows other x ≡ other
-rest rows other x m = missed rows other x (Unit {0}) m .1
+pub rest : {A : Type 0} (rows : List (Row A)) (other : A) (x : ℕ) → Missed (Unit {0}) (arms rows) x → lookup rows other x ≡ other
+rest rows other x m = sym (arms-same rows other x) ∙ missed (arms rows) other x (Unit {0}) m .1
 
 -- ---- ranges
 

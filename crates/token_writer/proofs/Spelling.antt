@@ -11,7 +11,7 @@ use types.Run.{OneOf}
 use borrow.Author.Tests.{ne-eqb}
 use Rattle.laws.specs.Choice.{pick, lookup}
 use Rattle.grammar.proofs.Tokens.{number-operator}
-use Rattle.laws.proofs.Keys.{numbersAt, givenAt, apartBefore, arm, Missed, rest}
+use Rattle.laws.proofs.Keys.{numbersAt, givenAt, apartBefore, arms, arm, Missed, rest}
 use Rattle.tree.specs.Table.{cellAt}
 use Rattle.tree.specs.Operands.{presence}
 use Rattle.tree.specs.Trees.{labelAt, operandAt, treeAt}
@@ -63,12 +63,12 @@ operator-high n h = go (ℕ-discrete n 28)
 -- ---- the arms
 
 module _ (detail form : ℕ) (more : Bool) (s : Signs) where
-  -- the arm of row j
-  pub spells-arm : (j : ℕ) → T (apartBefore (signRows detail more) j (numbersAt (signRows detail more) j)) → OneOf (numbersAt (signRows detail more) j) form → Spells s (givenAt (signRows detail more) (signs [] [] []) j) → Spells s (lookup (signRows detail more) (signs [] [] []) form)
+  -- arm j of the table
+  pub spells-arm : (j : ℕ) → T (apartBefore (arms (signRows detail more)) j (numbersAt (arms (signRows detail more)) j)) → OneOf (numbersAt (arms (signRows detail more)) j) form → Spells s (givenAt (arms (signRows detail more)) (signs [] [] []) j) → Spells s (lookup (signRows detail more) (signs [] [] []) form)
   spells-arm j t o h = rw (arm (signRows detail more) (signs [] [] []) form j t o) h
 
   -- the default arm
-  pub spells-rest : Missed (Unit {0}) (signRows detail more) form → Spells s (signs [] [] []) → Spells s (lookup (signRows detail more) (signs [] [] []) form)
+  pub spells-rest : Missed (Unit {0}) (arms (signRows detail more)) form → Spells s (signs [] [] []) → Spells s (lookup (signRows detail more) (signs [] [] []) form)
   spells-rest m h = rw (rest (signRows detail more) (signs [] [] []) form m) h
 
 module _ (s : Signs) (f : Few) (ts : List Token) where

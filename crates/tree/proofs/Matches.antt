@@ -11,7 +11,7 @@ use types.Run.{OneOf}
 use borrow.Author.Tests.{le-leb, lt-leb}
 use Rattle.laws.specs.Choice.{pick, Row, row, lookup}
 use Rattle.laws.proofs.Choice.{pick-true, pick-false, true-not-false, true-of, of-true, and-true}
-use Rattle.laws.proofs.Keys.{among, disjoint, apart, numbersAt, givenAt, apartBefore, apartFrom, arm, Missed, rest}
+use Rattle.laws.proofs.Keys.{among, disjoint, apart, numbersAt, givenAt, apartBefore, apartFrom, arms, arm, Missed, rest}
 use Rattle.tree.specs.declared.table.Operand.{Operand}
 use Rattle.tree.specs.Table.{formAt}
 use Rattle.tree.specs.Trees.{Label, Tree, none, labelAt, operandAt, treeAt}
@@ -68,8 +68,8 @@ module _ (cells : List ℕ) (count i : ℕ) where
       unfolding labelAt
       step-form h k = step-in byRows missing cells count i h k ∙ rw (is ∙ form-in h k)
 
-      -- the arm of row j, and what the row asks
-      pub form-arm : T (apartFrom rowsAt (0 ∷ [])) → (j : ℕ) → T (apartBefore rowsAt j (numbersAt rowsAt j)) → OneOf (numbersAt rowsAt j) form → (q : Ask A) → givenAt rowsAt (other (labelAt cells i)) j ≡ q
+      -- arm j of the table, and what the row asks
+      pub form-arm : T (apartFrom (arms rowsAt) (0 ∷ [])) → (j : ℕ) → T (apartBefore (arms rowsAt) j (numbersAt (arms rowsAt) j)) → OneOf (numbersAt (arms rowsAt) j) form → (q : Ask A) → givenAt (arms rowsAt) (other (labelAt cells i)) j ≡ q
           → stepBy missing q FirstAt SecondAt ≡ stepAt byRows missing cells count i
       form-arm t j u o q g = go (decLe 1 i) (decLe i count)
         where
@@ -77,7 +77,7 @@ module _ (cells : List ℕ) (count i : ℕ) where
           found-j = arm rowsAt (other (labelAt cells i)) form j u o ∙ g
 
           nowhere : form ≡ 0 → stepBy missing q FirstAt SecondAt ≡ stepAt byRows missing cells count i
-          nowhere e = true-not-false (sym (among (numbersAt rowsAt j) form o) ∙ rw e (none-zero rowsAt j t))
+          nowhere e = true-not-false (sym (among (numbersAt (arms rowsAt) j) form o) ∙ rw e (none-zero (arms rowsAt) j t))
 
           go : Dec (1 ≤ i) → Dec (i ≤ count) → stepBy missing q FirstAt SecondAt ≡ stepAt byRows missing cells count i
           go (yes h) (yes k) = sym (step-form h k ∙ rw found-j)
@@ -85,7 +85,7 @@ module _ (cells : List ℕ) (count i : ℕ) where
           go (no h) d = nowhere (is ∙ form-out (omega arith))
 
       -- the default arm: what `other` asks where there is a node, and `missing` where there is none
-      pub form-rest : Missed (Unit {0}) rowsAt form → (q : Step A) → (1 ≤ i → i ≤ count → stepBy missing (other (labelAt cells i)) FirstAt SecondAt ≡ q) → ((1 ≤ i → i ≤ count → ⊥) → ends missing ≡ q)
+      pub form-rest : Missed (Unit {0}) (arms rowsAt) form → (q : Step A) → (1 ≤ i → i ≤ count → stepBy missing (other (labelAt cells i)) FirstAt SecondAt ≡ q) → ((1 ≤ i → i ≤ count → ⊥) → ends missing ≡ q)
           → q ≡ stepAt byRows missing cells count i
       form-rest m q here gone = go (decLe 1 i) (decLe i count)
         where
@@ -109,20 +109,20 @@ module _ (cells : List ℕ) (count i : ℕ) where
     root-none e = rw e
 
     module _ (form : ℕ) (is : form ≡ formIn cells count i) where
-      -- the arm of row j
-      pub root-arm : T (apartFrom rootRows (0 ∷ [])) → (j : ℕ) → T (apartBefore rootRows j (numbersAt rootRows j)) → OneOf (numbersAt rootRows j) form → givenAt rootRows other j ≡ atRoot rows other (treeAt cells count i)
+      -- arm j of the table
+      pub root-arm : T (apartFrom (arms rootRows) (0 ∷ [])) → (j : ℕ) → T (apartBefore (arms rootRows) j (numbersAt (arms rootRows) j)) → OneOf (numbersAt (arms rootRows) j) form → givenAt (arms rootRows) other j ≡ atRoot rows other (treeAt cells count i)
       root-arm t j u o = go (decLe 1 i) (decLe i count)
         where
-          nowhere : form ≡ 0 → givenAt rootRows other j ≡ atRoot rows other (treeAt cells count i)
-          nowhere e = true-not-false (sym (among (numbersAt rootRows j) form o) ∙ rw e (none-zero rootRows j t))
+          nowhere : form ≡ 0 → givenAt (arms rootRows) other j ≡ atRoot rows other (treeAt cells count i)
+          nowhere e = true-not-false (sym (among (numbersAt (arms rootRows) j) form o) ∙ rw e (none-zero (arms rootRows) j t))
 
-          go : Dec (1 ≤ i) → Dec (i ≤ count) → givenAt rootRows other j ≡ atRoot rows other (treeAt cells count i)
+          go : Dec (1 ≤ i) → Dec (i ≤ count) → givenAt (arms rootRows) other j ≡ atRoot rows other (treeAt cells count i)
           go (yes h) (yes k) = sym (root-form h k ∙ ap (lookup rootRows other) (sym is) ∙ arm rootRows other form j u o)
           go (yes h) (no k) = nowhere (is ∙ form-past h (omega arith))
           go (no h) d = nowhere (is ∙ form-out (omega arith))
 
       -- the default arm
-      pub root-rest : Missed (Unit {0}) rootRows form → other ≡ atRoot rows other (treeAt cells count i)
+      pub root-rest : Missed (Unit {0}) (arms rootRows) form → other ≡ atRoot rows other (treeAt cells count i)
       root-rest m = go (decLe 1 i) (decLe i count)
         where
           go : Dec (1 ≤ i) → Dec (i ≤ count) → other ≡ atRoot rows other (treeAt cells count i)

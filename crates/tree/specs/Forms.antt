@@ -205,15 +205,13 @@ details =
     -- "Unary: Deref, Not, Neg as 0 to 2."
     row (ExprUnary ∷ []) 2 ∷
     -- "Block, ForLoop, Loop, While, Break: 1 labelled."
-    row (ExprBlock ∷ ExprForLoop ∷ ExprLoop ∷ ExprWhile ∷ []) 1 ∷
-    row (ExprBreak ∷ []) 1 ∷
+    row (ExprBlock ∷ ExprForLoop ∷ ExprLoop ∷ ExprWhile ∷ ExprBreak ∷ []) 1 ∷
     -- "Macros: 0 parenthesis, 1 bracket, 2 brace."
     row (ExprMacro ∷ TypeMacro ∷ []) 2 ∷
     -- "Range: 1 closed. Field: 0 named, 1 numbered. Closure: 1 output written."
     row (ExprClosure ∷ ExprField ∷ ExprRange ∷ []) 1 ∷
     -- "Ptr, RawAddr, both References: 1 mutable."
-    row (ExprRawAddr ∷ TypePtr ∷ []) 1 ∷
-    row (ExprReference ∷ TypeReference ∷ []) 1 ∷
+    row (TypePtr ∷ ExprRawAddr ∷ ExprReference ∷ TypeReference ∷ []) 1 ∷
     -- "Both Verbatims: 1 ends in a brace group."
     row (ExprVerbatim ∷ TypeVerbatim ∷ []) 1 ∷
     -- "Path type, by last segment: 0 none there, 1 no arguments, 2 angle, 3 parenthesised."
