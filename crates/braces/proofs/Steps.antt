@@ -4,7 +4,7 @@ use mathlib.Core.Bool.{false}
 use Prim.Native.Nat.{ℕ}
 use lib.Dec.{eqb}
 use Rattle.tree.specs.declared.table.Operand.{Operand}
-use Rattle.tree.specs.Walks.{stepBy}
+use Rattle.tree.specs.Steps.{stepBy}
 use Rattle.classify.proofs.Steps.{one-test}
 use Rattle.braces.specs.Braces.{braceInPath, braceInBounds}
 

@@ -9,9 +9,9 @@ use tree::table::form_at;
 ghost use mathlib.Core.Path.{_≡_};
 ghost use mathlib.Core.Bool.{false};
 ghost use Rattle.tree.specs.Trees.{treeAt};
-ghost use Rattle.tree.specs.Walks.{treeOf, stepBy, stepAt};
+ghost use Rattle.tree.specs.Steps.{treeOf, stepBy};
 ghost use Rattle.classify.specs.Steps.{flowBy};
-ghost use Rattle.braces.specs.Braces.{braceInPath, braceInBounds, typeBraceAsks, typeTrailingBrace, braceAsks, trailingBrace};
+ghost use Rattle.braces.specs.Braces.{braceInPath, braceInBounds, typeTrailingBrace, trailingBrace, typeBraceStep, braceStep};
 
 // The last bound: a path with an output goes on; tokens may end in braces.
 fn brace_in_bounds(detail: u16, output: Operand) -> ControlFlow
@@ -35,7 +35,7 @@ fn brace_in_path(detail: u16, output: Operand) -> ControlFlow
 }
 
 fn type_brace_step(table: &[u16], count: u16, node: u16) -> ControlFlow
-    ensures { λ r. ⌜ r ≡ flowBy (stepAt typeBraceAsks false (now (table .entry)) count node) ⌝ }
+    ensures { λ r. ⌜ r ≡ flowBy (typeBraceStep (now (table .entry)) count node) ⌝ }
 {
     let shape = shape_at(table, count, node);
     match form_at(table, count, node) {
@@ -76,7 +76,7 @@ fn cast_brace(table: &[u16], count: u16, ty: Operand) -> bool
 }
 
 fn brace_step(table: &[u16], count: u16, node: u16) -> ControlFlow
-    ensures { λ r. ⌜ r ≡ flowBy (stepAt braceAsks false (now (table .entry)) count node) ⌝ }
+    ensures { λ r. ⌜ r ≡ flowBy (braceStep (now (table .entry)) count node) ⌝ }
 {
     let shape = shape_at(table, count, node);
     match form_at(table, count, node) {

@@ -1,26 +1,19 @@
 -- The steps of the walks. Assumes nothing.
-use mathlib.Core.Path.{_≡_, refl, sym, ap, _∙_}
-use mathlib.Core.Bool.{Bool, true, false, not}
+use mathlib.Core.Path.{_≡_, refl}
+use mathlib.Core.Bool.{Bool, true, false}
 use mathlib.Core.List.{List}
-use Prim.Native.Nat.{ℕ, zero, suc, _≤_, _<_}
+use Prim.Native.Nat.{ℕ, _≤_, _<_}
 use native.Mathlib.Omega.{arith}
-use native.Mathlib.Decide.{decLe}
-use Rattle.tree.specs.Forms.{ExprMacro}
-use Rattle.tree.specs.Table.{detailAt}
-use Rattle.tree.specs.Trees.{Label, Tree, none, labelAt, treeAt}
-use Rattle.tree.specs.Operands.{presence, formIn}
 use lib.Dec.{eqb}
-use borrow.Author.Tests.{ne-eqb}
-use Rattle.laws.specs.Choice.{pick}
-use Rattle.laws.proofs.Choice.{pick-true, pick-false}
+use Rattle.laws.specs.Choice.{pick, Row}
+use Rattle.tree.specs.Trees.{Label, Tree, treeAt}
 use Rattle.tree.specs.declared.table.Operand.{Operand}
-use Rattle.tree.specs.Walks.{Ask, answer, first, walk, Step, ends, goes, stepBy, stepAt}
-use Rattle.tree.proofs.Unfold.{tree-zero, tree-past, unfolds}
-use Rattle.tree.proofs.Matches.{form-in, form-none}
+use Rattle.tree.specs.Walks.{Ask, answer, first, walk}
+use Rattle.tree.specs.Steps.{Step, ends, goes, stepBy, stepAt}
 use Rattle.tree.proofs.Walks.{leads}
 use Rattle.classify.specs.declared.ControlFlow.the-variants.{Break, Continue}
-use Rattle.classify.specs.Classify.{requiresComma, requiresSemi, lastTypeInPath, groupLabel}
-use Rattle.classify.specs.Steps.{flowBy}
+use Rattle.classify.specs.Classify.{lastTypeInPath}
+use Rattle.classify.specs.Steps.{flowBy, groupLabel}
 
 flow-ends : (s : Step Bool) (x : Bool) → Break x ≡ flowBy s → s ≡ ends x
 flow-ends (ends y) x e = cc
@@ -31,12 +24,12 @@ flow-goes (ends y) n e = absurd (let z : _≡_ {A = ℕ} 0 1 = cc in omega arith
 flow-goes (goes m) n e = cc
 
 -- a step of any walk: to its answer, or to a node after this one with the same answer
-module _ (asks : Label → Tree → Tree → Ask Bool) (missing : Bool) (cells : List ℕ) (count i : ℕ) where
-  pub walk-ends : (x : Bool) → Break x ≡ flowBy (stepAt asks missing cells count i) → walk asks missing (treeAt cells count i) ≡ x
-  walk-ends x e = rw (flow-ends (stepAt asks missing cells count i) x e) at (leads asks missing cells count i)
+module _ (rows : Label → Tree → Tree → List (Row (Ask Bool))) (other : Label → Bool) (missing : Bool) (cells : List ℕ) (count i : ℕ) where
+  pub walk-ends : (x : Bool) → Break x ≡ flowBy (stepAt rows other missing cells count i) → walk rows other missing (treeAt cells count i) ≡ x
+  walk-ends x e = rw (flow-ends (stepAt rows other missing cells count i) x e) at (leads rows other missing cells count i)
 
-  pub walk-goes : (n : ℕ) → Continue n ≡ flowBy (stepAt asks missing cells count i) → (i < n) × (n ≤ count) × (walk asks missing (treeAt cells count n) ≡ walk asks missing (treeAt cells count i))
-  walk-goes n e = rw (flow-goes (stepAt asks missing cells count i) n e) at (leads asks missing cells count i)
+  pub walk-goes : (n : ℕ) → Continue n ≡ flowBy (stepAt rows other missing cells count i) → (i < n) × (n ≤ count) × (walk rows other missing (treeAt cells count n) ≡ walk rows other missing (treeAt cells count i))
+  walk-goes n e = rw (flow-goes (stepAt rows other missing cells count i) n e) at (leads rows other missing cells count i)
 
 -- ---- what a detail or attributes ask, of a node with one operand
 
@@ -57,36 +50,4 @@ module _ (d : ℕ) (v w : Operand) where
   path-one = path-tests (eqb d 1) (eqb d 3)
 
   pub label-one : stepBy false (groupLabel d) v w ≡ stepBy false (groupLabel d) v v
-  unfolding groupLabel
   label-one = one-test v w (eqb d 0) false
-
--- ---- requires_semi_to_be_stmt
-
-module _ (cells : List ℕ) (count i : ℕ) where
-  -- a node that is there
-  semi-here : 1 ≤ i → i ≤ count → requiresSemi (treeAt cells count i) ≡ pick (eqb (formIn cells count i) ExprMacro) (not (eqb (detailAt cells i) 2)) (requiresComma (treeAt cells count i))
-  unfolding requiresSemi labelAt
-  semi-here h k = rw (form-in cells count i h k, unfolds cells count i h k)
-
-  semi-none : treeAt cells count i ≡ none → requiresComma (treeAt cells count i) ≡ requiresSemi (treeAt cells count i)
-  unfolding requiresSemi
-  semi-none e = rw e
-
-  pub semi-macro : formIn cells count i ≡ ExprMacro → not (eqb (detailAt cells i) 2) ≡ requiresSemi (treeAt cells count i)
-  semi-macro f = go (decLe 1 i) (decLe i count)
-    where
-      zero-form : formIn cells count i ≡ 0 → not (eqb (detailAt cells i) 2) ≡ requiresSemi (treeAt cells count i)
-      zero-form z = absurd (omega arith)
-
-      go : Dec (1 ≤ i) → Dec (i ≤ count) → not (eqb (detailAt cells i) 2) ≡ requiresSemi (treeAt cells count i)
-      go (yes h) (yes k) = sym (semi-here h k ∙ pick-true _ _ (rw f))
-      go (yes h) (no k) = zero-form (form-none cells count i (λ a b. k b))
-      go (no h) d = zero-form (form-none cells count i (λ a b. h a))
-
-  pub semi-other : (formIn cells count i ≡ ExprMacro → ⊥) → requiresComma (treeAt cells count i) ≡ requiresSemi (treeAt cells count i)
-  semi-other f = go (decLe 1 i) (decLe i count)
-    where
-      go : Dec (1 ≤ i) → Dec (i ≤ count) → requiresComma (treeAt cells count i) ≡ requiresSemi (treeAt cells count i)
-      go (yes h) (yes k) = sym (semi-here h k ∙ pick-false _ _ (ne-eqb _ _ f))
-      go (yes h) (no k) = semi-none (tree-past cells count i (omega arith))
-      go (no h) d = semi-none (let z : i ≡ 0 = omega arith in rw z (tree-zero cells count))

@@ -3,32 +3,28 @@ use mathlib.Core.Bool.{Bool, true, false, not}
 use mathlib.Core.List.{List, [], _∷_}
 use Prim.Native.Nat.{ℕ}
 use lib.Dec.{eqb}
-use Rattle.laws.specs.Choice.{pick, Row, row, lookup}
+use Rattle.laws.specs.Choice.{pick, Row, row}
 use Rattle.tree.specs.Forms.{ExprAssign, ExprAwait, ExprBinary, ExprBlock, ExprCall, ExprCast, ExprConst, ExprField, ExprForLoop, ExprGroup, ExprIf, ExprIndex, ExprLoop, ExprMacro, ExprMatch, ExprMethodCall, ExprRange, ExprTry, ExprTryBlock, ExprUnsafe, ExprWhile, TypeFnPtr, TypeImplTrait, TypePath, TypePtr, TypeReference, TypeTraitObject}
-use Rattle.tree.specs.Trees.{Label, Tree, none, node}
-use Rattle.tree.specs.Walks.{Ask, answer, first, walk}
+use Rattle.tree.specs.Trees.{Label, Tree}
+use Rattle.tree.specs.Walks.{atRoot, Ask, answer, first, walk}
 
 -- ---- requires_comma_to_be_match_arm: all but these; Groups are looked through, whatever attributes they have
 
 unfoldable pub commaRows : Label → Tree → Tree → List (Row (Ask Bool))
 commaRows l a b =
     row
-    (ExprBlock ∷ ExprConst ∷ ExprForLoop ∷ ExprIf ∷ ExprLoop ∷ ExprMatch ∷ ExprTryBlock ∷ ExprUnsafe ∷ ExprWhile ∷ [])
+    (ExprIf ∷ ExprMatch ∷ ExprBlock ∷ ExprUnsafe ∷ ExprWhile ∷ ExprLoop ∷ ExprForLoop ∷ ExprTryBlock ∷ ExprConst ∷ [])
     (answer false) ∷
     row (ExprGroup ∷ []) first ∷
     []
 
-unfoldable pub commaAsks : Label → Tree → Tree → Ask Bool
-commaAsks l a b = lookup (commaRows l a b) (answer true) (l .form)
-
 unfoldable pub requiresComma : Tree → Bool
-requiresComma t = walk commaAsks true t
+requiresComma t = walk commaRows (λ l. true) true t
 
 -- ---- requires_semi_to_be_stmt: a macro call unless it has braces; otherwise the same
 
 unfoldable pub requiresSemi : Tree → Bool
-requiresSemi none = requiresComma none
-requiresSemi (node l a b) = pick (eqb (l .form) ExprMacro) (not (eqb (l .detail) 2)) (requiresComma (node l a b))
+requiresSemi t = atRoot (λ l a b. row (ExprMacro ∷ []) (not (eqb (l .detail) 2)) ∷ []) (requiresComma t) t
 
 -- ---- trailing_unparameterized_path
 
@@ -39,35 +35,24 @@ lastTypeInPath detail = pick (eqb detail 1) (answer true) (pick (eqb detail 3) f
 -- ImplTrait and TraitObject: last_type_in_bounds. A bound that is a path has the path's detail, the others end the question with no
 unfoldable pub pathRows : Label → Tree → Tree → List (Row (Ask Bool))
 pathRows l a b =
-    row (TypeFnPtr ∷ TypePtr ∷ []) first ∷
-    row (TypeReference ∷ []) first ∷
-    row (TypeImplTrait ∷ TypeTraitObject ∷ []) (lastTypeInPath (l .detail)) ∷
-    row (TypePath ∷ []) (lastTypeInPath (l .detail)) ∷
+    row (TypeFnPtr ∷ TypePtr ∷ TypeReference ∷ []) first ∷
+    row (TypeImplTrait ∷ TypePath ∷ TypeTraitObject ∷ []) (lastTypeInPath (l .detail)) ∷
     []
 
-unfoldable pub pathAsks : Label → Tree → Tree → Ask Bool
-pathAsks l a b = lookup (pathRows l a b) (answer false) (l .form)
-
 unfoldable pub trailingPath : Tree → Bool
-trailingPath t = walk pathAsks false t
+trailingPath t = walk pathRows (λ l. false) false t
 
 -- ---- expr_leading_label: "Whether the expression's first token is the label of a loop/block."
-
--- a Group that has attributes, inner or outer, ends the question
-unfoldable pub groupLabel : ℕ → Ask Bool
-groupLabel attributes = pick (eqb attributes 0) first (answer false)
 
 unfoldable pub labelRows : Label → Tree → Tree → List (Row (Ask Bool))
 labelRows l a b =
     row (ExprBlock ∷ ExprForLoop ∷ ExprLoop ∷ ExprWhile ∷ []) (answer (eqb (l .detail) 1)) ∷
-    row (ExprAssign ∷ ExprBinary ∷ ExprCall ∷ ExprIndex ∷ ExprMethodCall ∷ ExprRange ∷ []) first ∷
-    row (ExprCast ∷ []) first ∷
-    row (ExprAwait ∷ ExprField ∷ ExprTry ∷ []) first ∷
-    row (ExprGroup ∷ []) (groupLabel (l .attributes)) ∷
+    row
+    (ExprAssign ∷ ExprAwait ∷ ExprBinary ∷ ExprCall ∷ ExprCast ∷ ExprField ∷ ExprIndex ∷ ExprMethodCall ∷ ExprRange ∷ ExprTry ∷ [])
+    first ∷
+    -- a Group that has attributes, inner or outer, ends the question
+    row (ExprGroup ∷ []) (pick (eqb (l .attributes) 0) first (answer false)) ∷
     []
 
-unfoldable pub labelAsks : Label → Tree → Tree → Ask Bool
-labelAsks l a b = lookup (labelRows l a b) (answer false) (l .form)
-
 unfoldable pub leadingLabel : Tree → Bool
-leadingLabel t = walk labelAsks false t
+leadingLabel t = walk labelRows (λ l. false) false t

@@ -7,9 +7,9 @@ use tree::table::form_at;
 ghost use mathlib.Core.Path.{_≡_};
 ghost use mathlib.Core.Bool.{true, false};
 ghost use Rattle.tree.specs.Trees.{treeAt};
-ghost use Rattle.tree.specs.Walks.{into, stepBy, stepAt};
-ghost use Rattle.classify.specs.Classify.{commaAsks, requiresComma, requiresSemi, lastTypeInPath, pathAsks, trailingPath, groupLabel, labelAsks, leadingLabel};
-ghost use Rattle.classify.specs.Steps.{flowBy};
+ghost use Rattle.tree.specs.Steps.{into, stepBy};
+ghost use Rattle.classify.specs.Classify.{requiresComma, requiresSemi, lastTypeInPath, trailingPath, leadingLabel};
+ghost use Rattle.classify.specs.Steps.{flowBy, commaStep, pathStep, groupLabel, labelStep};
 
 // A step of a walk: the answer, or the node that is asked next.
 pub enum ControlFlow {
@@ -30,14 +30,14 @@ pub fn go_on(absent: bool, operand: Operand) -> ControlFlow
 pub fn requires_semi_to_be_stmt(table: &[u16], count: u16, node: u16) -> bool
     ensures { λ r. ⌜ r ≡ requiresSemi (treeAt (now (table .entry)) count node) ⌝ }
 {
-    if form_at(table, count, node) == forms::EXPR_MACRO {
-        return cell(table, node, 2) != 2;
+    match form_at(table, count, node) {
+        forms::EXPR_MACRO => cell(table, node, 2) != 2,
+        _ => requires_comma_to_be_match_arm(table, count, node),
     }
-    requires_comma_to_be_match_arm(table, count, node)
 }
 
 fn comma_step(table: &[u16], count: u16, node: u16) -> ControlFlow
-    ensures { λ r. ⌜ r ≡ flowBy (stepAt commaAsks true (now (table .entry)) count node) ⌝ }
+    ensures { λ r. ⌜ r ≡ flowBy (commaStep (now (table .entry)) count node) ⌝ }
 {
     let shape = shape_at(table, count, node);
     match form_at(table, count, node) {
@@ -80,16 +80,15 @@ fn last_type_in_path(detail: u16, output: Operand) -> ControlFlow
 }
 
 fn path_step(table: &[u16], count: u16, node: u16) -> ControlFlow
-    ensures { λ r. ⌜ r ≡ flowBy (stepAt pathAsks false (now (table .entry)) count node) ⌝ }
+    ensures { λ r. ⌜ r ≡ flowBy (pathStep (now (table .entry)) count node) ⌝ }
 {
     let shape = shape_at(table, count, node);
     match form_at(table, count, node) {
         forms::TYPE_FN_PTR | forms::TYPE_PTR => go_on(false, shape.first()),
         forms::TYPE_REFERENCE => go_on(false, shape.first()),
-        forms::TYPE_IMPL_TRAIT | forms::TYPE_TRAIT_OBJECT => {
+        forms::TYPE_IMPL_TRAIT | forms::TYPE_PATH | forms::TYPE_TRAIT_OBJECT => {
             last_type_in_path(cell(table, node, 2), shape.first())
         }
-        forms::TYPE_PATH => last_type_in_path(cell(table, node, 2), shape.first()),
         _ => ControlFlow::Break(false),
     }
 }
@@ -118,7 +117,7 @@ fn group_label(attributes: u16, content: Operand) -> ControlFlow
 }
 
 fn label_step(table: &[u16], count: u16, node: u16) -> ControlFlow
-    ensures { λ r. ⌜ r ≡ flowBy (stepAt labelAsks false (now (table .entry)) count node) ⌝ }
+    ensures { λ r. ⌜ r ≡ flowBy (labelStep (now (table .entry)) count node) ⌝ }
 {
     let shape = shape_at(table, count, node);
     match form_at(table, count, node) {
@@ -126,13 +125,14 @@ fn label_step(table: &[u16], count: u16, node: u16) -> ControlFlow
             ControlFlow::Break(cell(table, node, 2) == 1)
         }
         forms::EXPR_ASSIGN
-        | forms::EXPR_BINARY
+        | forms::EXPR_AWAIT
         | forms::EXPR_CALL
+        | forms::EXPR_FIELD
         | forms::EXPR_INDEX
         | forms::EXPR_METHOD_CALL
-        | forms::EXPR_RANGE => go_on(false, shape.first()),
-        forms::EXPR_CAST => go_on(false, shape.first()),
-        forms::EXPR_AWAIT | forms::EXPR_FIELD | forms::EXPR_TRY => go_on(false, shape.first()),
+        | forms::EXPR_RANGE
+        | forms::EXPR_TRY => go_on(false, shape.first()),
+        forms::EXPR_BINARY | forms::EXPR_CAST => go_on(false, shape.first()),
         forms::EXPR_GROUP => group_label(cell(table, node, 1), shape.first()),
         _ => ControlFlow::Break(false),
     }

@@ -8,12 +8,12 @@ use Rattle.tree.specs.Trees.{none}
 use Rattle.tree.specs.Walks.{walk}
 use Rattle.classify.specs.Classify.{leadingLabel}
 use Rattle.expr.specs.Handed.{never}
-use Rattle.expr.specs.Expr.{breakTest}
+use Rattle.expr.specs.Steps.{breakTest}
 
 and-false : (b : Bool) → b && false ≡ false
 and-false true = refl
 and-false false = refl
 
 pub break-none : (detail : ℕ) → never ≡ breakTest detail none
-unfolding breakTest leadingLabel walk
+unfolding leadingLabel walk
 break-none detail = sym (pick-false _ _ (and-false (eqb detail 0)))

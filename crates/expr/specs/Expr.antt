@@ -18,27 +18,13 @@ use Rattle.expr.specs.Handed.{under, upTo, never, grouped, beforeOperato
 
 -- ---- expr_binary
 
--- the operators whose token can begin an expression, by document 01's numbers
-unfoldable pub exprBeginners : List (Row Bool)
-exprBeginners =
-    -- Sub, And, BitAnd, Shl, Lt
-    row (1 ∷ 5 ∷ 8 ∷ 10 ∷ 13 ∷ []) true ∷
-    -- Mul, Or, BitOr
-    row (2 ∷ 6 ∷ 9 ∷ []) true ∷
-    []
-
+-- the operators whose token can begin an expression: Sub, Mul, And, Or, BitAnd, BitOr, Shl, Lt
 unfoldable pub canBeginExpr : ℕ → Bool
-canBeginExpr op = lookup exprBeginners false op
+canBeginExpr op = lookup (row (1 ∷ 2 ∷ 5 ∷ 6 ∷ 8 ∷ 9 ∷ 10 ∷ 13 ∷ []) true ∷ []) false op
 
--- the operators whose token can begin generic arguments
-unfoldable pub genericsBeginners : List (Row Bool)
-genericsBeginners =
-    -- Shl, Lt
-    row (10 ∷ 13 ∷ []) true ∷
-    []
-
+-- those whose token can begin generic arguments: Shl, Lt
 unfoldable pub canBeginGenerics : ℕ → Bool
-canBeginGenerics op = lookup genericsBeginners false op
+canBeginGenerics op = lookup (row (10 ∷ 13 ∷ []) true ∷ []) false op
 
 -- left_needs_group: '<= Range' for an assigning operator, '<=' its own precedence for a comparison, otherwise '<'
 unfoldable pub leftTest : Precedence → ℕ
@@ -54,18 +40,10 @@ binaryLeft x op = beforeOperator x (canBeginExpr op) (canBeginGenerics op) (ofBi
 unfoldable pub binaryRight : FixupContext → ℕ → Handed
 binaryRight x op = atEnd x false false (ofBinop op) (rightTest (ofBinop op))
 
--- ---- expr_break: without a label of its own ("Break: 1 labelled"), before a value whose first token is a label
-
-unfoldable pub breakTest : ℕ → Tree → ℕ
-breakTest detail value = grouped (eqb detail 0 && leadingLabel value)
-
 -- ---- expr_call: a Field by its member alone ("Field: 0 named, 1 numbered"), anything else by its precedence
 
-unfoldable pub callRows : Label → Tree → Tree → List (Row ℕ)
-callRows l a b = row (ExprField ∷ []) (grouped (eqb (l .detail) 0)) ∷ []
-
 unfoldable pub callTest : Tree → ℕ
-callTest t = atRoot callRows (under Unambiguous) t
+callTest t = atRoot (λ l a b. row (ExprField ∷ []) (grouped (eqb (l .detail) 0)) ∷ []) (under Unambiguous) t
 
 -- ---- the operand at the first place. x is the owner's own context, NONE where the owner has an outer pair
 
@@ -77,8 +55,8 @@ firstRows x l a b =
     row (ExprAwait ∷ ExprField ∷ ExprMethodCall ∷ ExprTry ∷ []) (beforeDot x (under Unambiguous)) ∷
     -- expr_binary
     row (ExprBinary ∷ []) (binaryLeft x (l .detail)) ∷
-    -- expr_break
-    row (ExprBreak ∷ []) (atEnd x true true Jump (breakTest (l .detail) a)) ∷
+    -- expr_break: grouped where it has no label ("Break: 1 labelled") and its value's first token is one
+    row (ExprBreak ∷ []) (atEnd x true true Jump (grouped (eqb (l .detail) 0 && leadingLabel a))) ∷
     -- expr_call
     row (ExprCall ∷ []) (beforeOperator x true false Unambiguous (callTest a)) ∷
     -- expr_cast
@@ -95,10 +73,8 @@ firstRows x l a b =
     row (ExprParen ∷ []) (neither NONE) ∷
     -- expr_range: the start
     row (ExprRange ∷ []) (beforeOperator x true false Range (upTo Range)) ∷
-    -- expr_raw_addr, expr_unary
-    row (ExprRawAddr ∷ ExprUnary ∷ []) (afterPrefix x Prefix) ∷
-    -- expr_reference
-    row (ExprReference ∷ []) (afterPrefix x Prefix) ∷
+    -- expr_raw_addr, expr_reference, expr_unary
+    row (ExprRawAddr ∷ ExprReference ∷ ExprUnary ∷ []) (afterPrefix x Prefix) ∷
     -- expr_return, expr_yield
     row (ExprReturn ∷ ExprYield ∷ []) (atEnd x true false Jump never) ∷
     []

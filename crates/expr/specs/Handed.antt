@@ -22,12 +22,9 @@ upTo p = suc (rankOf p)
 abbrev pub never : ℕ
 never = 0
 
-abbrev pub always : ℕ
-always = 16
-
--- a test that does not look at the precedence
+-- a test that does not look at the precedence: 16 is above every rank
 abbrev pub grouped : Bool → ℕ
-grouped test = pick test always never
+grouped test = pick test 16 never
 
 -- ---- document 01: "Left operands are those whose context the crate makes with a leftmost_subexpression function, right ones those with a rightmost_subexpression function"
 

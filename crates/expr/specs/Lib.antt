@@ -1,2 +1,3 @@
 pub mod Handed
 pub mod Expr
+pub mod Steps

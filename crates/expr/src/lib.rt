@@ -9,9 +9,10 @@ use tree::table::cell;
 use tree::table::form_at;
 ghost use mathlib.Core.Path.{_≡_};
 ghost use Rattle.tree.specs.Trees.{treeAt};
-ghost use Rattle.tree.specs.Walks.{treeOf};
+ghost use Rattle.tree.specs.Steps.{treeOf};
 ghost use Rattle.expr.specs.Handed.{upTo, grouped, beforeOperator, beforeDot, atEnd, afterPrefix, neither};
-ghost use Rattle.expr.specs.Expr.{canBeginExpr, canBeginGenerics, leftTest, rightTest, binaryLeft, binaryRight, breakTest, callTest, handsFirst, handsSecond};
+ghost use Rattle.expr.specs.Expr.{canBeginExpr, canBeginGenerics, leftTest, rightTest, binaryLeft, binaryRight, callTest, handsFirst, handsSecond};
+ghost use Rattle.expr.specs.Steps.{breakTest};
 
 // Which function of fixup.rs gives an operand's precedence.
 pub enum Side {

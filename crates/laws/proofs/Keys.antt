@@ -1,7 +1,7 @@
 -- What the arms of a `match` know of a number, or of an enum's tag, as tests. Assumes nothing.
 use mathlib.Core.Path.{_≡_, refl, sym, ap, _∙_}
 use mathlib.Core.Bool.{Bool, true, false, not, _&&_, _||_}
-use mathlib.Core.List.{List, [], _∷_}
+use mathlib.Core.List.{List, [], _∷_, _++_}
 use Prim.Native.Nat.{ℕ, zero, suc, _+_, _≤_, _<_}
 use native.Mathlib.Omega.{arith}
 use native.Mathlib.Decide.{decLe}
@@ -124,6 +124,35 @@ not-found (row js a ∷ rows) other ks x t h =
     let d = and-true (disjoint ks js) (apartFrom rows ks) (true-of t) in
     pick-false a _ (apart ks js x (of-true (d .0)) h) ∙ not-found rows other ks x (of-true (d .1)) h
 
+-- a number of ks, which all stand in rows that give something of the same kind
+abbrev pub numbersOf : {A : Type 0} → List (Row A) → List ℕ
+numbersOf [] = []
+numbersOf (row js a ∷ rows) = js ++ numbersOf rows
+
+abbrev pub Give : {A : Type 0} → (A → Type 0) → List (Row A) → Type 0
+Give P [] = Unit {0}
+Give P (row js a ∷ rows) = P a × Give P rows
+
+append-keys : (ks js : List ℕ) (x : ℕ) → hasKey (ks ++ js) x ≡ hasKey ks x || hasKey js x
+append-keys [] js x = refl
+append-keys (k ∷ ks) js x = go (eqb k x) (append-keys ks js x)
+  where
+    go : (b : Bool) → hasKey (ks ++ js) x ≡ hasKey ks x || hasKey js x → b || hasKey (ks ++ js) x ≡ (b || hasKey ks x) || hasKey js x
+    go true e = refl
+    go false e = e
+
+pub found-any : {A : Type 0} (P : A → Type 0) (rows : List (Row A)) (other : A) (ks : List ℕ) (x : ℕ) → T (within ks (numbersOf rows)) → Give P rows → hasKey ks x ≡ true → P (lookup rows other x)
+unfolding lookup pick
+found-any {A} P rows other ks x t g h = go rows g (inside ks (numbersOf rows) x t h)
+  where
+    by : (js : List ℕ) (a : A) (rest : List (Row A)) (b : Bool) → hasKey js x ≡ b → P a → (hasKey (numbersOf rest) x ≡ true → P (lookup rest other x)) → hasKey (js ++ numbersOf rest) x ≡ true → P (pick b a (lookup rest other x))
+    by js a rest true e p r n = p
+    by js a rest false e p r n = r (sym (append-keys js (numbersOf rest) x ∙ rw e) ∙ n)
+
+    go : (rest : List (Row A)) → Give P rest → hasKey (numbersOf rest) x ≡ true → P (lookup rest other x)
+    go [] g n = true-not-false (sym n)
+    go (row js a ∷ rest) g n = by js a rest (hasKey js x) refl (g .0) (λ m. go rest (g .1) m) n
+
 -- a number past all that the rows have
 abbrev pub rowsBelow : {A : Type 0} → ℕ → List (Row A) → Bool
 rowsBelow n [] = true
@@ -214,11 +243,13 @@ arms-same {A} (row ks a ∷ rows) other x = go (left [] (sorted ks)) (taken-or-l
     go [] e = one (hasKey (taken [] (sorted ks)) x) (hasKey ks x) _ e
     go (m ∷ ms) e = two (hasKey (taken [] (sorted ks)) x) (hasKey (m ∷ ms) x) (hasKey ks x) _ e
 
+-- a number of row j
+pub in-row : {A : Type 0} (rows : List (Row A)) (other : A) (x j : ℕ) → T (apartBefore rows j (numbersAt rows j)) → OneOf (numbersAt rows j) x → lookup rows other x ≡ givenAt rows other j
+in-row rows other x j t h = found rows other j (numbersAt rows j) x (within-self (numbersAt rows j)) t (among (numbersAt rows j) x h)
+
 -- arm j of the table
 pub arm : {A : Type 0} (rows : List (Row A)) (other : A) (x j : ℕ) → T (apartBefore (arms rows) j (numbersAt (arms rows) j)) → OneOf (numbersAt (arms rows) j) x → lookup rows other x ≡ givenAt (arms rows) other j
-arm rows other x j t h =
-    sym (arms-same rows other x)
-    ∙ found (arms rows) other j (numbersAt (arms rows) j) x (within-self (numbersAt (arms rows) j)) t (among (numbersAt (arms rows) j) x h)
+arm rows other x j t h = sym (arms-same rows other x) ∙ in-row (arms rows) other x j t h
 
 -- what a default arm knows: the number is in none of the arms
 abbrev pub Missed : {A : Type 0} → Type 0 → List (Row A) → ℕ → Type 0

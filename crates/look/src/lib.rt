@@ -9,7 +9,7 @@ use tree::table::form_at;
 ghost use mathlib.Core.Path.{_≡_};
 ghost use mathlib.Core.Bool.{not};
 ghost use Rattle.tree.specs.Trees.{treeAt};
-ghost use Rattle.tree.specs.Walks.{isPresent, treeOf};
+ghost use Rattle.tree.specs.Steps.{isPresent, treeOf};
 ghost use Rattle.classify.specs.Classify.{trailingPath};
 ghost use Rattle.look.specs.Looks.{isLet, isStruct, isBareReturn, isOpenEnded, isPlainBlock, isBareJump, isOpenAhead, isCastToPath};
 ghost use Rattle.look.specs.Steps.{lookOf};

@@ -18,7 +18,9 @@ use Rattle.places.specs.declared.place.Place.the-variants.{Nothing, Required, O
 use Rattle.tree.specs.Forms.{aLink, classOf, allowed}
 use Rattle.tree.specs.Table.{cellAt, formAt, firstAt, secondAt, classAt}
 use Rattle.tree.specs.Trees.{operandOf, treeAt, ownLevel, levels}
-use Rattle.places.specs.Places.{firstPlaces, firstPlace, wrongClass, wrongList, wrongItem, wrongNext, isRequired, wrongPresent, wrongAt, badOperands}
+use Rattle.places.specs.Places.{firstPlaces, firstPlace, wrongClass, wrongList, wrongItem, wrongNext, wrongAt, badOperands}
+use Rattle.places.specs.Steps.{isRequired, wrongPresent}
+use Rattle.places.proofs.Places.{wrong-absent, wrong-present}
 use Rattle.rules.specs.Refusals.{refusal6, refusal7, refusal8, refusal9, refusal10, refusal11, badNumbers, misplaced, badOrder, owners, badOwner, empty, badOutput, firstOf, nodeRefusals}
 use Rattle.one_pass.specs.Marks.{kindBy, kindAt, IsList, Fits, markBy, markAt, Takes, absent as no-operand, taken as takes, refused as refuses, Marks, Sound, claim, Marked}
 use Rattle.one_pass.proofs.Codes.{link-form}
@@ -185,8 +187,8 @@ module _ (cells : List ℕ) (count : ℕ) where
     tells-class o v (mark a b) h = let q = mark-kind o in rw q (low-kind o (done o a b) (omega arith))
 
     tells-right : (p : Place) (o v k : ℕ) → Tells o v → (k ≤ 2 → classAt cells (firstAt cells n) ≡ k) → Fits p k (v % 8) → wrongAt cells count n p o ≡ false
-    unfolding wrongAt Fits isRequired wrongPresent wrongItem wrongNext
-    tells-right p o v k (nothing e) g f = pick-true _ _ (eq-eqb o 0 e) ∙ absent-right p f
+    unfolding Fits isRequired wrongPresent wrongItem wrongNext
+    tells-right p o v k (nothing e) g f = wrong-absent cells count n p o e ∙ absent-right p f
       where
         absent-right : (p : Place) → Fits p k 0 → isRequired p ≡ false
         absent-right Nothing f = refl
@@ -195,7 +197,7 @@ module _ (cells : List ℕ) (count : ℕ) where
         absent-right (ListOf class) f = refl
         absent-right Item f = absurd (omega arith)
         absent-right Next f = refl
-    tells-right p o v k (mark a b) g f = pick-false _ _ (ne-eqb o 0 (λ z. omega arith)) ∙ present-right p (rw (mark-kind o) at f)
+    tells-right p o v k (mark a b) g f = wrong-present cells count n p o (λ z. omega arith) ∙ present-right p (rw (mark-kind o) at f)
       where
         present-right : (p : Place) → Fits p k (kindAt cells o) → wrongPresent cells count n p o ≡ false
         present-right Nothing f = let z = some-kind o (done o a b) in absurd (omega arith)

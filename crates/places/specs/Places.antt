@@ -9,14 +9,6 @@ use Rattle.places.specs.declared.place.Place.the-variants.{Nothing, Requ
 use Rattle.tree.specs.Forms.{ExprAssign, ExprAwait, ExprBinary, ExprBreak, ExprCall, ExprCast, ExprClosure, ExprField, ExprGroup, ExprIndex, ExprLet, ExprMethodCall, ExprParen, ExprRange, ExprRawAddr, ExprReference, ExprReturn, ExprTry, ExprUnary, ExprYield, TypeFnPtr, TypeImplTrait, TypePath, TypePtr, TypeReference, TypeTraitObject, Link, anExpression, aType, aLink}
 use Rattle.tree.specs.Table.{formAt, detailAt, firstAt, secondAt, classAt}
 
--- "Types Path, ImplTrait and TraitObject with 3: optional first, the output type."
-unfoldable pub outputPlace : ℕ → Place
-outputPlace detail = pick (eqb detail 3) (Optional aType) Nothing
-
--- "Path type with 2: second a type list or 0."
-unfoldable pub argumentsPlace : ℕ → Place
-argumentsPlace detail = pick (eqb detail 2) (ListOf aType) Nothing
-
 -- the first place, by form; "All others: none."
 unfoldable pub firstPlaces : ℕ → List (Row Place)
 firstPlaces detail =
@@ -26,12 +18,10 @@ firstPlaces detail =
     row (ExprCast ∷ []) (Required anExpression) ∷
     -- "Await, Closure (body), Field, Group, Let, Paren, RawAddr, Reference, Try, Unary: first only"
     row
-    (ExprAwait ∷ ExprClosure ∷ ExprField ∷ ExprGroup ∷ ExprLet ∷ ExprParen ∷ ExprRawAddr ∷ ExprTry ∷ ExprUnary ∷ [])
+    (ExprAwait ∷ ExprClosure ∷ ExprField ∷ ExprGroup ∷ ExprLet ∷ ExprParen ∷ ExprRawAddr ∷ ExprReference ∷ ExprTry ∷ ExprUnary ∷ [])
     (Required anExpression) ∷
-    row (ExprReference ∷ []) (Required anExpression) ∷
     -- "also types Ptr and Reference"
-    row (TypePtr ∷ []) (Required aType) ∷
-    row (TypeReference ∷ []) (Required aType) ∷
+    row (TypePtr ∷ TypeReference ∷ []) (Required aType) ∷
     -- "Break, Return, Yield, and FnPtr (output): optional first."
     row (ExprBreak ∷ ExprReturn ∷ ExprYield ∷ []) (Optional anExpression) ∷
     row (TypeFnPtr ∷ []) (Optional aType) ∷
@@ -39,7 +29,8 @@ firstPlaces detail =
     row (ExprRange ∷ []) (Optional anExpression) ∷
     -- "Call, MethodCall: first"
     row (ExprCall ∷ ExprMethodCall ∷ []) (Required anExpression) ∷
-    row (TypeImplTrait ∷ TypePath ∷ TypeTraitObject ∷ []) (outputPlace detail) ∷
+    -- "Types Path, ImplTrait and TraitObject with 3: optional first, the output type."
+    row (TypePath ∷ TypeImplTrait ∷ TypeTraitObject ∷ []) (pick (eqb detail 3) (Optional aType) Nothing) ∷
     -- "56 is a list link: first an item"
     row (Link ∷ []) Item ∷
     []
@@ -58,7 +49,8 @@ secondPlaces detail =
     row (ExprRange ∷ []) (Optional anExpression) ∷
     -- "Call, MethodCall: first, and second an expression list or 0."
     row (ExprCall ∷ ExprMethodCall ∷ []) (ListOf anExpression) ∷
-    row (TypePath ∷ []) (argumentsPlace detail) ∷
+    -- "Path type with 2: second a type list or 0."
+    row (TypePath ∷ []) (pick (eqb detail 2) (ListOf aType) Nothing) ∷
     -- "second the next link or 0"
     row (Link ∷ []) Next ∷
     []
@@ -88,29 +80,16 @@ wrongNext cells count i o =
     (wrongList cells count (classAt cells (firstAt cells i)) o)
     (wrongClass cells count aLink o)
 
--- the places that must have an operand
-unfoldable pub isRequired : Place → Bool
-isRequired Nothing = false
-isRequired (Required class) = true
-isRequired (Optional class) = false
-isRequired (ListOf class) = false
-isRequired Item = true
-isRequired Next = false
-
--- an operand that is present at a place of node i: "present where forbidden, or of the wrong class"
-unfoldable pub wrongPresent : List ℕ → ℕ → ℕ → Place → ℕ → Bool
-wrongPresent cells count i Nothing o = true
-wrongPresent cells count i (Required class) o = wrongClass cells count class o
-wrongPresent cells count i (Optional class) o = wrongClass cells count class o
-wrongPresent cells count i (ListOf class) o = wrongList cells count class o
-wrongPresent cells count i Item o = wrongItem cells count o
-wrongPresent cells count i Next o = wrongNext cells count i o
-
 -- the number o at a place of node i: "An operand is absent where required, present where forbidden, or of the wrong class"
 unfoldable pub wrongAt : List ℕ → ℕ → ℕ → Place → ℕ → Bool
-wrongAt cells count i place o = pick (eqb o 0) (isRequired place) (wrongPresent cells count i place o)
+wrongAt cells count i Nothing o = not (eqb o 0)
+wrongAt cells count i (Required class) o = eqb o 0 || wrongClass cells count class o
+wrongAt cells count i (Optional class) o = not (eqb o 0) && wrongClass cells count class o
+wrongAt cells count i (ListOf class) o = not (eqb o 0) && wrongList cells count class o
+wrongAt cells count i Item o = eqb o 0 || wrongItem cells count o
+wrongAt cells count i Next o = not (eqb o 0) && wrongNext cells count i o
 
--- 7, of node i. "An operand is absent where required, present where forbidden, or of the wrong class"
+-- 7, of node i: at its first place, or at its second
 unfoldable pub badOperands : List ℕ → ℕ → ℕ → Bool
 badOperands cells count i =
     wrongAt cells count i (firstPlace (formAt cells i) (detailAt cells i)) (firstAt cells i)

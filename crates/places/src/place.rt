@@ -3,7 +3,8 @@ use labels::form::class_of;
 use tree::forms;
 use tree::table::cell;
 ghost use mathlib.Core.Path.{_≡_};
-ghost use Rattle.places.specs.Places.{firstPlace, secondPlace, outputPlace, argumentsPlace, wrongClass, wrongList, wrongItem, wrongNext, isRequired, wrongPresent, wrongAt};
+ghost use Rattle.places.specs.Places.{firstPlace, secondPlace, wrongClass, wrongList, wrongItem, wrongNext, wrongAt};
+ghost use Rattle.places.specs.Steps.{outputPlace, argumentsPlace, isRequired, wrongPresent};
 
 // What may stand at a place; a class is a number, as in `class_of`.
 pub enum Place {

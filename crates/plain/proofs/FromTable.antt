@@ -16,7 +16,7 @@ use Rattle.places.specs.declared.place.Place.the-variants.{Nothing, Required, L
 use Rattle.tree.specs.Forms.{ExprAssign, ExprAwait, ExprBinary, ExprCall, ExprCast, ExprField, ExprIndex, ExprLit, ExprMethodCall, ExprParen, ExprPath, ExprReference, ExprTry, ExprUnary, TypeInfer, TypeNever, TypePath, TypePtr, TypeReference, Link, anExpression, aType, aLink, classOf, highestAttributes, details, highestDetail, allowed}
 use Rattle.tree.specs.Table.{formAt, attributesAt, detailAt, firstAt, secondAt, classAt}
 use Rattle.tree.specs.Trees.{Label, Tree, none, node, labelAt, treeAt}
-use Rattle.places.specs.Places.{outputPlace, argumentsPlace, firstPlaces, firstPlace, secondPlaces, secondPlace}
+use Rattle.places.specs.Places.{firstPlaces, firstPlace, secondPlaces, secondPlace}
 use Rattle.rules.specs.Refusals.{Accepted}
 use Rattle.tree.proofs.Unfold.{tree-zero, unfolds}
 use Rattle.rules.proofs.Accepted.{Within, Fits, count-bounds, root-expression, numbers-allowed, first-fits, second-fits, first-operand, second-operand}
@@ -246,11 +246,11 @@ module _ (cells : List ℕ) (count : ℕ) where
 
       -- a path without arguments, and one with them
       path-one : 1 ≡ d → Fits cells count i (firstPlace TypePath 1) p → Fits cells count i (secondPlace TypePath 1) q → AType (here TypePath)
-      unfolding firstPlace firstPlaces secondPlace secondPlaces outputPlace argumentsPlace lookup pick
+      unfolding firstPlace firstPlaces secondPlace secondPlaces lookup pick
       path-one z u v = alone named TypePath 1 refl z u v
 
       path-two : 2 ≡ d → Fits cells count i (firstPlace TypePath 2) p → Fits cells count i (secondPlace TypePath 2) q → AType (here TypePath)
-      unfolding firstPlace firstPlaces secondPlace secondPlaces outputPlace argumentsPlace lookup pick
+      unfolding firstPlace firstPlaces secondPlace secondPlaces lookup pick
       path-two z u v =
           let l = types-at q v in
           (applied (l .0), ap₂ (node (label TypePath 2)) (none-at p u) (l .1) ∙ ap (λ n. node (label TypePath n) (treeAt cells count p) (treeAt cells count q)) z)

@@ -20,7 +20,7 @@ use Rattle.fixup.specs.Fixup.{parenthesize, effective}
 use Rattle.scan.specs.Scans.{scanned}
 use Rattle.expr.specs.declared.Handed.{Handed}
 use Rattle.expr.specs.Handed.{beforeOperator, beforeDot, atEnd, neither}
-use Rattle.expr.specs.Expr.{exprBeginners, canBeginExpr, genericsBeginners, canBeginGenerics, leftTest, rightTest, callRows, callTest}
+use Rattle.expr.specs.Expr.{canBeginExpr, canBeginGenerics, leftTest, rightTest, callTest}
 use Rattle.row.specs.Rows.{precedenceIn, outerPair}
 use Rattle.grammar.specs.Tokens.{Operator, number}
 use Rattle.grammar.specs.Tokens as token
@@ -94,12 +94,12 @@ equal-unless : (a : Bool) (m n : ℕ) → a ≡ false → T (a || eqb m n) → m
 equal-unless a m n h t = eqb→eq m n (rw h at t)
 
 pub generics-is : (o : Operator) → number o < 28 → canBeginGenerics (number o) ≡ opensArguments o
-unfolding canBeginGenerics genericsBeginners lookup pick opensArguments
+unfolding canBeginGenerics lookup pick opensArguments
 generics-is o h = alike-same _ _ (but-assign (λ q. alike (canBeginGenerics (number q)) (opensArguments q)) tt o h)
 
 -- `<` and `<<` can begin an expression, and are neither a range nor `||` nor `&&`
 pub operator-settled : (x : FixupContext) (o : Operator) → number o < 28 → Settled (withOperator x (canBeginExpr (number o)) (canBeginGenerics (number o)) (ofBinop (number o)))
-unfolding canBeginExpr exprBeginners canBeginGenerics genericsBeginners lookup pick ofBinop operators scanned
+unfolding canBeginExpr canBeginGenerics lookup pick ofBinop operators scanned
 operator-settled x o h g =
     implied _ _ g (but-assign (λ q. not (canBeginGenerics (number q)) || not (scanned (withOperator x (canBeginExpr (number q)) (canBeginGenerics (number q)) (ofBinop (number q))))) tt o h)
 
@@ -142,7 +142,7 @@ weak-call : (a : Expr one) → strength false a < 15 → ltb (strength false a) 
 weak-call a h = rw (lt-ltb (strength false a) 15 h)
 
 pub call-test : (a : Expr one) → ltb (strength false a) (callTest (treeOf a)) ≡ tooWeakToCall a
-unfolding callTest callRows atRoot lookup pick strength operatorLabel
+unfolding callTest atRoot lookup pick strength operatorLabel
 call-test (atom path) = refl
 call-test (atom literal) = refl
 call-test (paren a) = refl

@@ -4,8 +4,6 @@ use mathlib.Core.List.{List, [], _∷_}
 use Prim.Native.Nat.{ℕ}
 use lib.Dec.{eqb, leb, ltb}
 use Rattle.laws.specs.Choice.{pick, Row, row, lookup}
-use Rattle.tree.specs.declared.table.Operand.{Operand}
-use Rattle.tree.specs.declared.table.Operand.the-variants.{Absent, Present}
 use Rattle.tree.specs.Forms.{ExprAssign, ExprBinary, ExprBreak, ExprCast, ExprClosure, ExprGroup, ExprLet, ExprRange, ExprRawAddr, ExprReference, ExprReturn, ExprUnary, ExprVerbatim, ExprYield, anExpression, classOf}
 use Rattle.tree.specs.Trees.{Label, Tree}
 use Rattle.tree.specs.Walks.{Ask, answer, first, isThere, walk}
@@ -72,27 +70,19 @@ ofBinop op = lookup operators Jump op
 unfoldable pub prefixAttrs : ℕ → Precedence
 prefixAttrs attributes = pick (eqb attributes 2) Prefix Unambiguous
 
--- Break, Return and Yield: with a value or without
-abbrev pub jumpBy : Bool → Precedence
-jumpBy true = Jump
-jumpBy false = Unambiguous
-
--- Closure: without a written output or with one
-abbrev pub closureBy : ℕ → ℕ → Precedence
-closureBy detail attributes = pick (eqb detail 0) Jump (prefixAttrs attributes)
-
 -- Precedence::of, by form
 unfoldable pub ofRows : Label → Tree → Tree → List (Row (Ask Precedence))
 ofRows l a b =
-    row (ExprClosure ∷ []) (answer (closureBy (l .detail) (l .attributes))) ∷
-    row (ExprBreak ∷ ExprReturn ∷ ExprYield ∷ []) (answer (jumpBy (isThere a))) ∷
+    -- without a written output, or with one
+    row (ExprClosure ∷ []) (answer (pick (eqb (l .detail) 0) Jump (prefixAttrs (l .attributes)))) ∷
+    -- with a value, or without
+    row (ExprBreak ∷ ExprReturn ∷ ExprYield ∷ []) (answer (pick (isThere a) Jump Unambiguous)) ∷
     row (ExprAssign ∷ []) (answer Assign) ∷
     row (ExprRange ∷ []) (answer Range) ∷
     row (ExprBinary ∷ []) (answer (ofBinop (l .detail))) ∷
     row (ExprLet ∷ []) (answer Let) ∷
     row (ExprCast ∷ []) (answer Cast) ∷
-    row (ExprRawAddr ∷ ExprUnary ∷ []) (answer Prefix) ∷
-    row (ExprReference ∷ []) (answer Prefix) ∷
+    row (ExprRawAddr ∷ ExprReference ∷ ExprUnary ∷ []) (answer Prefix) ∷
     row (ExprGroup ∷ []) first ∷
     []
 
@@ -101,8 +91,5 @@ unfoldable pub closedBy : ℕ → ℕ → Precedence
 closedBy form attributes =
     pick (eqb (classOf form) anExpression && not (eqb form ExprVerbatim)) (prefixAttrs attributes) Unambiguous
 
-unfoldable pub ofAsks : Label → Tree → Tree → Ask Precedence
-ofAsks l a b = lookup (ofRows l a b) (answer (closedBy (l .form) (l .attributes))) (l .form)
-
 unfoldable pub precedenceOf : Tree → Precedence
-precedenceOf t = walk ofAsks Unambiguous t
+precedenceOf t = walk ofRows (λ l. closedBy (l .form) (l .attributes)) Unambiguous t

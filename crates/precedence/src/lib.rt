@@ -8,10 +8,10 @@ ghost use mathlib.Core.Path.{_≡_};
 ghost use Rattle.tree.specs.Table.{attributesAt};
 ghost use Rattle.tree.specs.Operands.{formIn};
 ghost use Rattle.tree.specs.Trees.{treeAt};
-ghost use Rattle.tree.specs.Walks.{isPresent, into, stepAt};
+ghost use Rattle.tree.specs.Steps.{isPresent, into};
 ghost use Rattle.precedence.specs.declared.Precedence.the-variants.{Unambiguous};
-ghost use Rattle.precedence.specs.Precedences.{rankOf, below, atMost, ofBinop, prefixAttrs, jumpBy, closureBy, closedBy, ofAsks, precedenceOf};
-ghost use Rattle.precedence.specs.Steps.{levelBy};
+ghost use Rattle.precedence.specs.Precedences.{rankOf, below, atMost, ofBinop, prefixAttrs, closedBy, precedenceOf};
+ghost use Rattle.precedence.specs.Steps.{jumpBy, closureBy, ofStep, levelBy};
 
 pub enum Precedence {
     // return, break, closures
@@ -110,7 +110,7 @@ fn closed_of(table: &[u16], count: u16, node: u16) -> Precedence
 
 // One step of Precedence::of.
 fn level_at(table: &[u16], count: u16, node: u16) -> Level
-    ensures { λ r. ⌜ r ≡ levelBy (stepAt ofAsks Unambiguous (now (table .entry)) count node) ⌝ }
+    ensures { λ r. ⌜ r ≡ levelBy (ofStep (now (table .entry)) count node) ⌝ }
 {
     match form_at(table, count, node) {
         forms::EXPR_CLOSURE => Level::Of(closure_of(cell(table, node, 2), cell(table, node, 1))),

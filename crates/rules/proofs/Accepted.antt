@@ -18,7 +18,9 @@ use Rattle.places.specs.declared.place.Place.the-variants.{Nothing, Required, O
 use Rattle.tree.specs.Forms.{ExprBlock, ExprClosure, anExpression, aType, aLink, allowed}
 use Rattle.tree.specs.Table.{cellAt, formAt, attributesAt, detailAt, firstAt, secondAt, classAt}
 use Rattle.tree.specs.Trees.{operandOf, operandAt, treeAt, levels}
-use Rattle.places.specs.Places.{firstPlace, secondPlace, wrongClass, wrongList, wrongItem, wrongNext, isRequired, wrongPresent, wrongAt, badOperands}
+use Rattle.places.specs.Places.{firstPlace, secondPlace, wrongClass, wrongList, wrongItem, wrongNext, wrongAt, badOperands}
+use Rattle.places.specs.Steps.{isRequired, wrongPresent}
+use Rattle.places.proofs.Places.{wrong-absent, wrong-present}
 use Rattle.rules.specs.Refusals.{refusal3, refusal4, refusal6, refusal7, refusal8, refusal9, refusal10, refusal11, badNumbers, misplaced, badOrder, owners, badOwner, empty, plainBlock, badOutput, Refusal, refuse, firstOf, nodeRefusals, refusal, Accepted}
 use Rattle.rules.proofs.Count.{count-fits}
 use Rattle.rules.proofs.First.{passed}
@@ -199,12 +201,11 @@ module _ (context count : ℕ) (cells : List ℕ) (ok : Accepted context count c
     present-fits Next w e = let r = right-next cells count i o (first-most i low high) (w .1) (first-most o (omega arith) (w .1)) e in inr (w, r .0, r .1)
 
     fits : (place : Place) → wrongAt cells count i place o ≡ false → Fits cells count i place o
-    unfolding wrongAt
     fits place e = go (ℕ-discrete o 0)
       where
         go : Dec (o ≡ 0) → Fits cells count i place o
-        go (yes z) = absent-fits place z (sym (pick-true _ _ (eq-eqb o 0 z)) ∙ e)
-        go (no z) = present-fits place (placed count i o in-order z) (sym (pick-false _ _ (ne-eqb o 0 z)) ∙ e)
+        go (yes z) = absent-fits place z (sym (wrong-absent cells count i place o z) ∙ e)
+        go (no z) = present-fits place (placed count i o in-order z) (sym (wrong-present cells count i place o z) ∙ e)
 
   -- operands are present exactly where their form has them, and of the right class
   pub first-fits : (i : ℕ) → 1 ≤ i → i ≤ count → Fits cells count i (firstPlace (formAt cells i) (detailAt cells i)) (firstAt cells i)

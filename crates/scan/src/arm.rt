@@ -10,7 +10,7 @@ use tree::table::operand_at;
 ghost use mathlib.Core.Path.{_≡_};
 ghost use Rattle.tree.specs.Trees.{treeAt};
 ghost use Rattle.tree.specs.Operands.{presence};
-ghost use Rattle.tree.specs.Walks.{treeOf};
+ghost use Rattle.tree.specs.Steps.{treeOf};
 ghost use Rattle.classify.specs.Classify.{leadingLabel};
 ghost use Rattle.scan.specs.Arms.{unattributed, armOf, operandNumber};
 

@@ -1,14 +1,15 @@
--- What a `match` on a node's form knows of the node's shape, and the number of an operand. Assumes nothing.
+-- What a `match` on a node's form knows of the node's shape. Assumes nothing.
 use mathlib.Core.Path.{_≡_, refl}
 use mathlib.Core.List.{List}
-use Prim.Native.Nat.{ℕ, zero, suc}
+use Prim.Native.Nat.{ℕ}
 use lib.Dec.{T}
 use types.Run.{OneOf}
-use Rattle.laws.proofs.Keys.{among, numbersAt, givenAt, within, apartBefore, found}
-use Rattle.tree.specs.Operands.{presence, formIn}
+use Rattle.laws.proofs.Keys.{among, numbersAt, givenAt, within, apartBefore, found, numbersOf, found-any}
+use Rattle.tree.specs.Operands.{formIn}
 use Rattle.tree.proofs.Matches.{FirstAt, SecondAt}
+use Rattle.shapes.specs.declared.Shape.{Shape}
 use Rattle.shapes.specs.declared.Shape.the-variants.{Closed}
-use Rattle.shapes.specs.Shapes.{shapeRows, shapeAt, operandNumber}
+use Rattle.shapes.specs.Shapes.{shapeRows, shapeAt, firstInShape}
 
 module _ (cells : List ℕ) (count i : ℕ) where
   -- the shape of a node whose form is one of ks, all of which stand in row j
@@ -17,8 +18,9 @@ module _ (cells : List ℕ) (count i : ℕ) where
   unfolding shapeAt
   shape-is form e ks o j t u = rw (← e) (found (shapeRows (FirstAt cells count i) (SecondAt cells count i)) Closed j ks form t u (among ks form o))
 
--- an operand has the number that the table has for it, 0 where it is absent
-pub operand-number : (n : ℕ) → operandNumber (presence n) ≡ n
-unfolding presence
-operand-number zero = refl
-operand-number (suc n) = refl
+  -- the first operand of a node whose form is one of ks, which all have a first place
+  pub first-is : (form : ℕ) → form ≡ formIn cells count i → (ks : List ℕ) → OneOf ks form → T (within ks (numbersOf (shapeRows (FirstAt cells count i) (SecondAt cells count i)))) → firstInShape (shapeAt cells count i) ≡ FirstAt cells count i
+  unfolding shapeAt shapeRows firstInShape
+  first-is form e ks o t =
+      rw (← e)
+      (found-any (λ (s : Shape). firstInShape s ≡ FirstAt cells count i) (shapeRows (FirstAt cells count i) (SecondAt cells count i)) Closed ks form t (refl, (refl, (refl, (refl, (refl, (refl, tt)))))) (among ks form o))

@@ -15,7 +15,7 @@ use Rattle.laws.proofs.Keys.{numbersAt, givenAt, apartBefore, arms, arm, Missed
 use Rattle.tree.specs.Table.{cellAt}
 use Rattle.tree.specs.Operands.{presence}
 use Rattle.tree.specs.Trees.{labelAt, operandAt, treeAt}
-use Rattle.tree.specs.Walks.{isPresent}
+use Rattle.tree.specs.Steps.{isPresent}
 use Rattle.tree.proofs.Walks.{there}
 use Rattle.grammar.specs.Tokens.{Token, operator, Assign, Lt, Gt, Name, code, number, operators, operatorOf, codesOf}
 use Rattle.plain.specs.Written.{signs, signRows, signsOf}

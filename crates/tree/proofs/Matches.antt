@@ -16,7 +16,8 @@ use Rattle.tree.specs.declared.table.Operand.{Operand}
 use Rattle.tree.specs.Table.{formAt}
 use Rattle.tree.specs.Trees.{Label, Tree, none, labelAt, operandAt, treeAt}
 use Rattle.tree.specs.Operands.{presence, formIn}
-use Rattle.tree.specs.Walks.{Ask, Step, ends, stepBy, stepAt, atRoot}
+use Rattle.tree.specs.Walks.{Ask, answer, atRoot}
+use Rattle.tree.specs.Steps.{Step, ends, stepBy, stepAt}
 use Rattle.tree.proofs.Unfold.{tree-zero, tree-past, unfolds}
 use Rattle.tree.proofs.Walks.{step-in, step-out, step-past}
 
@@ -56,43 +57,40 @@ module _ (cells : List ℕ) (count i : ℕ) where
 
   -- ---- a question that a table over the forms answers, and `other` where it has no row
 
-  module _ {A : Type 0} (rows : Label → Tree → Tree → List (Row (Ask A))) (other : Label → Ask A) (missing : A) where
-    abbrev pub byRows : Label → Tree → Tree → Ask A
-    byRows l a b = lookup (rows l a b) (other l) (l .form)
-
+  module _ {A : Type 0} (rows : Label → Tree → Tree → List (Row (Ask A))) (other : Label → A) (missing : A) where
     abbrev pub rowsAt : List (Row (Ask A))
     rowsAt = rows (labelAt cells i) (treeAt cells count (operandAt cells count i 3)) (treeAt cells count (operandAt cells count i 4))
 
     module _ (form : ℕ) (is : form ≡ formIn cells count i) where
-      step-form : 1 ≤ i → i ≤ count → stepAt byRows missing cells count i ≡ stepBy missing (lookup rowsAt (other (labelAt cells i)) form) FirstAt SecondAt
+      step-form : 1 ≤ i → i ≤ count → stepAt rows other missing cells count i ≡ stepBy missing (lookup rowsAt (answer (other (labelAt cells i))) form) FirstAt SecondAt
       unfolding labelAt
-      step-form h k = step-in byRows missing cells count i h k ∙ rw (is ∙ form-in h k)
+      step-form h k = step-in rows other missing cells count i h k ∙ rw (is ∙ form-in h k)
 
       -- arm j of the table, and what the row asks
-      pub form-arm : T (apartFrom (arms rowsAt) (0 ∷ [])) → (j : ℕ) → T (apartBefore (arms rowsAt) j (numbersAt (arms rowsAt) j)) → OneOf (numbersAt (arms rowsAt) j) form → (q : Ask A) → givenAt (arms rowsAt) (other (labelAt cells i)) j ≡ q
-          → stepBy missing q FirstAt SecondAt ≡ stepAt byRows missing cells count i
+      pub form-arm : T (apartFrom (arms rowsAt) (0 ∷ [])) → (j : ℕ) → T (apartBefore (arms rowsAt) j (numbersAt (arms rowsAt) j)) → OneOf (numbersAt (arms rowsAt) j) form → (q : Ask A) → givenAt (arms rowsAt) (answer (other (labelAt cells i))) j ≡ q
+          → stepBy missing q FirstAt SecondAt ≡ stepAt rows other missing cells count i
       form-arm t j u o q g = go (decLe 1 i) (decLe i count)
         where
-          found-j : lookup rowsAt (other (labelAt cells i)) form ≡ q
-          found-j = arm rowsAt (other (labelAt cells i)) form j u o ∙ g
+          found-j : lookup rowsAt (answer (other (labelAt cells i))) form ≡ q
+          found-j = arm rowsAt (answer (other (labelAt cells i))) form j u o ∙ g
 
-          nowhere : form ≡ 0 → stepBy missing q FirstAt SecondAt ≡ stepAt byRows missing cells count i
+          nowhere : form ≡ 0 → stepBy missing q FirstAt SecondAt ≡ stepAt rows other missing cells count i
           nowhere e = true-not-false (sym (among (numbersAt (arms rowsAt) j) form o) ∙ rw e (none-zero (arms rowsAt) j t))
 
-          go : Dec (1 ≤ i) → Dec (i ≤ count) → stepBy missing q FirstAt SecondAt ≡ stepAt byRows missing cells count i
+          go : Dec (1 ≤ i) → Dec (i ≤ count) → stepBy missing q FirstAt SecondAt ≡ stepAt rows other missing cells count i
           go (yes h) (yes k) = sym (step-form h k ∙ rw found-j)
           go (yes h) (no k) = nowhere (is ∙ form-past h (omega arith))
           go (no h) d = nowhere (is ∙ form-out (omega arith))
 
       -- the default arm: what `other` asks where there is a node, and `missing` where there is none
-      pub form-rest : Missed (Unit {0}) (arms rowsAt) form → (q : Step A) → (1 ≤ i → i ≤ count → stepBy missing (other (labelAt cells i)) FirstAt SecondAt ≡ q) → ((1 ≤ i → i ≤ count → ⊥) → ends missing ≡ q)
-          → q ≡ stepAt byRows missing cells count i
+      pub form-rest : Missed (Unit {0}) (arms rowsAt) form → (q : Step A) → (1 ≤ i → i ≤ count → stepBy missing (answer (other (labelAt cells i))) FirstAt SecondAt ≡ q) → ((1 ≤ i → i ≤ count → ⊥) → ends missing ≡ q)
+          → q ≡ stepAt rows other missing cells count i
       form-rest m q here gone = go (decLe 1 i) (decLe i count)
         where
-          go : Dec (1 ≤ i) → Dec (i ≤ count) → q ≡ stepAt byRows missing cells count i
-          go (yes h) (yes k) = sym (step-form h k ∙ rw (rest rowsAt (other (labelAt cells i)) form m) (here h k))
-          go (yes h) (no k) = sym (step-past byRows missing cells count i h (omega arith) ∙ gone (λ a b. k b))
-          go (no h) d = sym (step-out byRows missing cells count i (omega arith) ∙ gone (λ a b. h a))
+          go : Dec (1 ≤ i) → Dec (i ≤ count) → q ≡ stepAt rows other missing cells count i
+          go (yes h) (yes k) = sym (step-form h k ∙ rw (rest rowsAt (answer (other (labelAt cells i))) form m) (here h k))
+          go (yes h) (no k) = sym (step-past rows other missing cells count i h (omega arith) ∙ gone (λ a b. k b))
+          go (no h) d = sym (step-out rows other missing cells count i (omega arith) ∙ gone (λ a b. h a))
 
   -- ---- a question that a node answers by itself, and `other` where the table has no row
 

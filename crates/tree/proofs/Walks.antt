@@ -7,12 +7,14 @@ use native.Mathlib.Omega.{arith}
 use native.Mathlib.Decide.{decLe}
 use lib.Dec.{leb}
 use borrow.Author.Tests.{le-leb, lt-leb}
+use Rattle.laws.specs.Choice.{Row}
 use Rattle.laws.proofs.Choice.{pick-true, pick-false}
 use Rattle.tree.specs.declared.table.Operand.{Operand}
 use Rattle.tree.specs.declared.table.Operand.the-variants.{Absent, Present}
 use Rattle.tree.specs.Trees.{Label, Tree, none, node, labelAt, operandOf, operandAt, treeAt}
 use Rattle.tree.specs.Operands.{presence}
-use Rattle.tree.specs.Walks.{Ask, answer, first, second, follow, isThere, walk, isPresent, treeOf, Step, ends, goes, into, stepBy, stepAt}
+use Rattle.tree.specs.Walks.{Ask, answer, first, second, follow, isThere, walk}
+use Rattle.tree.specs.Steps.{isPresent, treeOf, Step, ends, goes, into, stepBy, askedAt, stepAt}
 use Rattle.tree.proofs.Unfold.{Standing, absent, present, standing, tree-zero, tree-past, unfolds}
 
 -- ---- operands that are there
@@ -55,53 +57,53 @@ tree-of cells count (suc n) = refl
 
 -- ---- steps
 
-module _ {A : Type 0} (asks : Label → Tree → Tree → Ask A) (missing : A) (cells : List ℕ) (count i : ℕ) where
+module _ {A : Type 0} (rows : Label → Tree → Tree → List (Row (Ask A))) (other : Label → A) (missing : A) (cells : List ℕ) (count i : ℕ) where
   abbrev asked : Ask A
-  asked = asks (labelAt cells i) (treeAt cells count (operandAt cells count i 3)) (treeAt cells count (operandAt cells count i 4))
+  asked = askedAt rows other cells count i
 
   -- the walk at a node, by what its operands give
-  walk-node : 1 ≤ i → i ≤ count → walk asks missing (treeAt cells count i) ≡ follow asked (walk asks missing (treeAt cells count (operandAt cells count i 3))) (walk asks missing (treeAt cells count (operandAt cells count i 4)))
+  walk-node : 1 ≤ i → i ≤ count → walk rows other missing (treeAt cells count i) ≡ follow asked (walk rows other missing (treeAt cells count (operandAt cells count i 3))) (walk rows other missing (treeAt cells count (operandAt cells count i 4)))
   unfolding walk
   walk-node h k = rw (unfolds cells count i h k)
 
-  pub step-in : 1 ≤ i → i ≤ count → stepAt asks missing cells count i ≡ stepBy missing asked (presence (operandAt cells count i 3)) (presence (operandAt cells count i 4))
+  pub step-in : 1 ≤ i → i ≤ count → stepAt rows other missing cells count i ≡ stepBy missing asked (presence (operandAt cells count i 3)) (presence (operandAt cells count i 4))
   unfolding stepAt
   step-in h k = pick-true _ _ (rw (le-leb 1 i h, le-leb i count k))
 
-  pub step-out : i < 1 → stepAt asks missing cells count i ≡ ends missing
+  pub step-out : i < 1 → stepAt rows other missing cells count i ≡ ends missing
   unfolding stepAt
   step-out h = pick-false _ _ (rw (lt-leb 1 i h))
 
-  pub step-past : 1 ≤ i → count < i → stepAt asks missing cells count i ≡ ends missing
+  pub step-past : 1 ≤ i → count < i → stepAt rows other missing cells count i ≡ ends missing
   unfolding stepAt
   step-past h k = pick-false _ _ (rw (le-leb 1 i h, lt-leb i count k))
 
   -- where a step leads: to the answer, or to a node after this one with the same answer
   abbrev pub Leads : Step A → Type 0
-  Leads (ends x) = walk asks missing (treeAt cells count i) ≡ x
-  Leads (goes n) = (i < n) × (n ≤ count) × (walk asks missing (treeAt cells count n) ≡ walk asks missing (treeAt cells count i))
+  Leads (ends x) = walk rows other missing (treeAt cells count i) ≡ x
+  Leads (goes n) = (i < n) × (n ≤ count) × (walk rows other missing (treeAt cells count n) ≡ walk rows other missing (treeAt cells count i))
 
   -- into an operand
-  leads-into : (o : ℕ) → walk asks missing (treeAt cells count i) ≡ walk asks missing (treeAt cells count (operandOf count i o)) → (p : Operand) → presence (operandOf count i o) ≡ p → Leads (into missing p)
+  leads-into : (o : ℕ) → walk rows other missing (treeAt cells count i) ≡ walk rows other missing (treeAt cells count (operandOf count i o)) → (p : Operand) → presence (operandOf count i o) ≡ p → Leads (into missing p)
   unfolding walk
   leads-into o e Absent q = e ∙ rw (absent-zero _ q, tree-zero cells count)
   leads-into o e (Present n) q = let s = present-above count i o n q in (s .1, s .2, sym (e ∙ rw (s .0)))
 
-  leads-by : (q : Ask A) → walk asks missing (treeAt cells count i) ≡ follow q (walk asks missing (treeAt cells count (operandAt cells count i 3))) (walk asks missing (treeAt cells count (operandAt cells count i 4)))
+  leads-by : (q : Ask A) → walk rows other missing (treeAt cells count i) ≡ follow q (walk rows other missing (treeAt cells count (operandAt cells count i 3))) (walk rows other missing (treeAt cells count (operandAt cells count i 4)))
       → Leads (stepBy missing q (presence (operandAt cells count i 3)) (presence (operandAt cells count i 4)))
   unfolding follow
   leads-by (answer x) e = e
   leads-by first e = leads-into _ e _ refl
   leads-by second e = leads-into _ e _ refl
 
-  none-here : treeAt cells count i ≡ none → walk asks missing (treeAt cells count i) ≡ missing
+  none-here : treeAt cells count i ≡ none → walk rows other missing (treeAt cells count i) ≡ missing
   unfolding walk
   none-here e = rw e
 
-  pub leads : Leads (stepAt asks missing cells count i)
+  pub leads : Leads (stepAt rows other missing cells count i)
   leads = low (decLe 1 i) (decLe i count)
     where
-      low : Dec (1 ≤ i) → Dec (i ≤ count) → Leads (stepAt asks missing cells count i)
+      low : Dec (1 ≤ i) → Dec (i ≤ count) → Leads (stepAt rows other missing cells count i)
       low (yes h) (yes k) = rw (step-in h k) (leads-by asked (walk-node h k))
       low (yes h) (no k) = rw (step-past h (omega arith)) (none-here (tree-past cells count i (omega arith)))
       low (no h) d = rw (step-out (omega arith)) (none-here (let z : i ≡ 0 = omega arith in rw z (tree-zero cells count)))

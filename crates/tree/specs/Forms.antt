@@ -1,19 +1,13 @@
--- The numbers of the forms, in document 01's order ('Tree file'), under the names that syn gives them; their classes; and the numbers that a node may hold (6).
+-- The numbers of the forms that the definitions name, under the names that syn gives them; their classes; and the numbers that a node may hold (6).
 use mathlib.Core.Bool.{Bool, not, _&&_}
 use mathlib.Core.List.{List, [], _∷_}
 use Prim.Native.Nat.{ℕ}
 use lib.Dec.{eqb, leb}
 use Rattle.laws.specs.Choice.{pick, Row, row, lookup}
 
--- "Forms 1 to 40 are expressions"
-abbrev pub ExprArray : ℕ
-ExprArray = 1
-
+-- "Forms 1 to 40 are expressions: Array, Assign, Async, Await, Binary, Block, Break, Call, Cast, Closure, Const, Continue, Field, ForLoop, Group, If, Index, Infer, Let, Lit, Loop, Macro, Match, MethodCall, Paren, Path, Range, RawAddr, Reference, Repeat, Return, Struct, Try, TryBlock, Tuple, Unary, Unsafe, Verbatim, While, Yield."
 abbrev pub ExprAssign : ℕ
 ExprAssign = 2
-
-abbrev pub ExprAsync : ℕ
-ExprAsync = 3
 
 abbrev pub ExprAwait : ℕ
 ExprAwait = 4
@@ -39,9 +33,6 @@ ExprClosure = 10
 abbrev pub ExprConst : ℕ
 ExprConst = 11
 
-abbrev pub ExprContinue : ℕ
-ExprContinue = 12
-
 abbrev pub ExprField : ℕ
 ExprField = 13
 
@@ -56,9 +47,6 @@ ExprIf = 16
 
 abbrev pub ExprIndex : ℕ
 ExprIndex = 17
-
-abbrev pub ExprInfer : ℕ
-ExprInfer = 18
 
 abbrev pub ExprLet : ℕ
 ExprLet = 19
@@ -93,9 +81,6 @@ ExprRawAddr = 28
 abbrev pub ExprReference : ℕ
 ExprReference = 29
 
-abbrev pub ExprRepeat : ℕ
-ExprRepeat = 30
-
 abbrev pub ExprReturn : ℕ
 ExprReturn = 31
 
@@ -107,9 +92,6 @@ ExprTry = 33
 
 abbrev pub ExprTryBlock : ℕ
 ExprTryBlock = 34
-
-abbrev pub ExprTuple : ℕ
-ExprTuple = 35
 
 abbrev pub ExprUnary : ℕ
 ExprUnary = 36
@@ -126,15 +108,9 @@ ExprWhile = 39
 abbrev pub ExprYield : ℕ
 ExprYield = 40
 
--- "41 to 55 are types"
-abbrev pub TypeArray : ℕ
-TypeArray = 41
-
+-- "41 to 55 are types: Array, FnPtr, Group, ImplTrait, Infer, Macro, Never, Paren, Path, Ptr, Reference, Slice, TraitObject, Tuple, Verbatim."
 abbrev pub TypeFnPtr : ℕ
 TypeFnPtr = 42
-
-abbrev pub TypeGroup : ℕ
-TypeGroup = 43
 
 abbrev pub TypeImplTrait : ℕ
 TypeImplTrait = 44
@@ -148,9 +124,6 @@ TypeMacro = 46
 abbrev pub TypeNever : ℕ
 TypeNever = 47
 
-abbrev pub TypeParen : ℕ
-TypeParen = 48
-
 abbrev pub TypePath : ℕ
 TypePath = 49
 
@@ -160,14 +133,8 @@ TypePtr = 50
 abbrev pub TypeReference : ℕ
 TypeReference = 51
 
-abbrev pub TypeSlice : ℕ
-TypeSlice = 52
-
 abbrev pub TypeTraitObject : ℕ
 TypeTraitObject = 53
-
-abbrev pub TypeTuple : ℕ
-TypeTuple = 54
 
 abbrev pub TypeVerbatim : ℕ
 TypeVerbatim = 55

@@ -3,3 +3,4 @@ pub mod Table
 pub mod Trees
 pub mod Operands
 pub mod Walks
+pub mod Steps

@@ -1,10 +1,7 @@
 -- Document 01, 'Tree file': "A node table holds the same five numbers a node in 16-bit cells": form, attributes, detail, first, second.
-use mathlib.Core.Bool.{_&&_}
 use mathlib.Core.List.{List}
 use Prim.Native.Nat.{ℕ, zero, suc, _+_, _*_}
-use lib.Dec.{ltb, leb}
 use lib.ListN.{getD}
-use Rattle.laws.specs.Choice.{pick}
 use Rattle.tree.specs.Forms.{classOf}
 
 -- the number at place k of node i's five; node 1 is the first, and what lies outside the table reads as 0

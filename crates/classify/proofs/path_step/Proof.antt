@@ -5,11 +5,11 @@ use mathlib.Core.List.{[], _∷_}
 use Prim.Native.Nat.{ℕ}
 use Rattle.tree.specs.declared.table.Operand.{Operand}
 use Rattle.shapes.specs.Shapes.{shapeRows, firstInShape}
-use Rattle.tree.specs.Trees.{Label, labelAt}
-use Rattle.tree.specs.Walks.{answer, into, stepBy}
+use Rattle.tree.specs.Trees.{labelAt}
+use Rattle.tree.specs.Steps.{into, stepBy}
 use Rattle.tree.proofs.Matches.{form-arm, form-rest}
-use Rattle.shapes.proofs.Shapes.{shape-is}
-use Rattle.classify.specs.Classify.{pathRows, pathAsks, lastTypeInPath}
+use Rattle.shapes.proofs.Shapes.{shape-is, first-is}
+use Rattle.classify.specs.Classify.{pathRows, lastTypeInPath}
 use Rattle.classify.specs.Steps.{flowBy}
 use Rattle.classify.proofs.Steps.{path-one}
 use borrow.Author.Needs.{needs}
@@ -43,44 +43,26 @@ first-requires-3 c κs = search needs
 last-type-in-path-requires : tie.Need-last-type-in-path-requires
 last-type-in-path-requires c κs = search needs
 
-cell-requires-2 : tie.Need-cell-requires-2
-cell-requires-2 c κs = search needs
-
-first-requires-4 : tie.Need-first-requires-4
-first-requires-4 c κs = search needs
-
-last-type-in-path-requires-2 : tie.Need-last-type-in-path-requires-2
-last-type-in-path-requires-2 c κs = search needs
-
 returns : tie.Need-returns
-unfolding pathAsks pathRows shapeRows firstInShape
-returns c = c .go-on .ensures ∙ ap flowBy (ap (into false) (c .before .first .ensures ∙ ap firstInShape (c .before .before .before .before .shape-at .ensures ∙ shape-is _ _ _ _ (c .before .before .before .form-at .ensures) (42 ∷ 50 ∷ []) (c .before .before .match .keys1) 4 tt tt)) ∙ form-arm _ _ _ pathRows (λ (l : Label). answer false) false _ (c .before .before .before .form-at .ensures) tt 0 tt (c .before .before .match .keys1) _ refl)
+unfolding pathRows shapeRows firstInShape
+returns c = c .go-on .ensures ∙ ap flowBy (ap (into false) (c .before .first .ensures ∙ ap firstInShape (c .before .before .before .before .shape-at .ensures ∙ shape-is _ _ _ _ (c .before .before .before .form-at .ensures) (42 ∷ 50 ∷ []) (c .before .before .match .keys1) 4 tt tt)) ∙ form-arm _ _ _ pathRows _ false _ (c .before .before .before .form-at .ensures) tt 0 tt (c .before .before .match .keys1) _ refl)
 
 returns-2 : tie.Need-returns-2
-unfolding pathAsks pathRows shapeRows firstInShape
-returns-2 c = c .go-on2 .ensures ∙ ap flowBy (ap (into false) (c .before .first2 .ensures ∙ ap firstInShape (c .before .before .before .before .shape-at .ensures ∙ shape-is _ _ _ _ (c .before .before .before .form-at .ensures) (51 ∷ []) (c .before .before .match .keys2) 5 tt tt)) ∙ form-arm _ _ _ pathRows (λ (l : Label). answer false) false _ (c .before .before .before .form-at .ensures) tt 1 tt (c .before .before .match .keys2) _ refl)
+unfolding pathRows shapeRows firstInShape
+returns-2 c = c .go-on2 .ensures ∙ ap flowBy (ap (into false) (c .before .first2 .ensures ∙ ap firstInShape (c .before .before .before .before .shape-at .ensures ∙ shape-is _ _ _ _ (c .before .before .before .form-at .ensures) (51 ∷ []) (c .before .before .match .keys2) 5 tt tt)) ∙ form-arm _ _ _ pathRows _ false _ (c .before .before .before .form-at .ensures) tt 1 tt (c .before .before .match .keys2) _ refl)
 
 returns-3 : tie.Need-returns-3
-unfolding pathAsks pathRows labelAt shapeRows firstInShape
+unfolding pathRows labelAt shapeRows
 returns-3 c =
     c .last-type-in-path .ensures
     ∙ ap flowBy
-    (ap₂ (λ (x : ℕ) (u : Operand). stepBy false (lastTypeInPath x) u u) (c .before .before .cell .ensures) (c .before .first3 .ensures ∙ ap firstInShape (c .before .before .before .before .before .shape-at .ensures ∙ shape-is _ _ _ _ (c .before .before .before .before .form-at .ensures) (44 ∷ 53 ∷ []) (c .before .before .before .match .keys3) 4 tt tt))
+    (ap₂ (λ (x : ℕ) (u : Operand). stepBy false (lastTypeInPath x) u u) (c .before .before .cell .ensures) (c .before .first3 .ensures ∙ ap firstInShape (c .before .before .before .before .before .shape-at .ensures) ∙ first-is _ _ _ _ (c .before .before .before .before .form-at .ensures) (44 ∷ 49 ∷ 53 ∷ []) (c .before .before .before .match .keys3) tt)
     ∙ sym (path-one _ _ _)
-    ∙ form-arm _ _ _ pathRows (λ (l : Label). answer false) false _ (c .before .before .before .before .form-at .ensures) tt 2 tt (c .before .before .before .match .keys3) _ refl)
+    ∙ form-arm _ _ _ pathRows _ false _ (c .before .before .before .before .form-at .ensures) tt 2 tt (c .before .before .before .match .keys3) _ refl)
 
 returns-4 : tie.Need-returns-4
-unfolding pathAsks pathRows labelAt shapeRows firstInShape
-returns-4 c =
-    c .last-type-in-path2 .ensures
-    ∙ ap flowBy
-    (ap₂ (λ (x : ℕ) (u : Operand). stepBy false (lastTypeInPath x) u u) (c .before .before .cell2 .ensures) (c .before .first4 .ensures ∙ ap firstInShape (c .before .before .before .before .before .shape-at .ensures ∙ shape-is _ _ _ _ (c .before .before .before .before .form-at .ensures) (49 ∷ []) (c .before .before .before .match .keys4) 1 tt tt))
-    ∙ sym (path-one _ _ _)
-    ∙ form-arm _ _ _ pathRows (λ (l : Label). answer false) false _ (c .before .before .before .before .form-at .ensures) tt 3 tt (c .before .before .before .match .keys4) _ refl)
-
-returns-5 : tie.Need-returns-5
-unfolding pathAsks pathRows
-returns-5 c = ap flowBy (form-rest _ _ _ pathRows (λ (l : Label). answer false) false _ (c .before .form-at .ensures) (c .match .rest) _ (λ h k. refl) (λ n. refl))
+unfolding pathRows
+returns-4 c = ap flowBy (form-rest _ _ _ pathRows _ false _ (c .before .form-at .ensures) (c .match .rest) _ (λ h k. refl) (λ n. refl))
 
 pub path-step-spec : {M : Type 1} → statement M
 path-step-spec =
@@ -95,11 +77,7 @@ path-step-spec =
     cell-requires
     first-requires-3
     last-type-in-path-requires
-    cell-requires-2
-    first-requires-4
-    last-type-in-path-requires-2
     returns
     returns-2
     returns-3
-    returns-4
-    returns-5)
+    returns-4)

@@ -3,7 +3,6 @@ use mathlib.Core.Path.{ap, _∙_}
 use mathlib.Core.Bool.{Bool, _&&_}
 use lib.Dec.{eqb}
 use Rattle.expr.specs.Handed.{grouped}
-use Rattle.expr.specs.Expr.{breakTest}
 use Rattle.expr.proofs.Steps.{break-none}
 use borrow.Author.Needs.{needs}
 use Rattle.expr.proofs.break_test.Statement.{statement}
@@ -16,7 +15,7 @@ enum-told : tie.Need-enum-told
 enum-told c = search needs
 
 returns : tie.Need-returns
-returns c = rw (c .enum-told .given .1) (break-none _)
+returns c = rw (c .enum-told .given .1) (break-none (c .before .before .before .args .detail))
 
 expr-leading-label-requires : tie.Need-expr-leading-label-requires
 expr-leading-label-requires c κs = search needs
@@ -28,7 +27,6 @@ grouped-requires : tie.Need-grouped-requires
 grouped-requires c κs = search needs
 
 returns-2 : tie.Need-returns-2
-unfolding breakTest
 returns-2 c = rw (c .before .before .before .before .value .given .1) (c .grouped .ensures ∙ ap grouped (c .before .both .ensures ∙ ap (λ (b : Bool). eqb (c .before .before .before .before .before .before .before .args .detail) 0 && b) (c .before .before .expr-leading-label .ensures)))
 
 pub break-test-spec : {M : Type 1} → statement M

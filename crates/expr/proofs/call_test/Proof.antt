@@ -6,7 +6,7 @@ use Rattle.tree.specs.Trees.{labelAt}
 use Rattle.tree.specs.Walks.{atRoot}
 use Rattle.tree.proofs.Matches.{root-arm, root-rest}
 use Rattle.expr.specs.Handed.{grouped}
-use Rattle.expr.specs.Expr.{callRows, callTest}
+use Rattle.expr.specs.Expr.{callTest}
 use borrow.Author.Needs.{needs}
 use Rattle.expr.proofs.call_test.Statement.{statement}
 use Rattle.expr.proofs.call_test.Tie as tie
@@ -37,12 +37,12 @@ rank-requires-2 : tie.Need-rank-requires-2
 rank-requires-2 c κs = search needs
 
 returns-2 : tie.Need-returns-2
-unfolding callTest callRows labelAt
-returns-2 c = rw (c .before .before .before .before .before .func .given .1) (c .grouped .ensures ∙ ap (λ (d : ℕ). grouped (eqb d 0)) (c .before .cell .ensures) ∙ root-arm _ _ _ callRows 15 _ (c .before .before .before .form-at .ensures) tt 0 tt (c .before .before .match2 .keys1))
+unfolding callTest labelAt
+returns-2 c = rw (c .before .before .before .before .before .func .given .1) (c .grouped .ensures ∙ ap (λ (d : ℕ). grouped (eqb d 0)) (c .before .cell .ensures) ∙ root-arm _ _ _ _ _ _ (c .before .before .before .form-at .ensures) tt 0 tt (c .before .before .match2 .keys1))
 
 returns-3 : tie.Need-returns-3
-unfolding callTest callRows
-returns-3 c = rw (c .before .before .before .before .func .given .1) (c .rank2 .ensures ∙ root-rest _ _ _ callRows 15 _ (c .before .before .form-at .ensures) (c .before .match2 .rest))
+unfolding callTest
+returns-3 c = rw (c .before .before .before .before .func .given .1) (c .rank2 .ensures ∙ root-rest _ _ _ _ _ _ (c .before .before .form-at .ensures) (c .before .match2 .rest))
 
 pub call-test-spec : {M : Type 1} → statement M
 call-test-spec =

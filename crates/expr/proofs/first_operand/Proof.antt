@@ -9,8 +9,9 @@ use Rattle.shapes.proofs.Shapes.{shape-is}
 use Rattle.precedence.specs.declared.Precedence.the-variants.{Jump, Assign, Range, Cast, Unambiguous}
 use Rattle.fixup.specs.Contexts.{NONE}
 use Rattle.expr.specs.Handed.{beforeOperator, beforeDot, atEnd, neither}
-use Rattle.expr.specs.Expr.{binaryLeft, breakTest, callTest, firstRows, handsFirst}
-use Rattle.tree.specs.Walks.{treeOf}
+use Rattle.expr.specs.Expr.{binaryLeft, callTest, firstRows, handsFirst}
+use Rattle.expr.specs.Steps.{breakTest}
+use Rattle.tree.specs.Steps.{treeOf}
 use Rattle.tree.proofs.Walks.{tree-of}
 use borrow.Author.Needs.{needs}
 use Rattle.expr.proofs.first_operand.Statement.{statement}

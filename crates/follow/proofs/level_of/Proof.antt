@@ -3,7 +3,7 @@ use mathlib.Core.Path.{_≡_, sym, _∙_}
 use Prim.Native.Nat.{ℕ, _≤_}
 use native.Mathlib.Omega.{arith}
 use borrow.Author.Needs.{needs}
-use Rattle.laws.proofs.Keys.{arm, found, past-rows, upTo, in-range}
+use Rattle.laws.proofs.Keys.{in-row, found, past-rows, upTo, in-range}
 use Rattle.follow.specs.Tables.{levelRows, levelPast, levelOf}
 use Rattle.follow.proofs.Tables.{level-at}
 use Rattle.follow.proofs.level_of.Statement.{statement}
@@ -17,23 +17,23 @@ level-past-requires c κs = search needs
 
 returns : tie.Need-returns
 unfolding levelOf levelRows
-returns c = sym (arm levelRows (levelPast _) _ 2 tt (c .match .keys1)) ∙ level-at _
+returns c = sym (in-row levelRows (levelPast _) _ 2 tt (c .match .keys1)) ∙ level-at _
 
 returns-2 : tie.Need-returns-2
 unfolding levelOf levelRows
-returns-2 c = sym (arm levelRows (levelPast _) _ 3 tt (c .match .keys2)) ∙ level-at _
+returns-2 c = sym (in-row levelRows (levelPast _) _ 3 tt (c .match .keys2)) ∙ level-at _
 
 returns-3 : tie.Need-returns-3
 unfolding levelOf levelRows
-returns-3 c = sym (arm levelRows (levelPast _) _ 4 tt (c .match .keys3)) ∙ level-at _
+returns-3 c = sym (in-row levelRows (levelPast _) _ 4 tt (c .match .keys3)) ∙ level-at _
 
 returns-4 : tie.Need-returns-4
 unfolding levelOf levelRows
-returns-4 c = sym (arm levelRows (levelPast _) _ 5 tt (c .match .keys4)) ∙ level-at _
+returns-4 c = sym (in-row levelRows (levelPast _) _ 5 tt (c .match .keys4)) ∙ level-at _
 
 returns-5 : tie.Need-returns-5
 unfolding levelOf levelRows
-returns-5 c = sym (arm levelRows (levelPast _) _ 6 tt (c .match .keys5)) ∙ level-at _
+returns-5 c = sym (in-row levelRows (levelPast _) _ 6 tt (c .match .keys5)) ∙ level-at _
 
 returns-6 : tie.Need-returns-6
 unfolding levelOf levelRows

@@ -4,11 +4,11 @@ use mathlib.Core.Bool.{false, not}
 use mathlib.Core.List.{[], _∷_}
 use Rattle.tree.specs.declared.table.Operand.{Operand}
 use Rattle.shapes.specs.Shapes.{shapeRows, firstInShape}
-use Rattle.tree.specs.Walks.{isPresent}
+use Rattle.tree.specs.Steps.{isPresent}
 use Rattle.tree.proofs.Walks.{there}
 use Rattle.tree.proofs.Matches.{root-arm, root-rest}
 use Rattle.shapes.proofs.Shapes.{shape-is}
-use Rattle.look.specs.Looks.{bareJumpRows}
+use Rattle.look.specs.Looks.{isBareJump}
 use borrow.Author.Needs.{needs}
 use Rattle.look.proofs.is_bare_jump.Statement.{statement}
 use Rattle.look.proofs.is_bare_jump.Tie as tie
@@ -23,12 +23,12 @@ is-absent-requires : tie.Need-is-absent-requires
 is-absent-requires c κs = search needs
 
 returns : tie.Need-returns
-unfolding bareJumpRows shapeRows firstInShape
-returns c = c .is-absent .ensures ∙ ap (λ (p : Operand). not (isPresent p)) (c .before .first-at .ensures ∙ ap firstInShape (shape-is _ _ _ _ (c .before .before .before .form-at .ensures) (7 ∷ 31 ∷ 40 ∷ []) (c .before .before .match .keys1) 2 tt tt)) ∙ ap not (sym (there (c .before .before .before .before .before .args .table .now) (c .before .before .before .before .before .args .count) (c .before .before .before .before .before .args .node) _)) ∙ root-arm _ _ _ bareJumpRows false _ (c .before .before .before .form-at .ensures) tt 0 tt (c .before .before .match .keys1)
+unfolding isBareJump shapeRows firstInShape
+returns c = c .is-absent .ensures ∙ ap (λ (p : Operand). not (isPresent p)) (c .before .first-at .ensures ∙ ap firstInShape (shape-is _ _ _ _ (c .before .before .before .form-at .ensures) (7 ∷ 31 ∷ 40 ∷ []) (c .before .before .match .keys1) 2 tt tt)) ∙ ap not (sym (there (c .before .before .before .before .before .args .table .now) (c .before .before .before .before .before .args .count) (c .before .before .before .before .before .args .node) _)) ∙ root-arm _ _ _ _ _ _ (c .before .before .before .form-at .ensures) tt 0 tt (c .before .before .match .keys1)
 
 returns-2 : tie.Need-returns-2
-unfolding bareJumpRows
-returns-2 c = root-rest _ _ _ bareJumpRows false _ (c .before .form-at .ensures) (c .match .rest)
+unfolding isBareJump
+returns-2 c = root-rest _ _ _ _ _ _ (c .before .form-at .ensures) (c .match .rest)
 
 pub is-bare-jump-spec : {M : Type 1} → statement M
 is-bare-jump-spec =

@@ -1,15 +1,14 @@
 -- `look::is_cast_to_path` meets its contract. Assumes nothing.
 use mathlib.Core.Path.{ap, _∙_}
-use mathlib.Core.Bool.{false}
 use mathlib.Core.List.{[], _∷_}
 use Rattle.tree.specs.declared.table.Operand.{Operand}
 use Rattle.shapes.specs.Shapes.{shapeRows, secondInShape}
-use Rattle.tree.specs.Walks.{treeOf}
+use Rattle.tree.specs.Steps.{treeOf}
 use Rattle.tree.proofs.Walks.{tree-of}
 use Rattle.tree.proofs.Matches.{root-arm, root-rest}
 use Rattle.shapes.proofs.Shapes.{shape-is}
 use Rattle.classify.specs.Classify.{trailingPath}
-use Rattle.look.specs.Looks.{castToPathRows}
+use Rattle.look.specs.Looks.{isCastToPath}
 use borrow.Author.Needs.{needs}
 use Rattle.look.proofs.is_cast_to_path.Statement.{statement}
 use Rattle.look.proofs.is_cast_to_path.Tie as tie
@@ -24,12 +23,12 @@ ends-in-path-requires : tie.Need-ends-in-path-requires
 ends-in-path-requires c κs = search needs
 
 returns : tie.Need-returns
-unfolding castToPathRows shapeRows secondInShape
-returns c = c .ends-in-path .ensures ∙ ap (λ (p : Operand). trailingPath (treeOf (c .before .before .before .before .before .args .table .now) (c .before .before .before .before .before .args .count) p)) (c .before .second-at .ensures ∙ ap secondInShape (shape-is _ _ _ _ (c .before .before .before .form-at .ensures) (9 ∷ []) (c .before .before .match .keys1) 1 tt tt)) ∙ ap trailingPath (tree-of _ _ _) ∙ root-arm _ _ _ castToPathRows false _ (c .before .before .before .form-at .ensures) tt 0 tt (c .before .before .match .keys1)
+unfolding isCastToPath shapeRows secondInShape
+returns c = c .ends-in-path .ensures ∙ ap (λ (p : Operand). trailingPath (treeOf (c .before .before .before .before .before .args .table .now) (c .before .before .before .before .before .args .count) p)) (c .before .second-at .ensures ∙ ap secondInShape (shape-is _ _ _ _ (c .before .before .before .form-at .ensures) (9 ∷ []) (c .before .before .match .keys1) 1 tt tt)) ∙ ap trailingPath (tree-of _ _ _) ∙ root-arm _ _ _ _ _ _ (c .before .before .before .form-at .ensures) tt 0 tt (c .before .before .match .keys1)
 
 returns-2 : tie.Need-returns-2
-unfolding castToPathRows
-returns-2 c = root-rest _ _ _ castToPathRows false _ (c .before .form-at .ensures) (c .match .rest)
+unfolding isCastToPath
+returns-2 c = root-rest _ _ _ _ _ _ (c .before .form-at .ensures) (c .match .rest)
 
 pub is-cast-to-path-spec : {M : Type 1} → statement M
 is-cast-to-path-spec =

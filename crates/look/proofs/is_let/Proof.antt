@@ -1,7 +1,6 @@
 -- `look::is_let` meets its contract. Assumes nothing.
-use mathlib.Core.Bool.{false}
 use Rattle.tree.proofs.Matches.{root-arm, root-rest}
-use Rattle.look.specs.Looks.{letRows}
+use Rattle.look.specs.Looks.{isLet}
 use borrow.Author.Needs.{needs}
 use Rattle.look.proofs.is_let.Statement.{statement}
 use Rattle.look.proofs.is_let.Tie as tie
@@ -10,12 +9,12 @@ form-at-requires : tie.Need-form-at-requires
 form-at-requires c κs = search needs
 
 returns : tie.Need-returns
-unfolding letRows
-returns c = root-arm _ _ _ letRows false _ (c .before .form-at .ensures) tt 0 tt (c .match .keys1)
+unfolding isLet
+returns c = root-arm _ _ _ _ _ _ (c .before .form-at .ensures) tt 0 tt (c .match .keys1)
 
 returns-2 : tie.Need-returns-2
-unfolding letRows
-returns-2 c = root-rest _ _ _ letRows false _ (c .before .form-at .ensures) (c .match .rest)
+unfolding isLet
+returns-2 c = root-rest _ _ _ _ _ _ (c .before .form-at .ensures) (c .match .rest)
 
 pub is-let-spec : {M : Type 1} → statement M
 is-let-spec = tie.close (tie.spec form-at-requires returns returns-2)

@@ -4,11 +4,11 @@ use mathlib.Core.Bool.{false, not}
 use mathlib.Core.List.{[], _∷_}
 use Rattle.tree.specs.declared.table.Operand.{Operand}
 use Rattle.shapes.specs.Shapes.{shapeRows, firstInShape, secondInShape}
-use Rattle.tree.specs.Walks.{isPresent}
+use Rattle.tree.specs.Steps.{isPresent}
 use Rattle.tree.proofs.Walks.{there}
 use Rattle.tree.proofs.Matches.{root-arm, root-rest}
 use Rattle.shapes.proofs.Shapes.{shape-is}
-use Rattle.look.specs.Looks.{openEndedRows}
+use Rattle.look.specs.Looks.{isOpenEnded}
 use borrow.Author.Needs.{needs}
 use Rattle.look.proofs.is_open_ended.Statement.{statement}
 use Rattle.look.proofs.is_open_ended.Tie as tie
@@ -29,20 +29,20 @@ is-absent-requires-2 : tie.Need-is-absent-requires-2
 is-absent-requires-2 c κs = search needs
 
 returns : tie.Need-returns
-unfolding openEndedRows shapeRows firstInShape
-returns c = c .is-absent .ensures ∙ ap (λ (p : Operand). not (isPresent p)) (c .before .first-at .ensures ∙ ap firstInShape (shape-is _ _ _ _ (c .before .before .before .form-at .ensures) (7 ∷ []) (c .before .before .match .keys1) 2 tt tt)) ∙ ap not (sym (there (c .before .before .before .before .before .args .table .now) (c .before .before .before .before .before .args .count) (c .before .before .before .before .before .args .node) _)) ∙ root-arm _ _ _ openEndedRows false _ (c .before .before .before .form-at .ensures) tt 0 tt (c .before .before .match .keys1)
+unfolding isOpenEnded shapeRows firstInShape
+returns c = c .is-absent .ensures ∙ ap (λ (p : Operand). not (isPresent p)) (c .before .first-at .ensures ∙ ap firstInShape (shape-is _ _ _ _ (c .before .before .before .form-at .ensures) (7 ∷ []) (c .before .before .match .keys1) 2 tt tt)) ∙ ap not (sym (there (c .before .before .before .before .before .args .table .now) (c .before .before .before .before .before .args .count) (c .before .before .before .before .before .args .node) _)) ∙ root-arm _ _ _ _ _ _ (c .before .before .before .form-at .ensures) tt 0 tt (c .before .before .match .keys1)
 
 returns-2 : tie.Need-returns-2
-unfolding openEndedRows
-returns-2 c = root-arm _ _ _ openEndedRows false _ (c .before .form-at .ensures) tt 1 tt (c .match .keys2)
+unfolding isOpenEnded
+returns-2 c = root-arm _ _ _ _ _ _ (c .before .form-at .ensures) tt 1 tt (c .match .keys2)
 
 returns-3 : tie.Need-returns-3
-unfolding openEndedRows shapeRows secondInShape
-returns-3 c = c .is-absent2 .ensures ∙ ap (λ (p : Operand). not (isPresent p)) (c .before .second-at .ensures ∙ ap secondInShape (shape-is _ _ _ _ (c .before .before .before .form-at .ensures) (27 ∷ []) (c .before .before .match .keys3) 0 tt tt)) ∙ ap not (sym (there (c .before .before .before .before .before .args .table .now) (c .before .before .before .before .before .args .count) (c .before .before .before .before .before .args .node) _)) ∙ root-arm _ _ _ openEndedRows false _ (c .before .before .before .form-at .ensures) tt 2 tt (c .before .before .match .keys3)
+unfolding isOpenEnded shapeRows secondInShape
+returns-3 c = c .is-absent2 .ensures ∙ ap (λ (p : Operand). not (isPresent p)) (c .before .second-at .ensures ∙ ap secondInShape (shape-is _ _ _ _ (c .before .before .before .form-at .ensures) (27 ∷ []) (c .before .before .match .keys3) 0 tt tt)) ∙ ap not (sym (there (c .before .before .before .before .before .args .table .now) (c .before .before .before .before .before .args .count) (c .before .before .before .before .before .args .node) _)) ∙ root-arm _ _ _ _ _ _ (c .before .before .before .form-at .ensures) tt 2 tt (c .before .before .match .keys3)
 
 returns-4 : tie.Need-returns-4
-unfolding openEndedRows
-returns-4 c = root-rest _ _ _ openEndedRows false _ (c .before .form-at .ensures) (c .match .rest)
+unfolding isOpenEnded
+returns-4 c = root-rest _ _ _ _ _ _ (c .before .form-at .ensures) (c .match .rest)
 
 pub is-open-ended-spec : {M : Type 1} → statement M
 is-open-ended-spec =

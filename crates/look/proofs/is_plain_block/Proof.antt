@@ -5,7 +5,7 @@ use Prim.Native.Nat.{ℕ}
 use lib.Dec.{eqb}
 use Rattle.tree.specs.Trees.{labelAt}
 use Rattle.tree.proofs.Matches.{root-arm, root-rest}
-use Rattle.look.specs.Looks.{plainBlockRows}
+use Rattle.look.specs.Looks.{isPlainBlock}
 use borrow.Author.Needs.{needs}
 use Rattle.look.proofs.is_plain_block.Statement.{statement}
 use Rattle.look.proofs.is_plain_block.Tie as tie
@@ -23,12 +23,12 @@ both-requires : tie.Need-both-requires
 both-requires c κs = search needs
 
 returns : tie.Need-returns
-unfolding plainBlockRows labelAt
-returns c = c .both .ensures ∙ ap₂ (λ (a d : ℕ). eqb a 0 && eqb d 0) (c .before .before .cell .ensures) (c .before .cell2 .ensures) ∙ root-arm _ _ _ plainBlockRows false _ (c .before .before .before .before .form-at .ensures) tt 0 tt (c .before .before .before .match .keys1)
+unfolding isPlainBlock labelAt
+returns c = c .both .ensures ∙ ap₂ (λ (a d : ℕ). eqb a 0 && eqb d 0) (c .before .before .cell .ensures) (c .before .cell2 .ensures) ∙ root-arm _ _ _ _ _ _ (c .before .before .before .before .form-at .ensures) tt 0 tt (c .before .before .before .match .keys1)
 
 returns-2 : tie.Need-returns-2
-unfolding plainBlockRows
-returns-2 c = root-rest _ _ _ plainBlockRows false _ (c .before .form-at .ensures) (c .match .rest)
+unfolding isPlainBlock
+returns-2 c = root-rest _ _ _ _ _ _ (c .before .form-at .ensures) (c .match .rest)
 
 pub is-plain-block-spec : {M : Type 1} → statement M
 is-plain-block-spec =

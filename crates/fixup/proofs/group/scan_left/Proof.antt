@@ -5,7 +5,7 @@ use mathlib.Core.List.{[], _∷_}
 use Rattle.tree.specs.declared.table.Operand.{Operand}
 use Rattle.shapes.specs.Shapes.{shapeRows, firstInShape}
 use Rattle.tree.specs.Trees.{labelAt}
-use Rattle.tree.specs.Walks.{isPresent}
+use Rattle.tree.specs.Steps.{isPresent}
 use Rattle.tree.proofs.Walks.{there}
 use Rattle.tree.proofs.Matches.{root-arm, root-rest}
 use Rattle.shapes.proofs.Shapes.{shape-is}

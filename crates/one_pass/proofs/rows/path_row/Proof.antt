@@ -4,14 +4,14 @@ use mathlib.Core.List.{[], _∷_}
 use Prim.Native.Nat.{ℕ}
 use Rattle.laws.specs.Choice.{pick, lookup}
 use Rattle.tree.specs.Forms.{classOf, highestAttributes, details, highestDetail}
-use Rattle.places.specs.Places.{outputPlace, argumentsPlace, firstPlaces, firstPlace, secondPlaces, secondPlace}
+use Rattle.places.specs.Places.{firstPlaces, firstPlace, secondPlaces, secondPlace}
 use Rattle.one_pass.specs.Rows.{codeIs, suits}
 use Rattle.one_pass.proofs.Arms.{each}
 use Rattle.one_pass.proofs.rows.path_row.Statement.{statement}
 use Rattle.one_pass.proofs.rows.path_row.Tie as tie
 
 pub path-row-spec : {M : Type 1} → statement M
-unfolding suits codeIs firstPlace firstPlaces outputPlace secondPlace secondPlaces argumentsPlace lookup pick classOf highestAttributes highestDetail details
+unfolding suits codeIs firstPlace firstPlaces secondPlace secondPlaces lookup pick classOf highestAttributes highestDetail details
 path-row-spec =
     tie.close
     (tie.spec

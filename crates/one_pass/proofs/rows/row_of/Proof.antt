@@ -6,14 +6,14 @@ use Prim.Native.Nat.{ℕ}
 use lib.Dec.{eqb}
 use Rattle.laws.specs.Choice.{pick, lookup}
 use Rattle.tree.specs.Forms.{classOf, highestAttributes, details, highestDetail}
-use Rattle.places.specs.Places.{outputPlace, argumentsPlace, firstPlaces, firstPlace, secondPlaces, secondPlace}
+use Rattle.places.specs.Places.{firstPlaces, firstPlace, secondPlaces, secondPlace}
 use Rattle.one_pass.specs.Rows.{codeIs, suits}
 use Rattle.one_pass.proofs.Arms.{each}
 use Rattle.one_pass.proofs.rows.row_of.Statement.{statement}
 use Rattle.one_pass.proofs.rows.row_of.Tie as tie
 
 pub row-of-spec : {M : Type 1} → statement M
-unfolding suits codeIs firstPlace firstPlaces outputPlace secondPlace secondPlaces argumentsPlace lookup pick classOf highestAttributes highestDetail details
+unfolding suits codeIs firstPlace firstPlaces secondPlace secondPlaces lookup pick classOf highestAttributes highestDetail details
 row-of-spec =
     tie.close
     (tie.spec

@@ -2,7 +2,6 @@
 use mathlib.Core.Path.{_≡_, refl, sym, _∙_}
 use borrow.Author.Needs.{needs}
 use Rattle.laws.proofs.Keys.{arm, rest}
-use Rattle.places.specs.declared.place.Place.the-variants.{Nothing}
 use Rattle.places.specs.Places.{firstPlace, firstPlaces}
 use Rattle.places.proofs.place.first_place.Statement.{statement}
 use Rattle.places.proofs.place.first_place.Tie as tie
@@ -13,16 +12,16 @@ first-place-spec =
     tie.close
     (tie.spec
     (λ c κs. search needs)
-    (λ c. sym (arm (firstPlaces _) Nothing _ 0 tt (c .match .keys1)))
-    (λ c. sym (arm (firstPlaces _) Nothing _ 1 tt (c .match .keys2)))
-    (λ c. sym (arm (firstPlaces _) Nothing _ 2 tt (c .match .keys3)))
-    (λ c. sym (arm (firstPlaces _) Nothing _ 3 tt (c .match .keys4)))
-    (λ c. sym (arm (firstPlaces _) Nothing _ 4 tt (c .match .keys5)))
-    (λ c. sym (arm (firstPlaces _) Nothing _ 5 tt (c .match .keys6)))
-    (λ c. sym (arm (firstPlaces _) Nothing _ 6 tt (c .match .keys7)))
-    (λ c. sym (arm (firstPlaces _) Nothing _ 7 tt (c .match .keys8)))
-    (λ c. sym (arm (firstPlaces _) Nothing _ 8 tt (c .match .keys9)))
-    (λ c. sym (arm (firstPlaces _) Nothing _ 9 tt (c .match .keys10)))
-    (λ c. c .output-place .ensures ∙ sym (arm (firstPlaces _) Nothing _ 10 tt (c .before .match .keys11)))
-    (λ c. sym (arm (firstPlaces _) Nothing _ 11 tt (c .match .keys12)))
-    (λ c. sym (rest (firstPlaces _) Nothing _ (c .match .rest))))
+    (λ c. sym (arm _ _ _ 0 tt (c .match .keys1)))
+    (λ c. sym (arm _ _ _ 1 tt (c .match .keys2)))
+    (λ c. sym (arm _ _ _ 2 tt (c .match .keys3)))
+    (λ c. sym (arm _ _ _ 3 tt (c .match .keys4)))
+    (λ c. sym (arm _ _ _ 4 tt (c .match .keys5)))
+    (λ c. sym (arm _ _ _ 5 tt (c .match .keys6)))
+    (λ c. sym (arm _ _ _ 6 tt (c .match .keys7)))
+    (λ c. sym (arm _ _ _ 7 tt (c .match .keys8)))
+    (λ c. sym (arm _ _ _ 8 tt (c .match .keys9)))
+    (λ c. sym (arm _ _ _ 9 tt (c .match .keys10)))
+    (λ c. c .output-place .ensures ∙ sym (arm _ _ _ 10 tt (c .before .match .keys11)))
+    (λ c. sym (arm _ _ _ 11 tt (c .match .keys12)))
+    (λ c. sym (rest _ _ _ (c .match .rest))))

@@ -1,5 +1,5 @@
 -- `places::place::is_required` meets its contract. Assumes nothing.
-use Rattle.places.specs.Places.{isRequired}
+use Rattle.places.specs.Steps.{isRequired}
 use borrow.Author.Needs.{needs}
 use Rattle.places.proofs.place.is_required.Statement.{statement}
 use Rattle.places.proofs.place.is_required.Tie as tie

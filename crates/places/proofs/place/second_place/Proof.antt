@@ -2,7 +2,6 @@
 use mathlib.Core.Path.{_≡_, refl, sym, _∙_}
 use borrow.Author.Needs.{needs}
 use Rattle.laws.proofs.Keys.{arm, rest}
-use Rattle.places.specs.declared.place.Place.the-variants.{Nothing}
 use Rattle.places.specs.Places.{secondPlace, secondPlaces}
 use Rattle.places.proofs.place.second_place.Statement.{statement}
 use Rattle.places.proofs.place.second_place.Tie as tie
@@ -13,10 +12,10 @@ second-place-spec =
     tie.close
     (tie.spec
     (λ c κs. search needs)
-    (λ c. sym (arm (secondPlaces _) Nothing _ 0 tt (c .match .keys1)))
-    (λ c. sym (arm (secondPlaces _) Nothing _ 1 tt (c .match .keys2)))
-    (λ c. sym (arm (secondPlaces _) Nothing _ 2 tt (c .match .keys3)))
-    (λ c. sym (arm (secondPlaces _) Nothing _ 3 tt (c .match .keys4)))
-    (λ c. c .arguments-place .ensures ∙ sym (arm (secondPlaces _) Nothing _ 4 tt (c .before .match .keys5)))
-    (λ c. sym (arm (secondPlaces _) Nothing _ 5 tt (c .match .keys6)))
-    (λ c. sym (rest (secondPlaces _) Nothing _ (c .match .rest))))
+    (λ c. sym (arm _ _ _ 0 tt (c .match .keys1)))
+    (λ c. sym (arm _ _ _ 1 tt (c .match .keys2)))
+    (λ c. sym (arm _ _ _ 2 tt (c .match .keys3)))
+    (λ c. sym (arm _ _ _ 3 tt (c .match .keys4)))
+    (λ c. c .arguments-place .ensures ∙ sym (arm _ _ _ 4 tt (c .before .match .keys5)))
+    (λ c. sym (arm _ _ _ 5 tt (c .match .keys6)))
+    (λ c. sym (rest _ _ _ (c .match .rest))))

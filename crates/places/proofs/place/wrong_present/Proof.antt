@@ -1,5 +1,5 @@
 -- `places::place::wrong_present` meets its contract. Assumes nothing.
-use Rattle.places.specs.Places.{wrongPresent}
+use Rattle.places.specs.Steps.{wrongPresent}
 use borrow.Author.Needs.{needs}
 use Rattle.places.proofs.place.wrong_present.Statement.{statement}
 use Rattle.places.proofs.place.wrong_present.Tie as tie

@@ -2,7 +2,7 @@
 use mathlib.Core.Path.{_≡_, refl, sym, ap, _∙_}
 use Prim.Native.Nat.{ℕ, _≤_}
 use native.Mathlib.Omega.{arith}
-use Rattle.laws.proofs.Keys.{arm, found, past-rows, upTo, in-range}
+use Rattle.laws.proofs.Keys.{in-row, found, past-rows, upTo, in-range}
 use Rattle.precedence.specs.declared.Precedence.the-variants.{Jump}
 use Rattle.precedence.specs.Precedences.{operators, ofBinop}
 use Rattle.precedence.proofs.Precedence.of_binop.Statement.{statement}
@@ -13,23 +13,23 @@ shifts x h a b c d e = omega arith
 
 returns : tie.Need-returns
 unfolding ofBinop operators
-returns c = sym (arm operators Jump _ 2 tt (c .match .keys1))
+returns c = sym (in-row operators Jump _ 2 tt (c .match .keys1))
 
 returns-2 : tie.Need-returns-2
 unfolding ofBinop operators
-returns-2 c = sym (arm operators Jump _ 3 tt (c .match .keys2))
+returns-2 c = sym (in-row operators Jump _ 3 tt (c .match .keys2))
 
 returns-3 : tie.Need-returns-3
 unfolding ofBinop operators
-returns-3 c = sym (arm operators Jump _ 4 tt (c .match .keys3))
+returns-3 c = sym (in-row operators Jump _ 4 tt (c .match .keys3))
 
 returns-4 : tie.Need-returns-4
 unfolding ofBinop operators
-returns-4 c = sym (arm operators Jump _ 5 tt (c .match .keys4))
+returns-4 c = sym (in-row operators Jump _ 5 tt (c .match .keys4))
 
 returns-5 : tie.Need-returns-5
 unfolding ofBinop operators
-returns-5 c = sym (arm operators Jump _ 6 tt (c .match .keys5))
+returns-5 c = sym (in-row operators Jump _ 6 tt (c .match .keys5))
 
 returns-6 : tie.Need-returns-6
 unfolding ofBinop operators

@@ -7,7 +7,7 @@ use lib.Dec.{eqb}
 use Rattle.tree.specs.declared.table.Operand.{Operand}
 use Rattle.shapes.specs.Shapes.{shapeRows, firstInShape}
 use Rattle.tree.specs.Trees.{labelAt}
-use Rattle.tree.specs.Walks.{treeOf}
+use Rattle.tree.specs.Steps.{treeOf}
 use Rattle.tree.proofs.Matches.{root-arm, root-rest}
 use Rattle.shapes.proofs.Shapes.{shape-is}
 use Rattle.tree.proofs.Walks.{tree-of}
