@@ -19,12 +19,12 @@ use Rattle.rules.proofs.Depth.{levels-node}
 use Rattle.scan.specs.Arms.{armOf}
 use Rattle.scan.proofs.Levels.{link-form}
 use Rattle.scan.proofs.Nodes.{operand-above, operand-below}
-use Rattle.walk.specs.Paths.{Step, first, second, treeBy}
+use Rattle.walk.specs.Paths.{Branch, first, second, treeBy}
 use Rattle.walk.proofs.Paths.{tree-at, reached}
 use Rattle.work.specs.Recursion.{Nested}
 
 -- a path does not lead to more levels
-path-levels : (t : Tree) (p : List Step) → levels (treeBy t p) ≤ levels t
+path-levels : (t : Tree) (p : List Branch) → levels (treeBy t p) ≤ levels t
 unfolding levels
 path-levels t [] = omega arith
 path-levels none (s ∷ p) = omega arith
