@@ -10,8 +10,9 @@ use Rattle.laws.specs.Choice.{pick, lookup}
 use Rattle.laws.proofs.Choice.{alike, alike-same}
 use Rattle.laws.proofs.Each.{all-at}
 use Rattle.laws.proofs.Keys.{past-rows}
-use Rattle.grammar.specs.Tokens.{Token, Await, operators}
+use Rattle.grammar.specs.Tokens.{Token, Await, allOperators}
 use Rattle.grammar.specs.Codes.{spelled, tokenOf}
+use Rattle.grammar.specs.Levels.{kind}
 use Rattle.grammar.specs.Grammar.{opensArguments}
 use Rattle.grammar.specs.Next.{Next, nextOf, levelAt}
 use Rattle.follow.specs.Follow.{beforeAt, barredAt}
@@ -20,7 +21,7 @@ use Rattle.follow.specs.Tables.{levelRows, pastRows, levelPast, levelOf,
 -- from 46 on a code stands for no token, and nothing goes on
 past-token : (n : ℕ) → 46 ≤ n → tokenOf n ≡ Await
 unfolding tokenOf
-past-token n h = List·getD-eq-default (spelled operators) Await h
+past-token n h = List·getD-eq-default (spelled allOperators) Await h
 
 past-level : (n : ℕ) → 46 ≤ n → levelOf n ≡ 0
 unfolding levelOf levelPast levelRows pastRows
@@ -35,14 +36,14 @@ each-code f g below above n = go (decLe 46 n)
     go (no h) = below n (omega arith)
 
 pub level-at : (n : ℕ) → levelOf n ≡ levelAt (nextOf (tokenOf n))
-unfolding tokenOf levelOf levelPast levelRows pastRows lookup pick
+unfolding tokenOf levelOf levelPast levelRows pastRows kind lookup pick
 level-at = each-code levelOf (λ t. levelAt (nextOf t)) below past-level
   where
     below : (n : ℕ) → n < 46 → levelOf n ≡ levelAt (nextOf (tokenOf n))
     below n h = eqb→eq (levelOf n) (levelAt (nextOf (tokenOf n))) (all-at (λ m. eqb (levelOf m) (levelAt (nextOf (tokenOf m)))) 46 tt n h)
 
 pub before-at : (n : ℕ) → beforeOf (levelAt (nextOf (tokenOf n))) ≡ beforeAt (nextOf (tokenOf n))
-unfolding tokenOf beforeOf levelOf levelPast levelRows pastRows lookup pick
+unfolding tokenOf beforeOf levelOf levelPast levelRows pastRows kind lookup pick
 before-at n = ap beforeOf (sym (level-at n)) ∙ each-code (λ m. beforeOf (levelOf m)) (λ t. beforeAt (nextOf t)) below above n
   where
     below : (n : ℕ) → n < 46 → beforeOf (levelOf n) ≡ beforeAt (nextOf (tokenOf n))

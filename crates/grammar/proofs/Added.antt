@@ -5,7 +5,7 @@ use Prim.Native.Nat.{ℕ, suc}
 use lib.Dec.{ltb}
 use Rattle.laws.specs.Choice.{pick}
 use Rattle.grammar.specs.Tokens.{Operator}
-use Rattle.grammar.specs.Levels.{casts, prefixes, postfixes, Lean, left, right, neither, kind, level, lean, before, after}
+use Rattle.grammar.specs.Levels.{casts, prefixes, postfixes, kind, level, leansRight, before, after}
 use Rattle.grammar.specs.Types.{Sort, one, typeEndsInName}
 use Rattle.grammar.specs.Expressions.{Expr, atom, paren, prefix, binary, cast, member, try, index, call, method, noArguments, arguments, lastArgument, moreArguments, kindOf, endsInDotName}
 use Rattle.grammar.specs.Grammar.{opensArguments}
@@ -32,13 +32,12 @@ abbrev pub tooWeak : ℕ → Bool → Expr one → Bool
 tooWeak n g a = ltb (strength g a) n
 
 -- right of an operator. An assignment's level is the lowest, so that nothing is too weak there
-abbrev pub lowestRight : Lean → ℕ → ℕ
-lowestRight left n = suc n
-lowestRight right n = 0
-lowestRight neither n = suc n
+abbrev pub lowestRight : Bool → ℕ → ℕ
+lowestRight true n = 0
+lowestRight false n = suc n
 
 abbrev pub tooWeakAfter : Operator → Bool → Expr one → Bool
-tooWeakAfter o g b = tooWeak (lowestRight (lean (kind o)) (level (kind o))) g b
+tooWeakAfter o g b = tooWeak (lowestRight (leansRight (kind o)) (level (kind o))) g b
 
 abbrev pub tooWeakBefore : Operator → Expr one → Bool
 tooWeakBefore o a = tooWeak (before (kind o)) (opensArguments o) a

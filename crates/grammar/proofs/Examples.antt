@@ -6,6 +6,7 @@ use Prim.Native.Nat.{ℕ}
 use Rattle.laws.specs.Choice.{pick, lookup}
 use Rattle.grammar.specs.Tokens.{Operator, Add, Sub, Mul, And, Or, BitXor, BitAnd, BitOr, Shl, Eq, Lt, Le, Assign}
 use Rattle.grammar.specs.Codes.{tokenOf, tokensOf}
+use Rattle.grammar.specs.Levels.{kind}
 use Rattle.grammar.specs.Types.{one, named, applied, types, lastType}
 use Rattle.grammar.specs.Expressions.{path, neg, byName, byNumber, Expr, atom, paren, prefix, binary, cast, member, try, call, method, noArguments, arguments, lastArgument}
 use Rattle.grammar.specs.Grammar.{NONE, opensArguments}
@@ -96,5 +97,5 @@ all f [] = []
 all f (k ∷ ks) = f k ∷ all f ks
 
 pub examples-hold : all (λ k. k .given) examples ≡ all (λ k. k .expected) examples
-unfolding pick lookup tokenOf opensArguments strength startOf typeStartOf afterDotOf goesOn typeBy exprBy parse
+unfolding pick lookup kind tokenOf opensArguments strength startOf typeStartOf afterDotOf goesOn typeBy exprBy parse
 examples-hold = refl

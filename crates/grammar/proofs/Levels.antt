@@ -21,7 +21,7 @@ use Rattle.grammar.proofs.Tokens.{allIn, all-in, each-operator, ofOpera
 
 -- an operator's level is the precedence that of_binop gives; `=`, which is no Binary operator, has that of Assign
 pub binop-level : (o : Operator) → number o < 28 → rankOf (ofBinop (number o)) ≡ level (kind o)
-unfolding ofBinop operators lookup pick
+unfolding ofBinop operators lookup pick kind
 binop-level o h =
     go (eqb (number o) 28) refl (each-operator (λ x. pick (eqb (number x) 28) true (eqb (rankOf (ofBinop (number x))) (level (kind x)))) tt o)
   where
@@ -30,6 +30,7 @@ binop-level o h =
     go false e t = eqb→eq (rankOf (ofBinop (number o))) (level (kind o)) t
 
 pub form-levels : (rankOf AssignPrecedence ≡ level (kind Assign)) × (rankOf Cast ≡ level casts) × (rankOf Prefix ≡ level prefixes) × (rankOf Unambiguous ≡ level postfixes)
+unfolding kind lookup pick
 form-levels = (refl, refl, refl, refl)
 
 -- one operator's level is below another's exactly where the Reference has it weaker
@@ -86,19 +87,25 @@ pub operator-le : (f g : Kind → ℕ) → T (ofOperators (λ o. leb (f (kind o)
 operator-le f g h o = leb→le (f (kind o)) (g (kind o)) (each-operator (λ x. leb (f (kind x)) (g (kind x))) h o)
 
 pub operator-low : (o : Operator) → 1 ≤ level (kind o)
+unfolding kind lookup pick
 operator-low = operator-le (λ k. 1) level tt
 
 pub operator-high : (o : Operator) → level (kind o) ≤ 12
+unfolding kind lookup pick
 operator-high = operator-le level (λ k. 12) tt
 
 pub after-low : (o : Operator) → level (kind o) ≤ after (kind o)
+unfolding kind lookup pick
 after-low = operator-le level after tt
 
 pub after-high : (o : Operator) → after (kind o) ≤ 13
+unfolding kind lookup pick
 after-high = operator-le after (λ k. 13) tt
 
 pub before-low : (o : Operator) → 2 ≤ before (kind o)
+unfolding kind lookup pick
 before-low = operator-le (λ k. 2) before tt
 
 pub before-high : (o : Operator) → before (kind o) ≤ 12
+unfolding kind lookup pick
 before-high = operator-le before (λ k. 12) tt

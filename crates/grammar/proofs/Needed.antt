@@ -15,7 +15,7 @@ use Rattle.grammar.specs.Expressions.{Expr, atom, paren, prefix, binary,
 use Rattle.grammar.specs.Grammar.{Context, NONE, AtLeast, opensArguments, OperatorMayFollow, CallMayFollow, fits}
 use Rattle.grammar.specs.Bare.{bare}
 use Rattle.grammar.proofs.Added.{isCastToName, strength, tooWeak, tooWeakAfter, tooWeakBefore, tooWeakToCall, addPairs, PairAt, Pair, dropAt, dropPair}
-use Rattle.grammar.proofs.Pairs.{with-bare, bare-pairs, same-kind, same-dot-name, lowest, lowest-after}
+use Rattle.grammar.proofs.Pairs.{with-bare, bare-pairs, same-kind, same-dot-name, rightLowest, lowest-after}
 
 -- ---- it is the same tree but for parentheses
 
@@ -118,7 +118,7 @@ needed s (binary o a b) c g (inl q) k =
     let w = needed-at c (tooWeakBefore o a) (opensArguments o) (before (kind o)) a refl (needed one a) q (k .0) (k .3) in
     absurd (no-left o d (k .2) (w .0) (w .1))
 needed s (binary o a b) c g (inr q) k =
-    needed-at c (tooWeakAfter o g b) g (lowest (kind o)) b refl (needed one b) q (omega (arith, lowest-after o, k .1)) (k .4)
+    needed-at c (tooWeakAfter o g b) g (rightLowest (kind o)) b refl (needed one b) q (omega (arith, lowest-after o, k .1)) (k .4)
 needed s (cast a t) c g q k = no (needed-at c (tooWeak (before casts) false a) false 13 a refl (needed one a) q (k .0) (k .1) .0)
 needed s (member m a) c g q k = no (needed-at c (tooWeak (before postfixes) false a) false 15 a refl (needed one a) q (k .0) (k .1) .0)
 needed s (try a) c g q k = no (needed-at c (tooWeak (before postfixes) false a) false 15 a refl (needed one a) q (k .0) (k .1) .0)

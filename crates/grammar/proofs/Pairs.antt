@@ -5,10 +5,10 @@ use Prim.Native.Nat.{ℕ, suc, pred, _≤_, _<_}
 use native.Mathlib.Omega.{arith}
 use lib.Dec.{leb, leb→le}
 use borrow.Author.Tests.{le-leb, ltb-false}
-use Rattle.laws.specs.Choice.{pick}
+use Rattle.laws.specs.Choice.{pick, lookup}
 use Rattle.laws.proofs.Choice.{or-false}
 use Rattle.grammar.specs.Tokens.{Operator}
-use Rattle.grammar.specs.Levels.{Kind, casts, prefixes, postfixes, kind, level, lean, before, after}
+use Rattle.grammar.specs.Levels.{Kind, casts, prefixes, postfixes, kind, level, leansRight, before, after}
 use Rattle.grammar.specs.Types.{Sort, one, typeEndsInName}
 use Rattle.grammar.specs.Expressions.{Member, byName, byNumber, awaited, Expr, atom, paren, prefix, binary, cast, member, try, index, call, method, noArguments, arguments, lastArgument, moreArguments, kindOf, endsInTypeName, endsInDotName}
 use Rattle.grammar.specs.Grammar.{Context, NONE, AtLeast, opensArguments, OperatorMayFollow, CallMayFollow, fits}
@@ -91,19 +91,22 @@ strength-no-range g e h = go (g && isCastToName e) h
     go true q = omega arith
     go false q = no-range (kindOf e) q
 
-abbrev pub lowest : Kind → ℕ
-lowest k = lowestRight (lean k) (level k)
+abbrev pub rightLowest : Kind → ℕ
+rightLowest k = lowestRight (leansRight k) (level k)
 
-pub lowest-after : (o : Operator) → lowest (kind o) ≤ after (kind o)
-lowest-after = operator-le lowest after tt
+pub lowest-after : (o : Operator) → rightLowest (kind o) ≤ after (kind o)
+unfolding kind lookup pick
+lowest-after = operator-le rightLowest after tt
 
-after-lowest : (o : Operator) → after (kind o) ≤ suc (pred (lowest (kind o)))
-after-lowest = operator-le after (λ k. suc (pred (lowest k))) tt
+after-lowest : (o : Operator) → after (kind o) ≤ suc (pred (rightLowest (kind o)))
+unfolding kind lookup pick
+after-lowest = operator-le after (λ k. suc (pred (rightLowest k))) tt
 
-two-lowest : (o : Operator) → 2 ≤ level (kind o) → 2 ≤ lowest (kind o)
+two-lowest : (o : Operator) → 2 ≤ level (kind o) → 2 ≤ rightLowest (kind o)
+unfolding kind lookup pick
 two-lowest o h =
-    leb→le 2 (lowest (kind o))
-    (rw (le-leb 2 (level (kind o)) h) at (each-operator (λ x. not (leb 2 (level (kind x))) || leb 2 (lowest (kind x))) tt o))
+    leb→le 2 (rightLowest (kind o))
+    (rw (le-leb 2 (level (kind o)) h) at (each-operator (λ x. not (leb 2 (level (kind x))) || leb 2 (rightLowest (kind x))) tt o))
 
 with-level : (p g : Bool) (n : ℕ) (a : Expr one) → tooWeak n g a ≡ p → n ≤ 15 → AtLeast n (withPair p g (addPairs a))
 with-level true g n a q h = h
@@ -111,7 +114,7 @@ with-level false g n a q h = rw (same-kind a g) (omega (arith, ltb-false (streng
 
 right-level : (p g : Bool) (o : Operator) (b : Expr one) → tooWeakAfter o g b ≡ p → AtLeast (after (kind o)) (withPair p g (addPairs b))
 right-level true g o b q = omega (arith, after-high o)
-right-level false g o b q = rw (same-kind b g) (omega (arith, ltb-false (strength g b) (lowest (kind o)) q, after-lowest o, strength-le g b, low b))
+right-level false g o b q = rw (same-kind b g) (omega (arith, ltb-false (strength g b) (rightLowest (kind o)) q, after-lowest o, strength-le g b, low b))
 
 -- ---- the two rules
 
@@ -130,7 +133,7 @@ unfolding strength pick
 no-end (atom x) h = refl
 no-end (paren a) h = refl
 no-end (prefix p a) h = with-end (tooWeak (after prefixes) true a) 14 a (omega arith) refl (no-end a)
-no-end (binary o a b) h = with-end (tooWeakAfter o true b) (lowest (kind o)) b (two-lowest o h) refl (no-end b)
+no-end (binary o a b) h = with-end (tooWeakAfter o true b) (rightLowest (kind o)) b (two-lowest o h) refl (no-end b)
 no-end (cast a t) h = cast-end (typeEndsInName t) h
 no-end (member m a) h = refl
 no-end (try a) h = refl

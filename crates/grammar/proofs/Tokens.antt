@@ -10,7 +10,7 @@ use borrow.Author.Tests.{lt-ltb}
 use Rattle.laws.proofs.Choice.{true-of, of-true, and-true}
 use Rattle.laws.proofs.Each.{all-at}
 use Rattle.laws.proofs.Keys.{allBelow}
-use Rattle.grammar.specs.Tokens.{Operator, Add, Sub, Mul, Div, Rem, And, Or, BitXor, BitAnd, BitOr, Shl, Shr, Eq, Lt, Le, Ne, Ge, Gt, AddAssign, SubAssign, MulAssign, DivAssign, RemAssign, BitXorAssign, BitAndAssign, BitOrAssign, ShlAssign, ShrAssign, Assign, number, Token, operator, code, Bang, AndMut, As, Name, Literal, Dot, LeftParen, RightParen, LeftBracket, RightBracket, Comma, Question, StarConst, StarMut, Underscore, NumberedMember, Await, operators, operatorOf, codesOf}
+use Rattle.grammar.specs.Tokens.{Operator, Add, Sub, Mul, Div, Rem, And, Or, BitXor, BitAnd, BitOr, Shl, Shr, Eq, Lt, Le, Ne, Ge, Gt, AddAssign, SubAssign, MulAssign, DivAssign, RemAssign, BitXorAssign, BitAndAssign, BitOrAssign, ShlAssign, ShrAssign, Assign, number, Token, operator, code, Bang, AndMut, As, Name, Literal, Dot, LeftParen, RightParen, LeftBracket, RightBracket, Comma, Question, StarConst, StarMut, Underscore, NumberedMember, Await, allOperators, operatorOf, codesOf}
 use Rattle.grammar.specs.Codes.{spelled, tokenOf, tokensOf}
 
 -- ---- the operators, by number
@@ -59,13 +59,13 @@ all-in p d (a ∷ more) t h (suc n) = all-in p d more t (of-true (and-true (p a)
 
 -- a rule for every operator is one computed test
 abbrev pub ofOperators : (Operator → Bool) → Bool
-ofOperators p = p Assign && allIn p operators
+ofOperators p = p Assign && allIn p allOperators
 
 pub each-operator : (p : Operator → Bool) → T (ofOperators p) → (o : Operator) → T (p o)
 unfolding operatorOf
 each-operator p h o =
-    let d = and-true (p Assign) (allIn p operators) (true-of h) in
-    subst (λ x. T (p x)) (operator-number o) (all-in p Assign operators (of-true (d .0)) (of-true (d .1)) (number o))
+    let d = and-true (p Assign) (allIn p allOperators) (true-of h) in
+    subst (λ x. T (p x)) (operator-number o) (all-in p Assign allOperators (of-true (d .0)) (of-true (d .1)) (number o))
 
 pub number-operator : (n : ℕ) → n < 29 → number (operatorOf n) ≡ n
 unfolding operatorOf
@@ -84,7 +84,7 @@ at-place (o ∷ os) (suc n) d h = at-place os n d (omega arith)
 
 pub token-code : (t : Token) → tokenOf (code t) ≡ t
 unfolding tokenOf operatorOf
-token-code (operator o) = at-place operators (number o) Assign (number-below o) ∙ ap operator (operator-number o)
+token-code (operator o) = at-place allOperators (number o) Assign (number-below o) ∙ ap operator (operator-number o)
 token-code Bang = refl
 token-code AndMut = refl
 token-code As = refl
@@ -122,13 +122,13 @@ codes-tokens (n ∷ ns) h =
 
 -- a rule for every token is one computed test
 abbrev pub ofTokens : (Token → Bool) → Bool
-ofTokens p = p Await && allIn p (spelled operators)
+ofTokens p = p Await && allIn p (spelled allOperators)
 
 pub each-token : (p : Token → Bool) → T (ofTokens p) → (t : Token) → T (p t)
 unfolding tokenOf
 each-token p h t =
-    let d = and-true (p Await) (allIn p (spelled operators)) (true-of h) in
-    subst (λ x. T (p x)) (token-code t) (all-in p Await (spelled operators) (of-true (d .0)) (of-true (d .1)) (code t))
+    let d = and-true (p Await) (allIn p (spelled allOperators)) (true-of h) in
+    subst (λ x. T (p x)) (token-code t) (all-in p Await (spelled allOperators) (of-true (d .0)) (of-true (d .1)) (code t))
 
 pub code-below : (t : Token) → code t < 46
 code-below t = ltb→lt (code t) 46 (each-token (λ x. ltb (code x) 46) tt t)

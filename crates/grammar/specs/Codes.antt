@@ -2,7 +2,7 @@
 use mathlib.Core.List.{List, [], _∷_}
 use Prim.Native.Nat.{ℕ}
 use lib.ListN.{getD}
-use Rattle.grammar.specs.Tokens.{Operator, operators, Token, operator, Bang, AndMut, As, Name, Literal, Dot, LeftParen, RightParen, LeftBracket, RightBracket, Comma, Question, StarConst, StarMut, Underscore, NumberedMember, Await}
+use Rattle.grammar.specs.Tokens.{Operator, allOperators, Token, operator, Bang, AndMut, As, Name, Literal, Dot, LeftParen, RightParen, LeftBracket, RightBracket, Comma, Question, StarConst, StarMut, Underscore, NumberedMember, Await}
 
 -- those that are no operators, in the order of their codes
 abbrev pub others : List Token
@@ -15,7 +15,7 @@ spelled (o ∷ os) = operator o ∷ spelled os
 
 -- from 46 on no token has the code
 unfoldable pub tokenOf : ℕ → Token
-tokenOf n = getD (spelled operators) n Await
+tokenOf n = getD (spelled allOperators) n Await
 
 abbrev pub tokensOf : List ℕ → List Token
 tokensOf [] = []

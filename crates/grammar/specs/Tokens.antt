@@ -74,9 +74,9 @@ codesOf [] = []
 codesOf (t ∷ ts) = code t ∷ codesOf ts
 
 -- in the order of their numbers
-abbrev pub operators : List Operator
-operators = Add ∷ Sub ∷ Mul ∷ Div ∷ Rem ∷ And ∷ Or ∷ BitXor ∷ BitAnd ∷ BitOr ∷ Shl ∷ Shr ∷ Eq ∷ Lt ∷ Le ∷ Ne ∷ Ge ∷ Gt ∷ AddAssign ∷ SubAssign ∷ MulAssign ∷ DivAssign ∷ RemAssign ∷ BitXorAssign ∷ BitAndAssign ∷ BitOrAssign ∷ ShlAssign ∷ ShrAssign ∷ Assign ∷ []
+abbrev pub allOperators : List Operator
+allOperators = Add ∷ Sub ∷ Mul ∷ Div ∷ Rem ∷ And ∷ Or ∷ BitXor ∷ BitAnd ∷ BitOr ∷ Shl ∷ Shr ∷ Eq ∷ Lt ∷ Le ∷ Ne ∷ Ge ∷ Gt ∷ AddAssign ∷ SubAssign ∷ MulAssign ∷ DivAssign ∷ RemAssign ∷ BitXorAssign ∷ BitAndAssign ∷ BitOrAssign ∷ ShlAssign ∷ ShrAssign ∷ Assign ∷ []
 
 -- the operator with a number; from 29 on none has it
 unfoldable pub operatorOf : ℕ → Operator
-operatorOf n = getD operators n Assign
+operatorOf n = getD allOperators n Assign

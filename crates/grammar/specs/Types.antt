@@ -52,12 +52,8 @@ writeType (lastType t) rest = writeType t (operator Gt ∷ rest)
 writeType (moreTypes t l) rest = writeType t (Comma ∷ writeType l rest)
 
 -- whether its last token is a type name
-abbrev pub typeEndsInName : {s : Sort} → Ty s → Bool
+abbrev pub typeEndsInName : Ty one → Bool
 typeEndsInName named = true
 typeEndsInName (applied l) = false
 typeEndsInName (pointing p t) = typeEndsInName t
 typeEndsInName (sign x) = false
-typeEndsInName noTypes = false
-typeEndsInName (types l) = false
-typeEndsInName (lastType t) = false
-typeEndsInName (moreTypes t l) = false

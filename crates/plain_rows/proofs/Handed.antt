@@ -97,7 +97,7 @@ module _ (x : FixupContext) (c : Calm x) (s : Settled x) where
   prefix-first refMut a = at-end rank.Prefix 14 a (omega arith)
 
   pub binary-first : (o : Operator) (a b : Expr one) → Operand (handsFirst x (treeOf (binary o a b))) a (tooWeakBefore o a) (opensArguments o)
-  unfolding handsFirst firstRows atRoot lookup pick operatorLabel opensArguments
+  unfolding handsFirst firstRows atRoot lookup pick operatorLabel opensArguments kind
   binary-first o a b = go (operated o)
     where
       go : Operating o → Operand (handsFirst x (treeOf (binary o a b))) a (tooWeakBefore o a) (opensArguments o)
@@ -105,7 +105,7 @@ module _ (x : FixupContext) (c : Calm x) (s : Settled x) where
       go (operating h e) = rw e (before-binary o h a)
 
   pub binary-second : (o : Operator) (a b : Expr one) → Operand (handsSecond x (treeOf (binary o a b))) b (tooWeakAfter o g b) g
-  unfolding handsSecond secondRows atRoot lookup pick operatorLabel binaryRight
+  unfolding handsSecond secondRows atRoot lookup pick operatorLabel binaryRight kind
   binary-second o a b = go (operated o)
     where
       go : Operating o → Operand (handsSecond x (treeOf (binary o a b))) b (tooWeakAfter o g b) g

@@ -46,7 +46,7 @@ operated o = go (eqb (number o) 28) refl
 
 -- ---- types: a type name at the end
 
-pub path-ends : {s : Sort} (t : Ty s) → trailingPath (treeOfType t) ≡ typeEndsInName t
+pub path-ends : (t : Ty one) → trailingPath (treeOfType t) ≡ typeEndsInName t
 unfolding trailingPath walk follow pathRows lastTypeInPath lookup pick
 path-ends named = refl
 path-ends (applied l) = refl
@@ -56,14 +56,6 @@ path-ends (pointing sharedRef t) = path-ends t
 path-ends (pointing mutRef t) = path-ends t
 path-ends (sign infer) = refl
 path-ends (sign never) = refl
-path-ends noTypes = refl
-path-ends (types l) = path-list l
-  where
-    path-list : (l : Ty items) → trailingPath (treeOfType l) ≡ false
-    path-list (lastType t) = refl
-    path-list (moreTypes t m) = refl
-path-ends (lastType t) = refl
-path-ends (moreTypes t l) = refl
 
 -- ---- what a plain expression is to `precedence` and the rows
 
@@ -76,7 +68,7 @@ pub record Facts (e : Expr one) : Type 0 where
   pub there : isThere (treeOf e) ≡ true
 
 pub facts : (e : Expr one) → Facts e
-unfolding precedenceOf walk follow ofRows closedBy prefixAttrs isCastToPath isBareJump isOpenAhead atRoot lookup pick classOf operatorLabel ofBinop
+unfolding precedenceOf walk follow ofRows closedBy prefixAttrs isCastToPath isBareJump isOpenAhead atRoot lookup pick classOf operatorLabel ofBinop kind
 facts (atom path) = record { precedence = refl; cast-to-path = refl; no-jump = refl; not-ahead = refl; expression = refl; there = refl }
 facts (atom literal) = record { precedence = refl; cast-to-path = refl; no-jump = refl; not-ahead = refl; expression = refl; there = refl }
 facts (paren a) = record { precedence = refl; cast-to-path = refl; no-jump = refl; not-ahead = refl; expression = refl; there = refl }

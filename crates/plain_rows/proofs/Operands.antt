@@ -82,7 +82,7 @@ module _ (x : FixupContext) (high : rankOf (x .«previous_operator») ≤ 14) wh
       go false e = le-ltb p (rankOf q) (k .at-most)
 
   scan-left-not : (e : Expr one) → Passes p (level (kindOf e)) → scanLeft (treeOf e) x ≡ false
-  unfolding scanLeft scanLeftRows atRoot lookup pick operatorLabel leftOfBinary
+  unfolding scanLeft scanLeftRows atRoot lookup pick operatorLabel leftOfBinary kind
   scan-left-not (atom y) k = strong 15 (omega arith) k
   scan-left-not (paren a) k = strong 15 (omega arith) k
   scan-left-not (prefix q a) k = strong 14 (omega arith) k

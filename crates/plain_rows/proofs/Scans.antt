@@ -79,6 +79,7 @@ not-true true h = absurd h
 not-true false h = refl
 
 fine-binop : (o : Operator) → number o < 28 → Fine (ofBinop (number o))
+unfolding kind lookup pick
 fine-binop o h = record { no-range = rw (binop-level o h) (off 2 tt); no-let = rw (binop-level o h) (off 5 tt) }
   where
     off : (n : ℕ) → T (ofOperators (λ p. not (eqb (level (kind p)) n))) → eqb (level (kind o)) n ≡ false

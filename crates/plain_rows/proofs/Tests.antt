@@ -24,7 +24,7 @@ use Rattle.expr.specs.Expr.{canBeginExpr, canBeginGenerics, leftTest, rightTest
 use Rattle.row.specs.Rows.{precedenceIn, outerPair}
 use Rattle.grammar.specs.Tokens.{Operator, number}
 use Rattle.grammar.specs.Tokens as token
-use Rattle.grammar.specs.Levels.{kind, level, lean, before, postfixes}
+use Rattle.grammar.specs.Levels.{kind, level, leansRight, before, postfixes}
 use Rattle.grammar.specs.Types.{one}
 use Rattle.grammar.specs.Expressions.{Atom, path, literal, Prefix, neg, deref, invert, ref, refMut, Member, byName, byNumber, awaited, Expr, atom, paren, prefix, binary, cast, member, try, index, call, method, kindOf, endsInDotName}
 use Rattle.grammar.specs.Grammar.{opensArguments}
@@ -119,7 +119,7 @@ pub assign-test : (g : Bool) (a : Expr one) → ltb (strength g a) 3 ≡ ltb (st
 assign-test g a = no-two (strength g a) (strength-no-range g a)
 
 pub left-test : (o : Operator) → number o < 28 → (g : Bool) (a : Expr one) → ltb (strength g a) (leftTest (ofBinop (number o))) ≡ ltb (strength g a) (before (kind o))
-unfolding leftTest ofBinop operators lookup pick
+unfolding leftTest ofBinop operators lookup pick kind
 left-test o h g a = go (eqb (level (kind o)) 1) refl
   where
     go : (b : Bool) → eqb (level (kind o)) 1 ≡ b → ltb (strength g a) (leftTest (ofBinop (number o))) ≡ ltb (strength g a) (before (kind o))
@@ -132,9 +132,9 @@ left-test o h g a = go (eqb (level (kind o)) 1) refl
         ap (ltb (strength g a))
         (equal-unless (eqb (level (kind o)) 1) (leftTest (ofBinop (number o))) (before (kind o)) e (but-assign (λ q. eqb (level (kind q)) 1 || eqb (leftTest (ofBinop (number q))) (before (kind q))) tt o h))
 
-pub right-test : (o : Operator) → number o < 28 → rightTest (ofBinop (number o)) ≡ lowestRight (lean (kind o)) (level (kind o))
-unfolding rightTest ofBinop operators lookup pick
-right-test o h = eqb→eq (rightTest (ofBinop (number o))) (lowestRight (lean (kind o)) (level (kind o))) (but-assign (λ q. eqb (rightTest (ofBinop (number q))) (lowestRight (lean (kind q)) (level (kind q)))) tt o h)
+pub right-test : (o : Operator) → number o < 28 → rightTest (ofBinop (number o)) ≡ lowestRight (leansRight (kind o)) (level (kind o))
+unfolding rightTest ofBinop operators lookup pick kind
+right-test o h = eqb→eq (rightTest (ofBinop (number o))) (lowestRight (leansRight (kind o)) (level (kind o))) (but-assign (λ q. eqb (rightTest (ofBinop (number q))) (lowestRight (leansRight (kind q)) (level (kind q)))) tt o h)
 
 -- ---- what is called: a Field by its member alone, anything else by its strength
 
@@ -142,7 +142,7 @@ weak-call : (a : Expr one) → strength false a < 15 → ltb (strength false a) 
 weak-call a h = rw (lt-ltb (strength false a) 15 h)
 
 pub call-test : (a : Expr one) → ltb (strength false a) (callTest (treeOf a)) ≡ tooWeakToCall a
-unfolding callTest atRoot lookup pick strength operatorLabel
+unfolding callTest atRoot lookup pick strength operatorLabel kind
 call-test (atom path) = refl
 call-test (atom literal) = refl
 call-test (paren a) = refl

@@ -29,19 +29,19 @@ pub operator-token : (n : ℕ) → n < 29 → tokenOf n ≡ operator (operatorOf
 operator-token n h = code-same (tokenOf n) (operator (operatorOf n)) (code-token n (omega arith) ∙ sym (number-operator n h))
 
 pub operator-level : (n : ℕ) → n < 29 → levelOf n ≡ level (kind (operatorOf n))
-unfolding operatorOf tokenOf
+unfolding operatorOf tokenOf kind lookup pick
 operator-level n h = eqb→eq (levelOf n) (level (kind (operatorOf n))) (all-at (λ m. eqb (levelOf m) (level (kind (operatorOf m)))) 29 tt n h)
 
 pub operator-after : (n : ℕ) → n < 29 → afterOf (levelOf n) ≡ after (kind (operatorOf n))
-unfolding operatorOf tokenOf afterOf pick
+unfolding operatorOf tokenOf afterOf kind lookup pick
 operator-after n h = eqb→eq (afterOf (levelOf n)) (after (kind (operatorOf n))) (all-at (λ m. eqb (afterOf (levelOf m)) (after (kind (operatorOf m)))) 29 tt n h)
 
 pub level-most : (n : ℕ) → n < 29 → levelOf n ≤ 15
-unfolding tokenOf
+unfolding tokenOf kind lookup pick
 level-most n h = leb→le (levelOf n) 15 (all-at (λ m. leb (levelOf m) 15) 29 tt n h)
 
 pub after-least : (n : ℕ) → n < 29 → 1 ≤ afterOf (levelOf n)
-unfolding tokenOf afterOf pick
+unfolding tokenOf afterOf kind lookup pick
 after-least n h = leb→le 1 (afterOf (levelOf n)) (all-at (λ m. leb 1 (afterOf (levelOf m))) 29 tt n h)
 
 pub operator-labelled : (n : ℕ) → n < 29 → label (operatorForm n) (operatorDetail n) ≡ operatorLabel (operatorOf n)

@@ -17,7 +17,7 @@ use Rattle.tree.specs.Operands.{presence}
 use Rattle.tree.specs.Trees.{labelAt, operandAt, treeAt}
 use Rattle.tree.specs.Steps.{isPresent}
 use Rattle.tree.proofs.Walks.{there}
-use Rattle.grammar.specs.Tokens.{Token, operator, Assign, Lt, Gt, Name, code, number, operators, operatorOf, codesOf}
+use Rattle.grammar.specs.Tokens.{Token, operator, Assign, Lt, Gt, Name, code, number, allOperators, operatorOf, codesOf}
 use Rattle.plain.specs.Written.{signs, signRows, signsOf}
 use Rattle.token_writer.specs.declared.signs.Few.{Few}
 use Rattle.token_writer.specs.declared.signs.Few.the-variants.{Nothing, One, Two}
@@ -54,7 +54,7 @@ unfolding operatorOf
 operator-high n h = go (ℕ-discrete n 28)
   where
     past : 29 ≤ n → number (operatorOf n) ≡ 28
-    past k = ap number (List·getD-eq-default operators Assign k)
+    past k = ap number (List·getD-eq-default allOperators Assign k)
 
     go : Dec (n ≡ 28) → number (operatorOf n) ≡ 28
     go (yes e) = rw e
