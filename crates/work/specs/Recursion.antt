@@ -7,11 +7,11 @@ use Rattle.tree.specs.Trees.{treeAt}
 use Rattle.tree.specs.Operands.{presence}
 use Rattle.scan.specs.Arms.{armOf, operandNumber}
 
--- node j is the operand that scan_right of node i scans, by itself and, for its right precedence, by way of rightmost_subexpression_precedence of j
-abbrev pub Scans : List ℕ → ℕ → ℕ → ℕ → Type 0
-Scans cells count i j = presence (operandNumber (armOf (treeAt cells count i)) cells count i) ≡ Present j
+-- scan_right of node i calls scan_right of node j, the operand that its arm goes on with (`operand_of` of the code), and of no other: by itself, or by way of rightmost_subexpression_precedence of j
+abbrev pub CallsOn : List ℕ → ℕ → ℕ → ℕ → Type 0
+CallsOn cells count i j = presence (operandNumber (armOf (treeAt cells count i)) cells count i) ≡ Present j
 
 -- scan_right of node i, and within it those of the nodes listed, each within the one before
 abbrev pub Nested : List ℕ → ℕ → ℕ → List ℕ → Type 0
 Nested cells count i [] = Unit {0}
-Nested cells count i (j ∷ js) = Scans cells count i j × Nested cells count j js
+Nested cells count i (j ∷ js) = CallsOn cells count i j × Nested cells count j js
