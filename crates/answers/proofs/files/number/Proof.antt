@@ -1,5 +1,6 @@
 -- `answers::files::number` meets its contract. Assumes nothing.
-use mathlib.Core.Path.{sym, ap}
+use mathlib.Core.Path.{ap}
+use native.Mathlib.Omega.{arith}
 use Rattle.tree_file.specs.declared.Loaded.{Loaded}
 use Rattle.tree_file.specs.Files.{loadedInNumbers}
 use Rattle.answers.specs.Replies.{oneNumber}
@@ -32,10 +33,10 @@ add-result : tie.Need-add-result
 add-result c = search needs
 
 returns : tie.Need-returns
-returns c = sym (ap (λ (x : Loaded). oneNumber (loadedInNumbers x)) (c .before .answer .given .1))
+returns c = let e = ap (λ (x : Loaded). oneNumber (loadedInNumbers x)) (c .before .answer .given .1) in omega arith
 
 returns-2 : tie.Need-returns-2
-returns-2 c = sym (ap (λ (x : Loaded). oneNumber (loadedInNumbers x)) (c .before .answer2 .given .1))
+returns-2 c = let e = ap (λ (x : Loaded). oneNumber (loadedInNumbers x)) (c .before .answer2 .given .1) in omega arith
 
 pub number-spec : {M : Type 1} → statement M
 number-spec =

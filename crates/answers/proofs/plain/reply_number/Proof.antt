@@ -1,5 +1,6 @@
 -- `answers::plain::reply_number` meets its contract. Assumes nothing.
-use mathlib.Core.Path.{sym, ap}
+use mathlib.Core.Path.{ap}
+use native.Mathlib.Omega.{arith}
 use Rattle.token_reader.specs.declared.Reply.{Reply}
 use Rattle.token_reader.specs.Reading.{replyInNumbers}
 use Rattle.answers.specs.Replies.{oneNumber}
@@ -23,10 +24,10 @@ cast-result-2 : tie.Need-cast-result-2
 cast-result-2 c = search needs
 
 returns : tie.Need-returns
-returns c = sym (ap (λ (x : Reply). oneNumber (replyInNumbers x)) (c .before .answer .given .1))
+returns c = let e = ap (λ (x : Reply). oneNumber (replyInNumbers x)) (c .before .answer .given .1) in omega arith
 
 returns-2 : tie.Need-returns-2
-returns-2 c = search needs
+returns-2 c = let e = ap (λ (x : Reply). oneNumber (replyInNumbers x)) (c .before .answer2 .given .1) in omega arith
 
 pub reply-number-spec : {M : Type 1} → statement M
 reply-number-spec =
