@@ -5,7 +5,7 @@ use Prim.Native.Nat.{ℕ, zero, suc, _+_, _≤_, _<_}
 use native.Mathlib.Omega.{arith}
 use native.Mathlib.Decide.{decLe}
 use lib.Dec.{T}
-use Rattle.laws.specs.Each.{some, all}
+use Rattle.laws.specs.Each.{some}
 use Rattle.laws.proofs.Choice.{true-not-false, true-of, of-true, and-true, or-false}
 
 -- none up to n and not at n + 1: none up to n + 1
@@ -30,6 +30,11 @@ some-found f n i p q e = go (some f n) refl
     go : (b : Bool) → some f n ≡ b → some f n ≡ true
     go true h = h
     go false h = true-not-false (sym e ∙ some-none f n h i p q)
+
+-- whether a test holds at each of 0, .., n - 1; it computes where n is a numeral
+abbrev pub all : (ℕ → Bool) → ℕ → Bool
+all f zero = true
+all f (suc n) = f n && all f n
 
 -- a test that holds at each of 0, .., n - 1 holds at k: one computed test gives the rule at each entry of a table
 pub all-at : (f : ℕ → Bool) (n : ℕ) → T (all f n) → (k : ℕ) → k < n → T (f k)

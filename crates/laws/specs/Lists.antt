@@ -1,6 +1,5 @@
 -- Lists written over.
 use mathlib.Core.List.{List, _++_}
-use Prim.Native.Nat.{ℕ}
 use lib.ListN.{length, drop}
 
 -- the second list with the first written over its start: what lies behind that stays

@@ -1,5 +1,5 @@
 -- Document 01, 'Operands': what may stand at the two operand places of a node, and when an operand does not fit its place (7).
-use mathlib.Core.Bool.{Bool, true, false, not, _&&_, _||_}
+use mathlib.Core.Bool.{Bool, not, _&&_, _||_}
 use mathlib.Core.List.{List, [], _∷_}
 use Prim.Native.Nat.{ℕ}
 use lib.Dec.{eqb, leb}

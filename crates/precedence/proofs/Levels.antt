@@ -6,9 +6,8 @@ use Prim.Native.Nat.{ℕ, _<_}
 use lib.Dec.{T, ltb}
 use lib.ListN.{length}
 use Rattle.laws.specs.Choice.{pick, lookup}
-use Rattle.laws.specs.Each.{all}
 use Rattle.laws.proofs.Choice.{alike, alike-same}
-use Rattle.laws.proofs.Each.{all-at}
+use Rattle.laws.proofs.Each.{all, all-at}
 use Rattle.precedence.specs.Precedences.{below, operators, ofBinop}
 use Rattle.precedence.specs.Reference.{strongFirst, placeIn, weaker}
 

@@ -1,5 +1,5 @@
 -- prettyplease's precedence.rs: the precedences, their order, and what they are for operators and expressions.
-use mathlib.Core.Bool.{Bool, true, false, not, _&&_}
+use mathlib.Core.Bool.{Bool, not, _&&_}
 use mathlib.Core.List.{List, [], _∷_}
 use Prim.Native.Nat.{ℕ}
 use lib.Dec.{eqb, leb, ltb}
@@ -88,8 +88,7 @@ ofRows l a b =
 
 -- all other expressions: by their attributes; Verbatim, and what is no expression: Unambiguous
 unfoldable pub closedBy : ℕ → ℕ → Precedence
-closedBy form attributes =
-    pick (eqb (classOf form) anExpression && not (eqb form ExprVerbatim)) (prefixAttrs attributes) Unambiguous
+closedBy form attributes = pick (eqb (classOf form) anExpression && not (eqb form ExprVerbatim)) (prefixAttrs attributes) Unambiguous
 
 unfoldable pub precedenceOf : Tree → Precedence
 precedenceOf t = walk ofRows (λ l. closedBy (l .form) (l .attributes)) Unambiguous t

@@ -7,9 +7,8 @@ use native.Mathlib.Omega.{arith}
 use lib.Dec.{T}
 use lib.ListN.{getD}
 use Rattle.laws.specs.Choice.{pick}
-use Rattle.laws.specs.Each.{all}
 use Rattle.laws.proofs.Choice.{pick-true, pick-false, true-not-false}
-use Rattle.laws.proofs.Each.{all-at}
+use Rattle.laws.proofs.Each.{all, all-at}
 use Rattle.tree.specs.Trees.{Tree}
 use Rattle.precedence.specs.declared.Precedence.{Precedence}
 use Rattle.precedence.specs.declared.Precedence.the-variants as level

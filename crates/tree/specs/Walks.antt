@@ -27,8 +27,4 @@ follow second a b = b
 -- the answer for a tree. A form without a row answers `other`; where there is no node, the answer is `absent`
 unfoldable pub walk : {A : Type 0} → (Label → Tree → Tree → List (Row (Ask A))) → (Label → A) → A → Tree → A
 walk rows other absent none = absent
-walk rows other absent (node l a b) =
-    follow
-    (lookup (rows l a b) (answer (other l)) (l .form))
-    (walk rows other absent a)
-    (walk rows other absent b)
+walk rows other absent (node l a b) = follow (lookup (rows l a b) (answer (other l)) (l .form)) (walk rows other absent a) (walk rows other absent b)
