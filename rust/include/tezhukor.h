@@ -67,7 +67,7 @@ uint32_t tezhukor_write(uint16_t context, uint16_t count, const uint16_t *table,
 
 /* Reads a token list into a table of at least 20,480 cells. Replies the refusal times
  * 65,536 (12, 14 to 16), or the number of nodes.
- * It was measured to take up to 4.3 MiB of stack, for the longest lists. */
+ * It was measured to take up to 4.0 MiB of stack, for the longest lists (docs/PERFORMANCE.md). */
 uint32_t tezhukor_read(const uint16_t *tokens, size_t tokens_length, uint16_t *table,
                        size_t table_length);
 

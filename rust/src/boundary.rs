@@ -94,7 +94,7 @@ pub fn write(context: u16, count: u16, table: &[u16], tokens: &mut [u16]) -> u32
 /// Lists of more tokens than this are read on a stack of their own.
 const LONG: usize = 2_048;
 
-/// The longest list was measured to take the library 4.3 MiB of stack.
+/// The longest lists were measured to take up to 4.0 MiB of it (docs/PERFORMANCE.md).
 const STACK: usize = 16 << 20;
 
 /// Reads a token list into a table of at least 20,480 cells. The reply is the

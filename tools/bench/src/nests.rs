@@ -93,11 +93,14 @@ const LEVEL: [Stem; 16] = [
 ];
 
 /// Nests of as many levels as are accepted: every two levels by turns, below
-/// everything that may follow, with a few ends. The slowest by the node are then
-/// repeated as arguments of a call until there is no more room, and changed level by
-/// level. Where a folder is given, these are written there as tree files.
+/// everything that may follow, with a few ends. The slowest by the node in context 0,
+/// which arguments have, are then repeated as arguments of a call until there is no
+/// more room, and changed level by level. Where a folder is given, they are written
+/// there as tree files: `contextN` is the slowest nest in a context, `nestN` one that
+/// was changed, `slowN` the call of these.
 pub fn search_slowest(folder: Option<&str>) {
     let mut found: Vec<(f64, Vec<Stem>)> = Vec::new();
+    let mut slowest: [(f64, Vec<Stem>); 4] = Default::default();
     for above in NEXTS.into_iter().flatten().chain([MINUS, GROUP_OF, Stem::one(PAREN, 0, 0)]) {
         for first in LEVEL {
             for second in LEVEL {
@@ -105,31 +108,54 @@ pub fn search_slowest(folder: Option<&str>) {
                     let turns = [first, second].into_iter().cycle().take(LONGEST_PATH - 3);
                     let stems: Vec<Stem> = [above].into_iter().chain(turns).chain([end]).collect();
                     let tree = numbered(&planted(stems.iter().copied()));
-                    if accept::refusal(&tree) == 0 {
-                        found.push((a_node(&tree, Side::Ours), stems));
+                    if accept::refusal(&tree) != 0 {
+                        continue;
+                    }
+                    for context in 0..4 {
+                        let tree = NodeTable { context, ..tree.clone() };
+                        let time = a_node(&tree, Side::Ours);
+                        if time > slowest[usize::from(context)].0 {
+                            slowest[usize::from(context)] = (time, stems.clone());
+                        }
+                        if context == 0 {
+                            found.push((time, stems.clone()));
+                        }
                     }
                 }
             }
         }
     }
+    println!("{} nests; the slowest in each context:", found.len());
+    for (context, (time, stems)) in (0..).zip(slowest) {
+        println!("context {context}, {}: {time:.0} ns a node", labels(&stems));
+        if let Some(folder) = folder {
+            let tree = NodeTable { context, ..accepted(&planted(stems)) };
+            write(folder, &format!("context{context}"), &tree);
+        }
+    }
     found.sort_by(|a, b| b.0.total_cmp(&a.0));
-    println!("{} nests; the slowest, and as many of them as 4,096 nodes hold:", found.len());
+    println!("the slowest in context 0, and as many of them as 4,096 nodes hold:");
     for (number, (a_nest, stems)) in found.into_iter().take(60).step_by(10).enumerate() {
         let (steps, stems) = climbed(number as u64, stems);
         let full = accepted(&arguments(&stems));
         let time = a_node(&full, Side::Ours) * f64::from(full.count);
-        let labels =
-            stems[..6].iter().map(|stem| format!("{}/{}", stem.label.form, stem.label.detail));
-        let labels: Vec<String> = labels.collect();
-        let (labels, nodes) = (labels.join(" over "), full.count);
         println!(
-            "{labels}: {a_nest:.0} ns a node; after {steps} changes, {nodes} nodes: {:.2} ms",
+            "{}: {a_nest:.0} ns a node; after {steps} changes, {} nodes: {:.2} ms",
+            labels(&stems),
+            full.count,
             time / 1e6
         );
         if let Some(folder) = folder {
+            write(folder, &format!("nest{number}"), &accepted(&planted(stems)));
             write(folder, &format!("slow{number}"), &full);
         }
     }
+}
+
+/// The uppermost forms and details of a nest.
+fn labels(stems: &[Stem]) -> String {
+    let labels = stems[..6].iter().map(|stem| format!("{}/{}", stem.label.form, stem.label.detail));
+    labels.collect::<Vec<String>>().join(" over ")
 }
 
 /// A nest with levels changed one by one, wherever that made the call slower, and
