@@ -5,7 +5,7 @@ use mathlib.Core.List.{List}
 use Prim.Native.Nat.{ℕ, _≤_, _<_}
 use native.Mathlib.Omega.{arith}
 use lib.Dec.{eqb}
-use Rattle.laws.specs.Choice.{pick, Row}
+use Rattle.laws.specs.Choice.{pick, Line}
 use Rattle.tree.specs.Trees.{Label, Tree, treeAt}
 use Rattle.tree.specs.declared.table.Operand.{Operand}
 use Rattle.tree.specs.Walks.{Ask, answer, first, walk}
@@ -24,7 +24,7 @@ flow-goes (ends y) n e = absurd (let z : _≡_ {A = ℕ} 0 1 = cc in omega arith
 flow-goes (goes m) n e = cc
 
 -- a step of any walk: to its answer, or to a node after this one with the same answer
-module _ (rows : Label → Tree → Tree → List (Row (Ask Bool))) (other : Label → Bool) (missing : Bool) (cells : List ℕ) (count i : ℕ) where
+module _ (rows : Label → Tree → Tree → List (Line (Ask Bool))) (other : Label → Bool) (missing : Bool) (cells : List ℕ) (count i : ℕ) where
   pub walk-ends : (x : Bool) → Break x ≡ flowBy (stepAt rows other missing cells count i) → walk rows other missing (treeAt cells count i) ≡ x
   walk-ends x e = rw (flow-ends (stepAt rows other missing cells count i) x e) at (leads rows other missing cells count i)
 

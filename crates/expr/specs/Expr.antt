@@ -3,7 +3,7 @@ use mathlib.Core.Bool.{Bool, true, false, _&&_}
 use mathlib.Core.List.{List, [], _∷_}
 use Prim.Native.Nat.{ℕ}
 use lib.Dec.{eqb}
-use Rattle.laws.specs.Choice.{pick, Row, row, lookup}
+use Rattle.laws.specs.Choice.{pick, Line, line, lookup}
 use Rattle.tree.specs.Forms.{ExprAssign, ExprAwait, ExprBinary, ExprBreak, ExprCall, ExprCast, ExprClosure, ExprField, ExprGroup, ExprIndex, ExprLet, ExprMethodCall, ExprParen, ExprRange, ExprRawAddr, ExprReference, ExprReturn, ExprTry, ExprUnary, ExprYield}
 use Rattle.tree.specs.Trees.{Label, Tree}
 use Rattle.tree.specs.Walks.{atRoot}
@@ -20,11 +20,11 @@ use Rattle.expr.specs.Handed.{under, upTo, never, grouped, beforeOperato
 
 -- the operators whose token can begin an expression: Sub, Mul, And, Or, BitAnd, BitOr, Shl, Lt
 unfoldable pub canBeginExpr : ℕ → Bool
-canBeginExpr op = lookup (row (1 ∷ 2 ∷ 5 ∷ 6 ∷ 8 ∷ 9 ∷ 10 ∷ 13 ∷ []) true ∷ []) false op
+canBeginExpr op = lookup (line (1 ∷ 2 ∷ 5 ∷ 6 ∷ 8 ∷ 9 ∷ 10 ∷ 13 ∷ []) true ∷ []) false op
 
 -- those whose token can begin generic arguments: Shl, Lt
 unfoldable pub canBeginGenerics : ℕ → Bool
-canBeginGenerics op = lookup (row (10 ∷ 13 ∷ []) true ∷ []) false op
+canBeginGenerics op = lookup (line (10 ∷ 13 ∷ []) true ∷ []) false op
 
 -- left_needs_group: '<= Range' for an assigning operator, '<=' its own precedence for a comparison, otherwise '<'
 unfoldable pub leftTest : Precedence → ℕ
@@ -43,60 +43,60 @@ binaryRight x op = atEnd x false false (ofBinop op) (rightTest (ofBinop op))
 -- ---- expr_call: a Field by its member alone ("Field: 0 named, 1 numbered"), anything else by its precedence
 
 unfoldable pub callTest : Tree → ℕ
-callTest t = atRoot (λ l a b. row (ExprField ∷ []) (grouped (eqb (l .detail) 0)) ∷ []) (under Unambiguous) t
+callTest t = atRoot (λ l a b. line (ExprField ∷ []) (grouped (eqb (l .detail) 0)) ∷ []) (under Unambiguous) t
 
 -- ---- the operand at the first place. x is the owner's own context, NONE where the owner has an outer pair
 
-unfoldable pub firstRows : FixupContext → Label → Tree → Tree → List (Row Handed)
-firstRows x l a b =
+unfoldable pub firstLines : FixupContext → Label → Tree → Tree → List (Line Handed)
+firstLines x l a b =
     -- expr_assign
-    row (ExprAssign ∷ []) (beforeOperator x false false Assign (upTo Range)) ∷
+    line (ExprAssign ∷ []) (beforeOperator x false false Assign (upTo Range)) ∷
     -- expr_await, expr_field, expr_method_call, expr_try
-    row (ExprAwait ∷ ExprField ∷ ExprMethodCall ∷ ExprTry ∷ []) (beforeDot x (under Unambiguous)) ∷
+    line (ExprAwait ∷ ExprField ∷ ExprMethodCall ∷ ExprTry ∷ []) (beforeDot x (under Unambiguous)) ∷
     -- expr_binary
-    row (ExprBinary ∷ []) (binaryLeft x (l .detail)) ∷
+    line (ExprBinary ∷ []) (binaryLeft x (l .detail)) ∷
     -- expr_break: grouped where it has no label ("Break: 1 labelled") and its value's first token is one
-    row (ExprBreak ∷ []) (atEnd x true true Jump (grouped (eqb (l .detail) 0 && leadingLabel a))) ∷
+    line (ExprBreak ∷ []) (atEnd x true true Jump (grouped (eqb (l .detail) 0 && leadingLabel a))) ∷
     -- expr_call
-    row (ExprCall ∷ []) (beforeOperator x true false Unambiguous (callTest a)) ∷
+    line (ExprCall ∷ []) (beforeOperator x true false Unambiguous (callTest a)) ∷
     -- expr_cast
-    row (ExprCast ∷ []) (beforeOperator x false false Cast (under Cast)) ∷
+    line (ExprCast ∷ []) (beforeOperator x false false Cast (under Cast)) ∷
     -- expr_closure: the body, which is a plain Block where an output is written (10)
-    row (ExprClosure ∷ []) (atEnd x false false Jump never) ∷
+    line (ExprClosure ∷ []) (atEnd x false false Jump never) ∷
     -- expr_group
-    row (ExprGroup ∷ []) (neither x) ∷
+    line (ExprGroup ∷ []) (neither x) ∷
     -- expr_index
-    row (ExprIndex ∷ []) (beforeOperator x true false Unambiguous (under Unambiguous)) ∷
+    line (ExprIndex ∷ []) (beforeOperator x true false Unambiguous (under Unambiguous)) ∷
     -- expr_let
-    row (ExprLet ∷ []) (afterPrefix x Let) ∷
+    line (ExprLet ∷ []) (afterPrefix x Let) ∷
     -- expr_paren
-    row (ExprParen ∷ []) (neither NONE) ∷
+    line (ExprParen ∷ []) (neither NONE) ∷
     -- expr_range: the start
-    row (ExprRange ∷ []) (beforeOperator x true false Range (upTo Range)) ∷
+    line (ExprRange ∷ []) (beforeOperator x true false Range (upTo Range)) ∷
     -- expr_raw_addr, expr_reference, expr_unary
-    row (ExprRawAddr ∷ ExprReference ∷ ExprUnary ∷ []) (afterPrefix x Prefix) ∷
+    line (ExprRawAddr ∷ ExprReference ∷ ExprUnary ∷ []) (afterPrefix x Prefix) ∷
     -- expr_return, expr_yield
-    row (ExprReturn ∷ ExprYield ∷ []) (atEnd x true false Jump never) ∷
+    line (ExprReturn ∷ ExprYield ∷ []) (atEnd x true false Jump never) ∷
     []
 
 -- call_args: an item of a list. All other forms have no expression there
 unfoldable pub handsFirst : FixupContext → Tree → Handed
-handsFirst x t = atRoot (firstRows x) (neither NONE) t
+handsFirst x t = atRoot (firstLines x) (neither NONE) t
 
 -- ---- the operand at the second place
 
-unfoldable pub secondRows : FixupContext → Label → Tree → Tree → List (Row Handed)
-secondRows x l a b =
+unfoldable pub secondLines : FixupContext → Label → Tree → Tree → List (Line Handed)
+secondLines x l a b =
     -- expr_assign
-    row (ExprAssign ∷ []) (atEnd x false false Assign never) ∷
+    line (ExprAssign ∷ []) (atEnd x false false Assign never) ∷
     -- expr_binary
-    row (ExprBinary ∷ []) (binaryRight x (l .detail)) ∷
+    line (ExprBinary ∷ []) (binaryRight x (l .detail)) ∷
     -- expr_index: the index
-    row (ExprIndex ∷ []) (neither NONE) ∷
+    line (ExprIndex ∷ []) (neither NONE) ∷
     -- expr_range: the end
-    row (ExprRange ∷ []) (atEnd x false true Range (upTo Range)) ∷
+    line (ExprRange ∷ []) (atEnd x false true Range (upTo Range)) ∷
     []
 
 -- all other forms have no expression there
 unfoldable pub handsSecond : FixupContext → Tree → Handed
-handsSecond x t = atRoot (secondRows x) (neither NONE) t
+handsSecond x t = atRoot (secondLines x) (neither NONE) t

@@ -1,7 +1,7 @@
 -- prettyplease's fixup.rs: parenthesize, precedence and scan_left, on trees.
 use mathlib.Core.Bool.{Bool, true, false, not, _&&_, _||_}
 use mathlib.Core.List.{List, [], _∷_}
-use Rattle.laws.specs.Choice.{pick, Row, row}
+use Rattle.laws.specs.Choice.{pick, Line, line}
 use Rattle.tree.specs.Forms.{ExprAssign, ExprBinary, ExprCast, ExprRange}
 use Rattle.tree.specs.Trees.{Label, Tree}
 use Rattle.tree.specs.Walks.{isThere, atRoot}
@@ -39,13 +39,13 @@ effective x t =
 unfoldable pub leftOfBinary : Precedence → Precedence → Bool
 leftOfBinary previous own = pick (same own Assign) (atMost previous Assign) (below previous own)
 
-unfoldable pub scanLeftRows : FixupContext → Label → Tree → Tree → List (Row Bool)
-scanLeftRows x l a b =
-    row (ExprAssign ∷ []) (atMost (x .«previous_operator») Assign) ∷
-    row (ExprBinary ∷ []) (leftOfBinary (x .«previous_operator») (ofBinop (l .detail))) ∷
-    row (ExprCast ∷ []) (below (x .«previous_operator») Cast) ∷
-    row (ExprRange ∷ []) (not (isThere a) || below (x .«previous_operator») Assign) ∷
+unfoldable pub scanLeftLines : FixupContext → Label → Tree → Tree → List (Line Bool)
+scanLeftLines x l a b =
+    line (ExprAssign ∷ []) (atMost (x .«previous_operator») Assign) ∷
+    line (ExprBinary ∷ []) (leftOfBinary (x .«previous_operator») (ofBinop (l .detail))) ∷
+    line (ExprCast ∷ []) (below (x .«previous_operator») Cast) ∷
+    line (ExprRange ∷ []) (not (isThere a) || below (x .«previous_operator») Assign) ∷
     []
 
 unfoldable pub scanLeft : Tree → FixupContext → Bool
-scanLeft t x = atRoot (scanLeftRows x) true t
+scanLeft t x = atRoot (scanLeftLines x) true t

@@ -16,7 +16,7 @@ use Rattle.grammar.specs.Levels.{kind}
 use Rattle.grammar.specs.Grammar.{opensArguments}
 use Rattle.grammar.specs.Next.{Next, nextOf, levelAt}
 use Rattle.follow.specs.Follow.{beforeAt, barredAt}
-use Rattle.follow.specs.Tables.{levelRows, pastRows, levelPast, levelOf, beforeOf, barredRows, barred}
+use Rattle.follow.specs.Tables.{levelLines, pastLines, levelPast, levelOf, beforeOf, barredLines, barred}
 
 -- from 46 on a code stands for no token, and nothing goes on
 past-token : (n : ℕ) → 46 ≤ n → tokenOf n ≡ Await
@@ -24,8 +24,8 @@ unfolding tokenOf
 past-token n h = List·getD-eq-default (spelled allOperators) Await h
 
 past-level : (n : ℕ) → 46 ≤ n → levelOf n ≡ 0
-unfolding levelOf levelPast levelRows pastRows
-past-level n h = past-rows levelRows (levelPast n) 46 n tt h ∙ past-rows pastRows 0 46 n tt h
+unfolding levelOf levelPast levelLines pastLines
+past-level n h = past-rows levelLines (levelPast n) 46 n tt h ∙ past-rows pastLines 0 46 n tt h
 
 -- what holds of each code below 46, and of the others, holds of all
 each-code : {A : Type 0} (f : ℕ → A) (g : Token → A) → ((n : ℕ) → n < 46 → f n ≡ g (tokenOf n)) → ((n : ℕ) → 46 ≤ n → f n ≡ g Await) → (n : ℕ) → f n ≡ g (tokenOf n)
@@ -36,14 +36,14 @@ each-code f g below above n = go (decLe 46 n)
     go (no h) = below n (omega arith)
 
 pub level-at : (n : ℕ) → levelOf n ≡ levelAt (nextOf (tokenOf n))
-unfolding tokenOf levelOf levelPast levelRows pastRows kind lookup pick
+unfolding tokenOf levelOf levelPast levelLines pastLines kind lookup pick
 level-at = each-code levelOf (λ t. levelAt (nextOf t)) below past-level
   where
     below : (n : ℕ) → n < 46 → levelOf n ≡ levelAt (nextOf (tokenOf n))
     below n h = eqb→eq (levelOf n) (levelAt (nextOf (tokenOf n))) (all-at (λ m. eqb (levelOf m) (levelAt (nextOf (tokenOf m)))) 46 tt n h)
 
 pub before-at : (n : ℕ) → beforeOf (levelAt (nextOf (tokenOf n))) ≡ beforeAt (nextOf (tokenOf n))
-unfolding tokenOf beforeOf levelOf levelPast levelRows pastRows kind lookup pick
+unfolding tokenOf beforeOf levelOf levelPast levelLines pastLines kind lookup pick
 before-at n = ap beforeOf (sym (level-at n)) ∙ each-code (λ m. beforeOf (levelOf m)) (λ t. beforeAt (nextOf t)) below above n
   where
     below : (n : ℕ) → n < 46 → beforeOf (levelOf n) ≡ beforeAt (nextOf (tokenOf n))
@@ -63,4 +63,4 @@ barred-at t d = each-code (barred t d) (λ u. barredAt t d (nextOf u)) (below t 
     below false false n h = alike-same (barred false false n) (barredAt false false (nextOf (tokenOf n))) (all-at (λ m. alike (barred false false m) (barredAt false false (nextOf (tokenOf m)))) 46 tt n h)
 
     above : (n : ℕ) → 46 ≤ n → barred t d n ≡ false
-    above n h = past-rows (barredRows t d) false 46 n tt h
+    above n h = past-rows (barredLines t d) false 46 n tt h

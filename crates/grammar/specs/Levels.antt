@@ -2,24 +2,24 @@
 use mathlib.Core.Bool.{Bool, true, false, not}
 use mathlib.Core.List.{List, [], _∷_}
 use Prim.Native.Nat.{ℕ, suc}
-use Rattle.laws.specs.Choice.{Row, row, lookup, isOneOf}
+use Rattle.laws.specs.Choice.{Line, line, lookup, isOneOf}
 use Rattle.grammar.specs.Tokens.{Operator, Add, Sub, Mul, Div, Rem, And, Or, BitXor, BitAnd, BitOr, Shl, Shr, Eq, Lt, Le, Ne, Ge, Gt, number}
 
 -- the kinds of document 01's list; `postfixes` are "the dot, call, index and `?` forms"
 pub data Kind : Type 0 where
   assignments ors ands comparisons bitOrs bitXors bitAnds shifts sums products casts prefixes postfixes : Kind
 
-abbrev pub kinds : List (Row Kind)
+abbrev pub kinds : List (Line Kind)
 kinds =
-    row (number Add ∷ number Sub ∷ []) sums ∷
-    row (number Mul ∷ number Div ∷ number Rem ∷ []) products ∷
-    row (number And ∷ []) ands ∷
-    row (number Or ∷ []) ors ∷
-    row (number BitXor ∷ []) bitXors ∷
-    row (number BitAnd ∷ []) bitAnds ∷
-    row (number BitOr ∷ []) bitOrs ∷
-    row (number Shl ∷ number Shr ∷ []) shifts ∷
-    row (number Eq ∷ number Lt ∷ number Le ∷ number Ne ∷ number Ge ∷ number Gt ∷ []) comparisons ∷
+    line (number Add ∷ number Sub ∷ []) sums ∷
+    line (number Mul ∷ number Div ∷ number Rem ∷ []) products ∷
+    line (number And ∷ []) ands ∷
+    line (number Or ∷ []) ors ∷
+    line (number BitXor ∷ []) bitXors ∷
+    line (number BitAnd ∷ []) bitAnds ∷
+    line (number BitOr ∷ []) bitOrs ∷
+    line (number Shl ∷ number Shr ∷ []) shifts ∷
+    line (number Eq ∷ number Lt ∷ number Le ∷ number Ne ∷ number Ge ∷ number Gt ∷ []) comparisons ∷
     []
 
 -- all others, `=` among them, assign

@@ -4,7 +4,7 @@ use mathlib.Core.List.{List, [], _∷_}
 use Prim.Native.Nat.{ℕ, zero, suc, _*_}
 use lib.Dec.{leb, eqb}
 use lib.ListN.{length}
-use Rattle.laws.specs.Choice.{Row, row, lookup}
+use Rattle.laws.specs.Choice.{Line, line, lookup}
 use Rattle.grammar.specs.Tokens.{Operator, Lt, Gt, Token, operator, code, Bang, AndMut, As, Name, Literal, Dot, LeftParen, RightParen, LeftBracket, RightBracket, Comma, Question, StarConst, StarMut, Underscore, NumberedMember, Await}
 use Rattle.grammar.specs.Levels.{casts, prefixes, postfixes, kind, level, before, after}
 use Rattle.grammar.specs.Next.{Next, stops, operates, castsTo, dots, calls, indexes, tries, nextOf, levelAt}
@@ -42,20 +42,20 @@ pub data Start : Type 0 where
   aPrefix : Prefix → Start
   aGroup : Start
 
-abbrev pub startRows : List (Row Start)
-startRows =
-    row (1 ∷ []) (aPrefix neg) ∷
-    row (2 ∷ []) (aPrefix deref) ∷
-    row (8 ∷ []) (aPrefix ref) ∷
-    row (29 ∷ []) (aPrefix invert) ∷
-    row (30 ∷ []) (aPrefix refMut) ∷
-    row (32 ∷ []) (anAtom path) ∷
-    row (33 ∷ []) (anAtom literal) ∷
-    row (35 ∷ []) aGroup ∷
+abbrev pub startLines : List (Line Start)
+startLines =
+    line (1 ∷ []) (aPrefix neg) ∷
+    line (2 ∷ []) (aPrefix deref) ∷
+    line (8 ∷ []) (aPrefix ref) ∷
+    line (29 ∷ []) (aPrefix invert) ∷
+    line (30 ∷ []) (aPrefix refMut) ∷
+    line (32 ∷ []) (anAtom path) ∷
+    line (33 ∷ []) (anAtom literal) ∷
+    line (35 ∷ []) aGroup ∷
     []
 
 abbrev pub startBy : ℕ → Start
-startBy n = lookup startRows noStart n
+startBy n = lookup startLines noStart n
 
 unfoldable pub startOf : Token → Start
 startOf t = startBy (code t)
@@ -70,19 +70,19 @@ pub data TypeStart : Type 0 where
   aTypePrefix : TypePrefix → TypeStart
   aSign : TypeSign → TypeStart
 
-abbrev pub typeStartRows : List (Row TypeStart)
-typeStartRows =
-    row (8 ∷ []) (aTypePrefix sharedRef) ∷
-    row (29 ∷ []) (aSign never) ∷
-    row (30 ∷ []) (aTypePrefix mutRef) ∷
-    row (32 ∷ []) aName ∷
-    row (41 ∷ []) (aTypePrefix constPtr) ∷
-    row (42 ∷ []) (aTypePrefix mutPtr) ∷
-    row (43 ∷ []) (aSign infer) ∷
+abbrev pub typeStartLines : List (Line TypeStart)
+typeStartLines =
+    line (8 ∷ []) (aTypePrefix sharedRef) ∷
+    line (29 ∷ []) (aSign never) ∷
+    line (30 ∷ []) (aTypePrefix mutRef) ∷
+    line (32 ∷ []) aName ∷
+    line (41 ∷ []) (aTypePrefix constPtr) ∷
+    line (42 ∷ []) (aTypePrefix mutPtr) ∷
+    line (43 ∷ []) (aSign infer) ∷
     []
 
 abbrev pub typeStartBy : ℕ → TypeStart
-typeStartBy n = lookup typeStartRows noType n
+typeStartBy n = lookup typeStartLines noType n
 
 unfoldable pub typeStartOf : Token → TypeStart
 typeStartOf t = typeStartBy (code t)
@@ -95,15 +95,15 @@ pub data AfterDot : Type 0 where
   noMember : AfterDot
   aMember : Member → AfterDot
 
-abbrev pub afterDotRows : List (Row AfterDot)
-afterDotRows =
-    row (32 ∷ []) (aMember byName) ∷
-    row (44 ∷ []) (aMember byNumber) ∷
-    row (45 ∷ []) (aMember awaited) ∷
+abbrev pub afterDotLines : List (Line AfterDot)
+afterDotLines =
+    line (32 ∷ []) (aMember byName) ∷
+    line (44 ∷ []) (aMember byNumber) ∷
+    line (45 ∷ []) (aMember awaited) ∷
     []
 
 abbrev pub afterDotBy : ℕ → AfterDot
-afterDotBy n = lookup afterDotRows noMember n
+afterDotBy n = lookup afterDotLines noMember n
 
 unfoldable pub afterDotOf : Token → AfterDot
 afterDotOf t = afterDotBy (code t)

@@ -9,7 +9,7 @@ use lib.Dec.{T, ltb, leb, eqb}
 use borrow.Author.Tests.{ltb-true, eq-eqb, ne-eqb, eqb-true}
 use mir.Val.{hasKey}
 use types.Run.{OneOf, hit, miss}
-use Rattle.laws.specs.Choice.{pick, Row, row, lookup}
+use Rattle.laws.specs.Choice.{pick, Line, line, lookup}
 use Rattle.laws.proofs.Choice.{true-not-false, true-of, of-true, and-true, pick-true, pick-false}
 
 -- an arm's fact, as a test
@@ -59,21 +59,21 @@ past (k ∷ ks) n x t h =
 -- ---- tables: a `match` whose arms are the rows of a table answers what the table gives
 
 -- the numbers of row j, and what it gives
-abbrev pub numbersAt : {A : Type 0} → List (Row A) → ℕ → List ℕ
+abbrev pub numbersAt : {A : Type 0} → List (Line A) → ℕ → List ℕ
 numbersAt [] j = []
-numbersAt (row ks a ∷ rows) zero = ks
-numbersAt (row ks a ∷ rows) (suc j) = numbersAt rows j
+numbersAt (line ks a ∷ rows) zero = ks
+numbersAt (line ks a ∷ rows) (suc j) = numbersAt rows j
 
-abbrev pub givenAt : {A : Type 0} → List (Row A) → A → ℕ → A
+abbrev pub givenAt : {A : Type 0} → List (Line A) → A → ℕ → A
 givenAt [] other j = other
-givenAt (row ks a ∷ rows) other zero = a
-givenAt (row ks a ∷ rows) other (suc j) = givenAt rows other j
+givenAt (line ks a ∷ rows) other zero = a
+givenAt (line ks a ∷ rows) other (suc j) = givenAt rows other j
 
 -- no number of ks stands in one of the first j rows
-abbrev pub apartBefore : {A : Type 0} → List (Row A) → ℕ → List ℕ → Bool
+abbrev pub apartBefore : {A : Type 0} → List (Line A) → ℕ → List ℕ → Bool
 apartBefore [] j ks = true
-apartBefore (row js a ∷ rows) zero ks = true
-apartBefore (row js a ∷ rows) (suc j) ks = disjoint ks js && apartBefore rows j ks
+apartBefore (line js a ∷ rows) zero ks = true
+apartBefore (line js a ∷ rows) (suc j) ks = disjoint ks js && apartBefore rows j ks
 
 -- each of ks is one of js
 abbrev pub within : List ℕ → List ℕ → Bool
@@ -104,34 +104,34 @@ inside (k ∷ ks) js x t h = go (eqb k x) refl (and-true (hasKey js k) (within k
     go false e d r = r (of-true (d .1)) (rw e at h)
 
 -- a number of ks, which all stand in row j and in no row before it
-pub found : {A : Type 0} (rows : List (Row A)) (other : A) (j : ℕ) (ks : List ℕ) (x : ℕ) → T (within ks (numbersAt rows j)) → T (apartBefore rows j ks) → hasKey ks x ≡ true → lookup rows other x ≡ givenAt rows other j
+pub found : {A : Type 0} (rows : List (Line A)) (other : A) (j : ℕ) (ks : List ℕ) (x : ℕ) → T (within ks (numbersAt rows j)) → T (apartBefore rows j ks) → hasKey ks x ≡ true → lookup rows other x ≡ givenAt rows other j
 unfolding lookup
 found [] other j ks x e t h = refl
-found (row js a ∷ rows) other zero ks x e t h = pick-true a _ (inside ks js x e h)
-found (row js a ∷ rows) other (suc j) ks x e t h =
+found (line js a ∷ rows) other zero ks x e t h = pick-true a _ (inside ks js x e h)
+found (line js a ∷ rows) other (suc j) ks x e t h =
     let d = and-true (disjoint ks js) (apartBefore rows j ks) (true-of t) in
     pick-false a _ (apart ks js x (of-true (d .0)) h) ∙ found rows other j ks x e (of-true (d .1)) h
 
 -- a number of ks, none of which stands in a row
-abbrev pub apartFrom : {A : Type 0} → List (Row A) → List ℕ → Bool
+abbrev pub apartFrom : {A : Type 0} → List (Line A) → List ℕ → Bool
 apartFrom [] ks = true
-apartFrom (row js a ∷ rows) ks = disjoint ks js && apartFrom rows ks
+apartFrom (line js a ∷ rows) ks = disjoint ks js && apartFrom rows ks
 
-pub not-found : {A : Type 0} (rows : List (Row A)) (other : A) (ks : List ℕ) (x : ℕ) → T (apartFrom rows ks) → hasKey ks x ≡ true → lookup rows other x ≡ other
+pub not-found : {A : Type 0} (rows : List (Line A)) (other : A) (ks : List ℕ) (x : ℕ) → T (apartFrom rows ks) → hasKey ks x ≡ true → lookup rows other x ≡ other
 unfolding lookup
 not-found [] other ks x t h = refl
-not-found (row js a ∷ rows) other ks x t h =
+not-found (line js a ∷ rows) other ks x t h =
     let d = and-true (disjoint ks js) (apartFrom rows ks) (true-of t) in
     pick-false a _ (apart ks js x (of-true (d .0)) h) ∙ not-found rows other ks x (of-true (d .1)) h
 
 -- a number of ks, which all stand in rows that give something of the same kind
-abbrev pub numbersOf : {A : Type 0} → List (Row A) → List ℕ
+abbrev pub numbersOf : {A : Type 0} → List (Line A) → List ℕ
 numbersOf [] = []
-numbersOf (row js a ∷ rows) = js ++ numbersOf rows
+numbersOf (line js a ∷ rows) = js ++ numbersOf rows
 
-abbrev pub Give : {A : Type 0} → (A → Type 0) → List (Row A) → Type 0
+abbrev pub Give : {A : Type 0} → (A → Type 0) → List (Line A) → Type 0
 Give P [] = Unit {0}
-Give P (row js a ∷ rows) = P a × Give P rows
+Give P (line js a ∷ rows) = P a × Give P rows
 
 append-keys : (ks js : List ℕ) (x : ℕ) → hasKey (ks ++ js) x ≡ hasKey ks x || hasKey js x
 append-keys [] js x = refl
@@ -141,28 +141,28 @@ append-keys (k ∷ ks) js x = go (eqb k x) (append-keys ks js x)
     go true e = refl
     go false e = e
 
-pub found-any : {A : Type 0} (P : A → Type 0) (rows : List (Row A)) (other : A) (ks : List ℕ) (x : ℕ) → T (within ks (numbersOf rows)) → Give P rows → hasKey ks x ≡ true → P (lookup rows other x)
+pub found-any : {A : Type 0} (P : A → Type 0) (rows : List (Line A)) (other : A) (ks : List ℕ) (x : ℕ) → T (within ks (numbersOf rows)) → Give P rows → hasKey ks x ≡ true → P (lookup rows other x)
 unfolding lookup pick
 found-any {A} P rows other ks x t g h = go rows g (inside ks (numbersOf rows) x t h)
   where
-    by : (js : List ℕ) (a : A) (rest : List (Row A)) (b : Bool) → hasKey js x ≡ b → P a → (hasKey (numbersOf rest) x ≡ true → P (lookup rest other x)) → hasKey (js ++ numbersOf rest) x ≡ true → P (pick b a (lookup rest other x))
+    by : (js : List ℕ) (a : A) (rest : List (Line A)) (b : Bool) → hasKey js x ≡ b → P a → (hasKey (numbersOf rest) x ≡ true → P (lookup rest other x)) → hasKey (js ++ numbersOf rest) x ≡ true → P (pick b a (lookup rest other x))
     by js a rest true e p r n = p
     by js a rest false e p r n = r (sym (append-keys js (numbersOf rest) x ∙ rw e) ∙ n)
 
-    go : (rest : List (Row A)) → Give P rest → hasKey (numbersOf rest) x ≡ true → P (lookup rest other x)
+    go : (rest : List (Line A)) → Give P rest → hasKey (numbersOf rest) x ≡ true → P (lookup rest other x)
     go [] g n = true-not-false (sym n)
-    go (row js a ∷ rest) g n = by js a rest (hasKey js x) refl (g .0) (λ m. go rest (g .1) m) n
+    go (line js a ∷ rest) g n = by js a rest (hasKey js x) refl (g .0) (λ m. go rest (g .1) m) n
 
 -- a number past all that the rows have
-abbrev pub rowsBelow : {A : Type 0} → ℕ → List (Row A) → Bool
-rowsBelow n [] = true
-rowsBelow n (row js a ∷ rows) = allBelow n js && rowsBelow n rows
+abbrev pub linesBelow : {A : Type 0} → ℕ → List (Line A) → Bool
+linesBelow n [] = true
+linesBelow n (line js a ∷ rows) = allBelow n js && linesBelow n rows
 
-pub past-rows : {A : Type 0} (rows : List (Row A)) (other : A) (n x : ℕ) → T (rowsBelow n rows) → n ≤ x → lookup rows other x ≡ other
+pub past-rows : {A : Type 0} (rows : List (Line A)) (other : A) (n x : ℕ) → T (linesBelow n rows) → n ≤ x → lookup rows other x ≡ other
 unfolding lookup
 past-rows [] other n x t h = refl
-past-rows (row js a ∷ rows) other n x t h =
-    let d = and-true (allBelow n js) (rowsBelow n rows) (true-of t) in
+past-rows (line js a ∷ rows) other n x t h =
+    let d = and-true (allBelow n js) (linesBelow n rows) (true-of t) in
     pick-false a _ (past js n x (of-true (d .0)) h) ∙ past-rows rows other n x (of-true (d .1)) h
 
 -- ---- a table's rows as the arms of a `match`. The toolchain sorts an arm's numbers, and makes a range of two neighbours: a row that holds neighbours is two arms
@@ -186,13 +186,13 @@ left ns [] = []
 left ns (k ∷ ks) = elim (hasKey ns k) [ true ↦ k ∷ left ns ks | false ↦ left (suc k ∷ ns) ks ]
 
 -- a row as one arm or two
-abbrev cut : {A : Type 0} → List ℕ → List ℕ → A → List (Row A) → List (Row A)
-cut ks [] a rows = row ks a ∷ rows
-cut ks (m ∷ ms) a rows = row ks a ∷ row (m ∷ ms) a ∷ rows
+abbrev cut : {A : Type 0} → List ℕ → List ℕ → A → List (Line A) → List (Line A)
+cut ks [] a rows = line ks a ∷ rows
+cut ks (m ∷ ms) a rows = line ks a ∷ line (m ∷ ms) a ∷ rows
 
-abbrev pub arms : {A : Type 0} → List (Row A) → List (Row A)
+abbrev pub arms : {A : Type 0} → List (Line A) → List (Line A)
 arms [] = []
-arms (row ks a ∷ rows) = cut (taken [] (sorted ks)) (left [] (sorted ks)) a (arms rows)
+arms (line ks a ∷ rows) = cut (taken [] (sorted ks)) (left [] (sorted ks)) a (arms rows)
 
 -- two alternatives of three, changed over
 or-behind : (a b c d : Bool) → b || c ≡ d → b || (a || c) ≡ a || d
@@ -226,10 +226,10 @@ taken-or-left ns (k ∷ ks) x = go (hasKey ns k) (taken-or-left ns ks x) (taken-
     go false e f = or-before (eqb k x) (hasKey (taken (suc k ∷ ns) ks) x) (hasKey (left (suc k ∷ ns) ks) x) (hasKey ks x) f
 
 -- the arms of a table give what its rows give
-arms-same : {A : Type 0} (rows : List (Row A)) (other : A) (x : ℕ) → lookup (arms rows) other x ≡ lookup rows other x
+arms-same : {A : Type 0} (rows : List (Line A)) (other : A) (x : ℕ) → lookup (arms rows) other x ≡ lookup rows other x
 unfolding lookup pick
 arms-same [] other x = refl
-arms-same {A} (row ks a ∷ rows) other x = go (left [] (sorted ks)) (taken-or-left [] (sorted ks) x ∙ sorted-keys ks x) ∙ ap (pick (hasKey ks x) a) (arms-same rows other x)
+arms-same {A} (line ks a ∷ rows) other x = go (left [] (sorted ks)) (taken-or-left [] (sorted ks) x ∙ sorted-keys ks x) ∙ ap (pick (hasKey ks x) a) (arms-same rows other x)
   where
     one : (b c : Bool) (z : A) → b || false ≡ c → pick b a z ≡ pick c a z
     one true c z e = rw (← e)
@@ -244,27 +244,27 @@ arms-same {A} (row ks a ∷ rows) other x = go (left [] (sorted ks)) (taken-or-l
     go (m ∷ ms) e = two (hasKey (taken [] (sorted ks)) x) (hasKey (m ∷ ms) x) (hasKey ks x) _ e
 
 -- a number of row j
-pub in-row : {A : Type 0} (rows : List (Row A)) (other : A) (x j : ℕ) → T (apartBefore rows j (numbersAt rows j)) → OneOf (numbersAt rows j) x → lookup rows other x ≡ givenAt rows other j
+pub in-row : {A : Type 0} (rows : List (Line A)) (other : A) (x j : ℕ) → T (apartBefore rows j (numbersAt rows j)) → OneOf (numbersAt rows j) x → lookup rows other x ≡ givenAt rows other j
 in-row rows other x j t h = found rows other j (numbersAt rows j) x (within-self (numbersAt rows j)) t (among (numbersAt rows j) x h)
 
 -- arm j of the table
-pub arm : {A : Type 0} (rows : List (Row A)) (other : A) (x j : ℕ) → T (apartBefore (arms rows) j (numbersAt (arms rows) j)) → OneOf (numbersAt (arms rows) j) x → lookup rows other x ≡ givenAt (arms rows) other j
+pub arm : {A : Type 0} (rows : List (Line A)) (other : A) (x j : ℕ) → T (apartBefore (arms rows) j (numbersAt (arms rows) j)) → OneOf (numbersAt (arms rows) j) x → lookup rows other x ≡ givenAt (arms rows) other j
 arm rows other x j t h = sym (arms-same rows other x) ∙ in-row (arms rows) other x j t h
 
 -- what a default arm knows: the number is in none of the arms
-abbrev pub Missed : {A : Type 0} → Type 0 → List (Row A) → ℕ → Type 0
+abbrev pub Missed : {A : Type 0} → Type 0 → List (Line A) → ℕ → Type 0
 Missed N [] x = N
-Missed N (row ks a ∷ rows) x = Missed (N × (OneOf ks x → ⊥)) rows x
+Missed N (line ks a ∷ rows) x = Missed (N × (OneOf ks x → ⊥)) rows x
 
-missed : {A : Type 0} (rows : List (Row A)) (other : A) (x : ℕ) (N : Type 0) → Missed N rows x → N × (lookup rows other x ≡ other)
+missed : {A : Type 0} (rows : List (Line A)) (other : A) (x : ℕ) (N : Type 0) → Missed N rows x → N × (lookup rows other x ≡ other)
 unfolding lookup
 missed [] other x N m = (m, refl)
-missed (row ks a ∷ rows) other x N m =
+missed (line ks a ∷ rows) other x N m =
     let r = missed rows other x (N × (OneOf ks x → ⊥)) m in
     (r .0 .0, pick-false a _ (outside ks x (r .0 .1)) ∙ r .1)
 
 -- the default arm
-pub rest : {A : Type 0} (rows : List (Row A)) (other : A) (x : ℕ) → Missed (Unit {0}) (arms rows) x → lookup rows other x ≡ other
+pub rest : {A : Type 0} (rows : List (Line A)) (other : A) (x : ℕ) → Missed (Unit {0}) (arms rows) x → lookup rows other x ≡ other
 rest rows other x m = sym (arms-same rows other x) ∙ missed (arms rows) other x (Unit {0}) m .1
 
 -- ---- ranges

@@ -1,4 +1,4 @@
--- Choice by a test, and tables whose rows stand for sets of numbers.
+-- Choice by a test, and tables whose lines stand for sets of numbers.
 use mathlib.Core.Bool.{Bool, true, false}
 use mathlib.Core.List.{List, [], _∷_}
 use Prim.Native.Nat.{ℕ}
@@ -13,11 +13,11 @@ pick false a b = b
 abbrev pub isOneOf : List ℕ → ℕ → Bool
 isOneOf ns n = hasKey ns n
 
--- a row of a table: what it gives for each of the numbers listed
-pub data Row (A : Type 0) : Type 0 where
-  row : List ℕ → A → Row A
+-- a line of a table: what it gives for each of the numbers listed
+pub data Line (A : Type 0) : Type 0 where
+  line : List ℕ → A → Line A
 
--- what the first row with n among its numbers gives; without such a row, `other`
-unfoldable pub lookup : {A : Type 0} → List (Row A) → A → ℕ → A
+-- what the first line with n among its numbers gives; without such a line, `other`
+unfoldable pub lookup : {A : Type 0} → List (Line A) → A → ℕ → A
 lookup [] other n = other
-lookup (row ns a ∷ rows) other n = pick (isOneOf ns n) a (lookup rows other n)
+lookup (line ns a ∷ lines) other n = pick (isOneOf ns n) a (lookup lines other n)

@@ -3,29 +3,29 @@ use mathlib.Core.Bool.{Bool}
 use mathlib.Core.List.{List, [], _∷_}
 use Prim.Native.Nat.{ℕ, _/_, _%_, _^_}
 use lib.Dec.{eqb}
-use Rattle.laws.specs.Choice.{Row, row, lookup}
+use Rattle.laws.specs.Choice.{Line, line, lookup}
 use Rattle.precedence.specs.declared.Precedence.{Precedence}
 use Rattle.precedence.specs.declared.Precedence.the-variants.{Jump, Assign, Range, Or, And, Let, Compare, BitOr, BitXor, BitAnd, Shift, Sum, Product, Cast, Prefix, Unambiguous}
 use Rattle.fixup.specs.declared.context.FixupContext.{FixupContext}
 
 -- document 01: "Precedence numbers follow the enum's order: Jump 0 to Unambiguous 15."
-unfoldable pub ranks : List (Row Precedence)
+unfoldable pub ranks : List (Line Precedence)
 ranks =
-    row (1 ∷ []) Assign ∷
-    row (2 ∷ []) Range ∷
-    row (3 ∷ []) Or ∷
-    row (4 ∷ []) And ∷
-    row (5 ∷ []) Let ∷
-    row (6 ∷ []) Compare ∷
-    row (7 ∷ []) BitOr ∷
-    row (8 ∷ []) BitXor ∷
-    row (9 ∷ []) BitAnd ∷
-    row (10 ∷ []) Shift ∷
-    row (11 ∷ []) Sum ∷
-    row (12 ∷ []) Product ∷
-    row (13 ∷ []) Cast ∷
-    row (14 ∷ []) Prefix ∷
-    row (15 ∷ []) Unambiguous ∷
+    line (1 ∷ []) Assign ∷
+    line (2 ∷ []) Range ∷
+    line (3 ∷ []) Or ∷
+    line (4 ∷ []) And ∷
+    line (5 ∷ []) Let ∷
+    line (6 ∷ []) Compare ∷
+    line (7 ∷ []) BitOr ∷
+    line (8 ∷ []) BitXor ∷
+    line (9 ∷ []) BitAnd ∷
+    line (10 ∷ []) Shift ∷
+    line (11 ∷ []) Sum ∷
+    line (12 ∷ []) Product ∷
+    line (13 ∷ []) Cast ∷
+    line (14 ∷ []) Prefix ∷
+    line (15 ∷ []) Unambiguous ∷
     []
 
 -- the precedence with a rank; Jump for 0, and for a number above 15

@@ -3,56 +3,56 @@ use mathlib.Core.Bool.{Bool, not, _&&_, _||_}
 use mathlib.Core.List.{List, [], _∷_}
 use Prim.Native.Nat.{ℕ}
 use lib.Dec.{eqb, leb}
-use Rattle.laws.specs.Choice.{pick, Row, row, lookup}
+use Rattle.laws.specs.Choice.{pick, Line, line, lookup}
 use Rattle.places.specs.declared.place.Place.{Place}
 use Rattle.places.specs.declared.place.Place.the-variants.{Nothing, Required, Optional, List as ListOf, Item, Next}
 use Rattle.tree.specs.Forms.{ExprAssign, ExprAwait, ExprBinary, ExprBreak, ExprCall, ExprCast, ExprClosure, ExprField, ExprGroup, ExprIndex, ExprLet, ExprMethodCall, ExprParen, ExprRange, ExprRawAddr, ExprReference, ExprReturn, ExprTry, ExprUnary, ExprYield, TypeFnPtr, TypeImplTrait, TypePath, TypePtr, TypeReference, TypeTraitObject, Link, anExpression, aType, aLink}
 use Rattle.tree.specs.Table.{formAt, detailAt, firstAt, secondAt, classAt}
 
 -- the first place, by form; "All others: none."
-unfoldable pub firstPlaces : ℕ → List (Row Place)
+unfoldable pub firstPlaces : ℕ → List (Line Place)
 firstPlaces detail =
     -- "Assign, Binary, Index: both."
-    row (ExprAssign ∷ ExprBinary ∷ ExprIndex ∷ []) (Required anExpression) ∷
+    line (ExprAssign ∷ ExprBinary ∷ ExprIndex ∷ []) (Required anExpression) ∷
     -- "Cast: expression, type."
-    row (ExprCast ∷ []) (Required anExpression) ∷
+    line (ExprCast ∷ []) (Required anExpression) ∷
     -- "Await, Closure (body), Field, Group, Let, Paren, RawAddr, Reference, Try, Unary: first only"
-    row
+    line
     (ExprAwait ∷ ExprClosure ∷ ExprField ∷ ExprGroup ∷ ExprLet ∷ ExprParen ∷ ExprRawAddr ∷ ExprReference ∷ ExprTry ∷ ExprUnary ∷ [])
     (Required anExpression) ∷
     -- "also types Ptr and Reference"
-    row (TypePtr ∷ TypeReference ∷ []) (Required aType) ∷
+    line (TypePtr ∷ TypeReference ∷ []) (Required aType) ∷
     -- "Break, Return, Yield, and FnPtr (output): optional first."
-    row (ExprBreak ∷ ExprReturn ∷ ExprYield ∷ []) (Optional anExpression) ∷
-    row (TypeFnPtr ∷ []) (Optional aType) ∷
+    line (ExprBreak ∷ ExprReturn ∷ ExprYield ∷ []) (Optional anExpression) ∷
+    line (TypeFnPtr ∷ []) (Optional aType) ∷
     -- "Range: each optional."
-    row (ExprRange ∷ []) (Optional anExpression) ∷
+    line (ExprRange ∷ []) (Optional anExpression) ∷
     -- "Call, MethodCall: first"
-    row (ExprCall ∷ ExprMethodCall ∷ []) (Required anExpression) ∷
+    line (ExprCall ∷ ExprMethodCall ∷ []) (Required anExpression) ∷
     -- "Types Path, ImplTrait and TraitObject with 3: optional first, the output type."
-    row (TypePath ∷ TypeImplTrait ∷ TypeTraitObject ∷ []) (pick (eqb detail 3) (Optional aType) Nothing) ∷
+    line (TypePath ∷ TypeImplTrait ∷ TypeTraitObject ∷ []) (pick (eqb detail 3) (Optional aType) Nothing) ∷
     -- "56 is a list link: first an item"
-    row (Link ∷ []) Item ∷
+    line (Link ∷ []) Item ∷
     []
 
 unfoldable pub firstPlace : ℕ → ℕ → Place
 firstPlace form detail = lookup (firstPlaces detail) Nothing form
 
 -- the second place, by form; "All others: none."
-unfoldable pub secondPlaces : ℕ → List (Row Place)
+unfoldable pub secondPlaces : ℕ → List (Line Place)
 secondPlaces detail =
     -- "Assign, Binary, Index: both."
-    row (ExprAssign ∷ ExprBinary ∷ ExprIndex ∷ []) (Required anExpression) ∷
+    line (ExprAssign ∷ ExprBinary ∷ ExprIndex ∷ []) (Required anExpression) ∷
     -- "Cast: expression, type."
-    row (ExprCast ∷ []) (Required aType) ∷
+    line (ExprCast ∷ []) (Required aType) ∷
     -- "Range: each optional."
-    row (ExprRange ∷ []) (Optional anExpression) ∷
+    line (ExprRange ∷ []) (Optional anExpression) ∷
     -- "Call, MethodCall: first, and second an expression list or 0."
-    row (ExprCall ∷ ExprMethodCall ∷ []) (ListOf anExpression) ∷
+    line (ExprCall ∷ ExprMethodCall ∷ []) (ListOf anExpression) ∷
     -- "Path type with 2: second a type list or 0."
-    row (TypePath ∷ []) (pick (eqb detail 2) (ListOf aType) Nothing) ∷
+    line (TypePath ∷ []) (pick (eqb detail 2) (ListOf aType) Nothing) ∷
     -- "second the next link or 0"
-    row (Link ∷ []) Next ∷
+    line (Link ∷ []) Next ∷
     []
 
 unfoldable pub secondPlace : ℕ → ℕ → Place

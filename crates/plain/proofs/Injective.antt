@@ -5,7 +5,7 @@ use mathlib.Core.List.{List, [], _∷_}
 use Prim.Native.Nat.{ℕ, _-_}
 use lib.Dec.{eqb}
 use borrow.Author.Tests.{eqb-true}
-use Rattle.laws.specs.Choice.{Row, row, lookup, pick}
+use Rattle.laws.specs.Choice.{Line, line, lookup, pick}
 use Rattle.tree.specs.Forms.{ExprAssign, ExprAwait, ExprBinary, ExprCall, ExprCast, ExprField, ExprIndex, ExprLit, ExprMethodCall, ExprParen, ExprPath, ExprReference, ExprTry, ExprUnary, TypeInfer, TypeNever, TypePath, TypePtr, TypeReference}
 use Rattle.tree.specs.Trees.{Label, Tree, none, node}
 use Rattle.grammar.specs.Tokens.{Operator, number, Assign, operatorOf}
@@ -31,19 +31,19 @@ typesOf p = pick (p .there) (types (p .typed)) noTypes
 exprBy : Label → Parts → Parts → Expr one
 exprBy l a b =
     lookup
-    (row (ExprLit ∷ []) (atom literal) ∷
-    row (ExprParen ∷ []) (paren (a .expr)) ∷
-    row (ExprUnary ∷ []) (prefix (pick (eqb (l .detail) 0) deref (pick (eqb (l .detail) 1) invert neg)) (a .expr)) ∷
-    row (ExprReference ∷ []) (prefix (pick (eqb (l .detail) 0) ref refMut) (a .expr)) ∷
-    row (ExprBinary ∷ []) (binary (operatorOf (l .detail)) (a .expr) (b .expr)) ∷
-    row (ExprAssign ∷ []) (binary Assign (a .expr) (b .expr)) ∷
-    row (ExprCast ∷ []) (cast (a .expr) (b .type)) ∷
-    row (ExprField ∷ []) (member (pick (eqb (l .detail) 0) byName byNumber) (a .expr)) ∷
-    row (ExprAwait ∷ []) (member awaited (a .expr)) ∷
-    row (ExprTry ∷ []) (try (a .expr)) ∷
-    row (ExprIndex ∷ []) (index (a .expr) (b .expr)) ∷
-    row (ExprCall ∷ []) (call (a .expr) (listOf b)) ∷
-    row (ExprMethodCall ∷ []) (method (a .expr) (listOf b)) ∷
+    (line (ExprLit ∷ []) (atom literal) ∷
+    line (ExprParen ∷ []) (paren (a .expr)) ∷
+    line (ExprUnary ∷ []) (prefix (pick (eqb (l .detail) 0) deref (pick (eqb (l .detail) 1) invert neg)) (a .expr)) ∷
+    line (ExprReference ∷ []) (prefix (pick (eqb (l .detail) 0) ref refMut) (a .expr)) ∷
+    line (ExprBinary ∷ []) (binary (operatorOf (l .detail)) (a .expr) (b .expr)) ∷
+    line (ExprAssign ∷ []) (binary Assign (a .expr) (b .expr)) ∷
+    line (ExprCast ∷ []) (cast (a .expr) (b .type)) ∷
+    line (ExprField ∷ []) (member (pick (eqb (l .detail) 0) byName byNumber) (a .expr)) ∷
+    line (ExprAwait ∷ []) (member awaited (a .expr)) ∷
+    line (ExprTry ∷ []) (try (a .expr)) ∷
+    line (ExprIndex ∷ []) (index (a .expr) (b .expr)) ∷
+    line (ExprCall ∷ []) (call (a .expr) (listOf b)) ∷
+    line (ExprMethodCall ∷ []) (method (a .expr) (listOf b)) ∷
     [])
     (atom path)
     (l .form)
@@ -51,10 +51,10 @@ exprBy l a b =
 typeBy : Label → Parts → Parts → Ty one
 typeBy l a b =
     lookup
-    (row (TypePath ∷ []) (pick (eqb (l .detail) 2) (applied (typesOf b)) named) ∷
-    row (TypePtr ∷ []) (pointing (pick (eqb (l .detail) 0) constPtr mutPtr) (a .type)) ∷
-    row (TypeReference ∷ []) (pointing (pick (eqb (l .detail) 0) sharedRef mutRef) (a .type)) ∷
-    row (TypeInfer ∷ []) (sign infer) ∷
+    (line (TypePath ∷ []) (pick (eqb (l .detail) 2) (applied (typesOf b)) named) ∷
+    line (TypePtr ∷ []) (pointing (pick (eqb (l .detail) 0) constPtr mutPtr) (a .type)) ∷
+    line (TypeReference ∷ []) (pointing (pick (eqb (l .detail) 0) sharedRef mutRef) (a .type)) ∷
+    line (TypeInfer ∷ []) (sign infer) ∷
     [])
     (sign never)
     (l .form)

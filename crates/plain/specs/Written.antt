@@ -5,7 +5,7 @@ use mathlib.Core.List.{List, [], _∷_, _++_}
 use Prim.Native.Nat.{ℕ, _*_, _-_}
 use lib.Dec.{eqb}
 use lib.ListN.{getD}
-use Rattle.laws.specs.Choice.{Row, row, lookup, pick, isOneOf}
+use Rattle.laws.specs.Choice.{Line, line, lookup, pick, isOneOf}
 use Rattle.tree.specs.Forms.{ExprAssign, ExprAwait, ExprBinary, ExprCall, ExprCast, ExprField, ExprIndex, ExprLit, ExprMethodCall, ExprParen, ExprPath, ExprReference, ExprTry, ExprUnary, TypeInfer, TypeNever, TypePath, TypePtr, TypeReference, Link}
 use Rattle.tree.specs.Trees.{Label, Tree, none, node, operandAt}
 use Rattle.tree.specs.Walks.{isThere}
@@ -32,31 +32,31 @@ unary detail = pick (eqb detail 0) (operator Mul) (byDetail (detail - 1) Bang (o
 abbrev pub comma : Bool → List Token
 comma more = pick more (Comma ∷ []) []
 
-unfoldable pub signRows : ℕ → Bool → List (Row Signs)
-signRows detail second =
-    row (ExprPath ∷ []) (signs (Name ∷ []) [] []) ∷
-    row (ExprLit ∷ []) (signs (Literal ∷ []) [] []) ∷
-    row (ExprParen ∷ []) (signs (LeftParen ∷ []) (RightParen ∷ []) []) ∷
-    row (ExprUnary ∷ []) (signs (unary detail ∷ []) [] []) ∷
-    row (ExprReference ∷ TypeReference ∷ []) (signs (byDetail detail (operator BitAnd) AndMut ∷ []) [] []) ∷
-    row (ExprBinary ∷ []) (signs [] (operator (operatorOf detail) ∷ []) []) ∷
-    row (ExprAssign ∷ []) (signs [] (operator Assign ∷ []) []) ∷
-    row (ExprCast ∷ []) (signs [] (As ∷ []) []) ∷
-    row (ExprField ∷ []) (signs [] (Dot ∷ byDetail detail Name NumberedMember ∷ []) []) ∷
-    row (ExprIndex ∷ []) (signs [] (LeftBracket ∷ []) (RightBracket ∷ [])) ∷
-    row (ExprCall ∷ []) (signs [] (LeftParen ∷ []) (RightParen ∷ [])) ∷
-    row (ExprMethodCall ∷ []) (signs [] (Dot ∷ Name ∷ LeftParen ∷ []) (RightParen ∷ [])) ∷
-    row (ExprTry ∷ []) (signs [] (Question ∷ []) []) ∷
-    row (ExprAwait ∷ []) (signs [] (Dot ∷ Await ∷ []) []) ∷
-    row (TypePath ∷ []) (pick (eqb detail 2) (signs (Name ∷ operator Lt ∷ []) [] (operator Gt ∷ [])) (signs (Name ∷ []) [] [])) ∷
-    row (TypePtr ∷ []) (signs (byDetail detail StarConst StarMut ∷ []) [] []) ∷
-    row (TypeInfer ∷ []) (signs (Underscore ∷ []) [] []) ∷
-    row (TypeNever ∷ []) (signs (Bang ∷ []) [] []) ∷
-    row (Link ∷ []) (signs [] (comma second) []) ∷
+unfoldable pub signLines : ℕ → Bool → List (Line Signs)
+signLines detail second =
+    line (ExprPath ∷ []) (signs (Name ∷ []) [] []) ∷
+    line (ExprLit ∷ []) (signs (Literal ∷ []) [] []) ∷
+    line (ExprParen ∷ []) (signs (LeftParen ∷ []) (RightParen ∷ []) []) ∷
+    line (ExprUnary ∷ []) (signs (unary detail ∷ []) [] []) ∷
+    line (ExprReference ∷ TypeReference ∷ []) (signs (byDetail detail (operator BitAnd) AndMut ∷ []) [] []) ∷
+    line (ExprBinary ∷ []) (signs [] (operator (operatorOf detail) ∷ []) []) ∷
+    line (ExprAssign ∷ []) (signs [] (operator Assign ∷ []) []) ∷
+    line (ExprCast ∷ []) (signs [] (As ∷ []) []) ∷
+    line (ExprField ∷ []) (signs [] (Dot ∷ byDetail detail Name NumberedMember ∷ []) []) ∷
+    line (ExprIndex ∷ []) (signs [] (LeftBracket ∷ []) (RightBracket ∷ [])) ∷
+    line (ExprCall ∷ []) (signs [] (LeftParen ∷ []) (RightParen ∷ [])) ∷
+    line (ExprMethodCall ∷ []) (signs [] (Dot ∷ Name ∷ LeftParen ∷ []) (RightParen ∷ [])) ∷
+    line (ExprTry ∷ []) (signs [] (Question ∷ []) []) ∷
+    line (ExprAwait ∷ []) (signs [] (Dot ∷ Await ∷ []) []) ∷
+    line (TypePath ∷ []) (pick (eqb detail 2) (signs (Name ∷ operator Lt ∷ []) [] (operator Gt ∷ [])) (signs (Name ∷ []) [] [])) ∷
+    line (TypePtr ∷ []) (signs (byDetail detail StarConst StarMut ∷ []) [] []) ∷
+    line (TypeInfer ∷ []) (signs (Underscore ∷ []) [] []) ∷
+    line (TypeNever ∷ []) (signs (Bang ∷ []) [] []) ∷
+    line (Link ∷ []) (signs [] (comma second) []) ∷
     []
 
 unfoldable pub signsOf : Label → Tree → Signs
-signsOf l second = lookup (signRows (l .detail) (isThere second)) (signs [] [] []) (l .form)
+signsOf l second = lookup (signLines (l .detail) (isThere second)) (signs [] [] []) (l .form)
 
 -- what `inside` puts before a rest, within a further `(` and `)` where there is a pair
 abbrev pub within : Bool → (List Token → List Token) → List Token → List Token

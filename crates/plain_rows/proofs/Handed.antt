@@ -18,7 +18,7 @@ use Rattle.fixup.specs.Contexts.{NONE, withOperator, withDot, rightmost}
 use Rattle.scan.specs.Scans.{scanned}
 use Rattle.expr.specs.declared.Handed.{Handed}
 use Rattle.expr.specs.Handed.{beforeOperator, beforeDot, atEnd, afterPrefix, neither}
-use Rattle.expr.specs.Expr.{canBeginExpr, canBeginGenerics, leftTest, rightTest, binaryLeft, binaryRight, callTest, firstRows, handsFirst, secondRows, handsSecond}
+use Rattle.expr.specs.Expr.{canBeginExpr, canBeginGenerics, leftTest, rightTest, binaryLeft, binaryRight, callTest, firstLines, handsFirst, secondLines, handsSecond}
 use Rattle.row.specs.Rows.{outerPair}
 use Rattle.grammar.specs.Tokens.{Operator, number}
 use Rattle.grammar.specs.Tokens as token
@@ -89,7 +89,7 @@ module _ (x : FixupContext) (c : Calm x) (s : Settled x) where
   -- ---- owner by owner
 
   pub prefix-first : (p : Prefix) (a : Expr one) → Operand (handsFirst x (treeOf (prefix p a))) a (tooWeak (after prefixes) g a) g
-  unfolding handsFirst firstRows atRoot lookup pick afterPrefix
+  unfolding handsFirst firstLines atRoot lookup pick afterPrefix
   prefix-first neg a = at-end rank.Prefix 14 a (omega arith)
   prefix-first deref a = at-end rank.Prefix 14 a (omega arith)
   prefix-first invert a = at-end rank.Prefix 14 a (omega arith)
@@ -97,7 +97,7 @@ module _ (x : FixupContext) (c : Calm x) (s : Settled x) where
   prefix-first refMut a = at-end rank.Prefix 14 a (omega arith)
 
   pub binary-first : (o : Operator) (a b : Expr one) → Operand (handsFirst x (treeOf (binary o a b))) a (tooWeakBefore o a) (opensArguments o)
-  unfolding handsFirst firstRows atRoot lookup pick operatorLabel opensArguments kind
+  unfolding handsFirst firstLines atRoot lookup pick operatorLabel opensArguments kind
   binary-first o a b = go (operated o)
     where
       go : Operating o → Operand (handsFirst x (treeOf (binary o a b))) a (tooWeakBefore o a) (opensArguments o)
@@ -105,7 +105,7 @@ module _ (x : FixupContext) (c : Calm x) (s : Settled x) where
       go (operating h e) = rw e (before-binary o h a)
 
   pub binary-second : (o : Operator) (a b : Expr one) → Operand (handsSecond x (treeOf (binary o a b))) b (tooWeakAfter o g b) g
-  unfolding handsSecond secondRows atRoot lookup pick operatorLabel binaryRight kind
+  unfolding handsSecond secondLines atRoot lookup pick operatorLabel binaryRight kind
   binary-second o a b = go (operated o)
     where
       go : Operating o → Operand (handsSecond x (treeOf (binary o a b))) b (tooWeakAfter o g b) g
@@ -116,41 +116,41 @@ module _ (x : FixupContext) (c : Calm x) (s : Settled x) where
           (at-end (ofBinop (number o)) (rightTest (ofBinop (number o))) b (rw (binop-level o h) (omega (arith, operator-high o)))))
 
   pub cast-first : (a : Expr one) (t : Ty one) → Operand (handsFirst x (treeOf (cast a t))) a (tooWeak (before casts) false a) false
-  unfolding handsFirst firstRows atRoot lookup pick
+  unfolding handsFirst firstLines atRoot lookup pick
   cast-first a t = before-other false rank.Cast 13 a (tooWeak (before casts) false a) (omega arith) refl
 
   pub member-first : (m : Member) (a : Expr one) → Operand (handsFirst x (treeOf (member m a))) a (tooWeak (before postfixes) false a) false
-  unfolding handsFirst firstRows atRoot lookup pick
+  unfolding handsFirst firstLines atRoot lookup pick
   member-first byName a = before-dot a
   member-first byNumber a = before-dot a
   member-first awaited a = before-dot a
 
   pub try-first : (a : Expr one) → Operand (handsFirst x (treeOf (try a))) a (tooWeak (before postfixes) false a) false
-  unfolding handsFirst firstRows atRoot lookup pick
+  unfolding handsFirst firstLines atRoot lookup pick
   try-first a = before-dot a
 
   pub index-first : (a b : Expr one) → Operand (handsFirst x (treeOf (index a b))) a (tooWeak (before postfixes) false a) false
-  unfolding handsFirst firstRows atRoot lookup pick
+  unfolding handsFirst firstLines atRoot lookup pick
   index-first a b = before-other true rank.Unambiguous 15 a (tooWeak (before postfixes) false a) (omega arith) refl
 
   pub call-first : (a : Expr one) (l : Expr list) → Operand (handsFirst x (treeOf (call a l))) a (tooWeakToCall a) false
-  unfolding handsFirst firstRows atRoot lookup pick
+  unfolding handsFirst firstLines atRoot lookup pick
   call-first a l = before-other true rank.Unambiguous (callTest (treeOf a)) a (tooWeakToCall a) (omega arith) (call-test a)
 
   pub method-first : (a : Expr one) (l : Expr list) → Operand (handsFirst x (treeOf (method a l))) a (tooWeak (before postfixes) false a) false
-  unfolding handsFirst firstRows atRoot lookup pick
+  unfolding handsFirst firstLines atRoot lookup pick
   method-first a l = before-dot a
 
 -- ---- owners that hand down NONE
 
 pub paren-first : (x : FixupContext) (a : Expr one) → handsFirst x (treeOf (paren a)) ≡ neither NONE
-unfolding handsFirst firstRows atRoot lookup pick
+unfolding handsFirst firstLines atRoot lookup pick
 paren-first x a = refl
 
 pub index-second : (x : FixupContext) (a b : Expr one) → handsSecond x (treeOf (index a b)) ≡ neither NONE
-unfolding handsSecond secondRows atRoot lookup pick
+unfolding handsSecond secondLines atRoot lookup pick
 index-second x a b = refl
 
 pub link-first : (x : FixupContext) (a b : Tree) → handsFirst x (node (label Link 0) a b) ≡ neither NONE
-unfolding handsFirst firstRows atRoot lookup pick
+unfolding handsFirst firstLines atRoot lookup pick
 link-first x a b = refl

@@ -21,7 +21,7 @@ use Rattle.grammar.specs.Types.{Sort, one, list, items, TypePrefix, constPtr, m
 use Rattle.grammar.specs.Expressions.{Atom, Prefix, Member, Expr, atom, paren, prefix, binary, cast, member, try, index, call, method, noArguments, arguments, lastArgument, moreArguments, atomToken, prefixToken, memberToken, write}
 use Rattle.grammar.proofs.Added.{withPair, addPairs, PairAt, Pair, dropAt, dropPair}
 use Rattle.plain.specs.Trees.{label, typePrefixLabel, typeSignLabel, treeOf, treeOfType}
-use Rattle.plain.specs.Written.{Signs, signs, signRows, signsOf, within}
+use Rattle.plain.specs.Written.{Signs, signs, signLines, signsOf, within}
 use Rattle.plain_rows.proofs.Contexts.{Calm, calm-none}
 use Rattle.plain_rows.proofs.Nodes.{facts}
 use Rattle.plain_rows.proofs.Operands.{Settled}
@@ -198,7 +198,7 @@ unfolding tokensBut
 link-below h a b s p rest = ap (λ c. within c (insideBut s (tokensBut p) (ownContext h (linked a b)) (linked a b)) rest) (link-unmarked h a b)
 
 drops : (s : Sort) (e : Expr s) → Drops s e
-unfolding markedBelow tokensFor signsOf signRows lookup pick
+unfolding markedBelow tokensFor signsOf signLines lookup pick
 drops s (atom y) = λ x c w.
     split (DropsAt (atom y) x) (λ p m. nothing (handsFirst x (treeOf (atom y))) p m) (λ p m. nothing (handsSecond x (treeOf (atom y))) p m)
 drops s (paren a) = λ x c w.

@@ -14,11 +14,11 @@ use Rattle.tree.specs.Trees.{Label, Tree, none, node}
 use Rattle.tree.specs.Walks.{isThere, walk, follow, atRoot}
 use Rattle.precedence.specs.declared.Precedence.{Precedence}
 use Rattle.precedence.specs.declared.Precedence.the-variants as rank
-use Rattle.precedence.specs.Precedences.{rankOf, ofBinop, ofRows, closedBy, prefixAttrs, precedenceOf}
-use Rattle.classify.specs.Classify.{lastTypeInPath, pathRows, trailingPath}
+use Rattle.precedence.specs.Precedences.{rankOf, ofBinop, ofLines, closedBy, prefixAttrs, precedenceOf}
+use Rattle.classify.specs.Classify.{lastTypeInPath, pathLines, trailingPath}
 use Rattle.fixup.specs.declared.context.FixupContext.{FixupContext}
 use Rattle.look.specs.Looks.{isBareJump, isOpenAhead, isCastToPath}
-use Rattle.fixup.specs.Fixup.{effective, scanLeftRows, scanLeft, leftOfBinary}
+use Rattle.fixup.specs.Fixup.{effective, scanLeftLines, scanLeft, leftOfBinary}
 use Rattle.grammar.specs.Tokens.{Operator, number, operatorOf}
 use Rattle.grammar.specs.Tokens as token
 use Rattle.grammar.specs.Levels.{kind, level}
@@ -47,7 +47,7 @@ operated o = go (eqb (number o) 28) refl
 -- ---- types: a type name at the end
 
 pub path-ends : (t : Ty one) → trailingPath (treeOfType t) ≡ typeEndsInName t
-unfolding trailingPath walk follow pathRows lastTypeInPath lookup pick
+unfolding trailingPath walk follow pathLines lastTypeInPath lookup pick
 path-ends named = refl
 path-ends (applied l) = refl
 path-ends (pointing constPtr t) = path-ends t
@@ -68,7 +68,7 @@ pub record Facts (e : Expr one) : Type 0 where
   pub there : isThere (treeOf e) ≡ true
 
 pub facts : (e : Expr one) → Facts e
-unfolding precedenceOf walk follow ofRows closedBy prefixAttrs isCastToPath isBareJump isOpenAhead atRoot lookup pick classOf operatorLabel ofBinop kind
+unfolding precedenceOf walk follow ofLines closedBy prefixAttrs isCastToPath isBareJump isOpenAhead atRoot lookup pick classOf operatorLabel ofBinop kind
 facts (atom path) = record { precedence = refl; cast-to-path = refl; no-jump = refl; not-ahead = refl; expression = refl; there = refl }
 facts (atom literal) = record { precedence = refl; cast-to-path = refl; no-jump = refl; not-ahead = refl; expression = refl; there = refl }
 facts (paren a) = record { precedence = refl; cast-to-path = refl; no-jump = refl; not-ahead = refl; expression = refl; there = refl }

@@ -13,7 +13,7 @@ use Rattle.precedence.specs.declared.Precedence.{Precedence}
 use Rattle.precedence.specs.declared.Precedence.the-variants as rank
 use Rattle.precedence.specs.Precedences.{rankOf, below, atMost, same, ofBinop}
 use Rattle.fixup.specs.declared.context.FixupContext.{FixupContext}
-use Rattle.fixup.specs.Fixup.{effective, leftOfBinary, scanLeftRows, scanLeft}
+use Rattle.fixup.specs.Fixup.{effective, leftOfBinary, scanLeftLines, scanLeft}
 use Rattle.scan.specs.Scans.{loose, scanned, rightBy, scanRight, rightmostPrecedence, bailsOut, leftmostPrecedence}
 use Rattle.scan.specs.Arms.{notConsume}
 use Rattle.grammar.specs.Tokens.{Operator, number}
@@ -82,7 +82,7 @@ module _ (x : FixupContext) (high : rankOf (x .«previous_operator») ≤ 14) wh
       go false e = le-ltb p (rankOf q) (k .at-most)
 
   scan-left-not : (e : Expr one) → Passes p (level (kindOf e)) → scanLeft (treeOf e) x ≡ false
-  unfolding scanLeft scanLeftRows atRoot lookup pick operatorLabel leftOfBinary kind
+  unfolding scanLeft scanLeftLines atRoot lookup pick operatorLabel leftOfBinary kind
   scan-left-not (atom y) k = strong 15 (omega arith) k
   scan-left-not (paren a) k = strong 15 (omega arith) k
   scan-left-not (prefix q a) k = strong 14 (omega arith) k

@@ -20,7 +20,7 @@ use Rattle.scan.specs.declared.Scan.the-variants.{Fail, Bailout, Consume}
 use Rattle.scan.specs.declared.arm.Arm.{Arm}
 use Rattle.scan.specs.declared.arm.Arm.the-variants.{Assign, Binary, Prefix, Closed}
 use Rattle.scan.specs.Scans.{binds, consumes, consumeBy, rightBy, scanRight}
-use Rattle.scan.specs.Arms.{armRows, armOf, operandBy, closedScan, early, visitBy, leaveBailout, leaveBy, settleBy, finish, scanBy}
+use Rattle.scan.specs.Arms.{armLines, armOf, operandBy, closedScan, early, visitBy, leaveBailout, leaveBy, settleBy, finish, scanBy}
 use Rattle.scan.specs.Linear.{onwards}
 use Rattle.scan.proofs.Spine.{scan-along}
 use Rattle.grammar.specs.Tokens.{Operator, number}
@@ -37,18 +37,18 @@ use Rattle.plain_rows.proofs.Nodes.{Operating, assigning, operating, op
 -- ---- the arms of plain expressions: all others are closed, for all to see
 
 atom-arm : (x : Atom) → armOf (treeOf (atom x)) ≡ Closed
-unfolding armOf armRows atRoot lookup pick
+unfolding armOf armLines atRoot lookup pick
 atom-arm path = refl
 atom-arm literal = refl
 
 member-arm : (m : Member) (a : Expr one) → armOf (treeOf (member m a)) ≡ Closed
-unfolding armOf armRows atRoot lookup pick
+unfolding armOf armLines atRoot lookup pick
 member-arm byName a = refl
 member-arm byNumber a = refl
 member-arm awaited a = refl
 
 prefix-arm : (p : Prefixes) (a : Expr one) → armOf (treeOf (prefix p a)) ≡ Prefix
-unfolding armOf armRows atRoot lookup pick
+unfolding armOf armLines atRoot lookup pick
 prefix-arm neg a = refl
 prefix-arm deref a = refl
 prefix-arm invert a = refl
@@ -56,11 +56,11 @@ prefix-arm ref a = refl
 prefix-arm refMut a = refl
 
 assign-arm : (o : Operator) (a b : Expr one) → o ≡ token.Assign → armOf (treeOf (binary o a b)) ≡ Assign
-unfolding armOf armRows atRoot lookup pick operatorLabel
+unfolding armOf armLines atRoot lookup pick operatorLabel
 assign-arm o a b e = rw e
 
 binary-arm : (o : Operator) (a b : Expr one) → operatorLabel o ≡ label ExprBinary (number o) → armOf (treeOf (binary o a b)) ≡ Binary (ofBinop (number o))
-unfolding armOf armRows atRoot lookup pick
+unfolding armOf armLines atRoot lookup pick
 binary-arm o a b e = rw e
 
 -- ---- answers that are not Fail. Only a Range or a Let before it could make a closed form answer Fail
@@ -139,7 +139,7 @@ module _ (l : Label) (a b : Tree) (x : FixupContext) (calm : Calm x) (p : Preced
 
 answers : (P : Scan → Type 0) (e : Expr one) (x : FixupContext) → Calm x → (p : Precedence) → Fine p → (fail bailout : ℕ)
     → P Consume → P (consumeBy p (x .«next_operator»)) → P (scanRight (treeOf e) x p fail bailout)
-unfolding armOf armRows atRoot lookup pick
+unfolding armOf armLines atRoot lookup pick
 answers P (atom y) x c p f m n u v = subst P (sym (scan-closed _ _ _ x c p f m n (atom-arm y))) v
 answers P (paren a) x c p f m n u v = subst P (sym (scan-closed _ _ _ x c p f m n refl)) v
 answers P (prefix q a) x c p f m n u v =

@@ -16,7 +16,7 @@ use Rattle.fixup.specs.declared.context.FixupContext.{FixupContext}
 use Rattle.fixup.specs.Contexts.{NONE, withOperator, withDot, rightmost}
 use Rattle.expr.specs.declared.Handed.{Handed}
 use Rattle.expr.specs.Handed.{beforeOperator, beforeDot, atEnd, afterPrefix, neither}
-use Rattle.expr.specs.Expr.{canBeginExpr, canBeginGenerics, leftTest, rightTest, binaryLeft, binaryRight, callTest, firstRows, handsFirst, secondRows, handsSecond}
+use Rattle.expr.specs.Expr.{canBeginExpr, canBeginGenerics, leftTest, rightTest, binaryLeft, binaryRight, callTest, firstLines, handsFirst, secondLines, handsSecond}
 use Rattle.row.specs.Rows.{isExpression, outerPair, innerPair, pairBy, expressionRow, rowOf, ownContext}
 use Rattle.grammar.specs.Tokens.{Operator, number, Token, operator, Lt, Gt, As, Name, Dot, LeftParen, RightParen, LeftBracket, RightBracket, Comma, Question, operatorOf}
 use Rattle.grammar.specs.Tokens as token
@@ -26,7 +26,7 @@ use Rattle.grammar.specs.Expressions.{Atom, path, literal, Prefix, neg, deref, 
 use Rattle.grammar.proofs.Added.{withPair, addPairs}
 use Rattle.grammar.proofs.Tokens.{operator-number}
 use Rattle.plain.specs.Trees.{label, atomLabel, prefixLabel, operatorLabel, memberLabel, typePrefixLabel, typeSignLabel, treeOf, treeOfType}
-use Rattle.plain.specs.Written.{Signs, signs, signRows, signsOf, within}
+use Rattle.plain.specs.Written.{Signs, signs, signLines, signsOf, within}
 use Rattle.plain_rows.proofs.Contexts.{Calm, calm-none, calm-operator, calm-dot, calm-rightmost}
 use Rattle.plain_rows.proofs.Nodes.{Operating, assigning, operating, operated, facts}
 use Rattle.plain_rows.proofs.Operands.{Settled}
@@ -84,12 +84,12 @@ tokens-by h (node l a b) rest = refl
 -- ---- the signs of plain nodes
 
 atom-signs : (x : Atom) → signsOf (atomLabel x) none ≡ signs (atomToken x ∷ []) [] []
-unfolding signsOf signRows lookup pick
+unfolding signsOf signLines lookup pick
 atom-signs path = refl
 atom-signs literal = refl
 
 pub prefix-signs : (p : Prefix) → signsOf (prefixLabel p) none ≡ signs (prefixToken p ∷ []) [] []
-unfolding signsOf signRows lookup pick
+unfolding signsOf signLines lookup pick
 prefix-signs neg = refl
 prefix-signs deref = refl
 prefix-signs invert = refl
@@ -97,7 +97,7 @@ prefix-signs ref = refl
 prefix-signs refMut = refl
 
 pub operator-signs : (o : Operator) (b : Tree) → signsOf (operatorLabel o) b ≡ signs [] (operator o ∷ []) []
-unfolding signsOf signRows lookup pick operatorLabel
+unfolding signsOf signLines lookup pick operatorLabel
 operator-signs o b = go (operated o)
   where
     go : Operating o → signsOf (operatorLabel o) b ≡ signs [] (operator o ∷ []) []
@@ -105,31 +105,31 @@ operator-signs o b = go (operated o)
     go (operating h e) = rw e (ap (λ p. signs [] (operator p ∷ []) []) (operator-number o))
 
 pub member-signs : (m : Member) → signsOf (memberLabel m) none ≡ signs [] (Dot ∷ memberToken m ∷ []) []
-unfolding signsOf signRows lookup pick
+unfolding signsOf signLines lookup pick
 member-signs byName = refl
 member-signs byNumber = refl
 member-signs awaited = refl
 
 type-prefix-signs : (p : TypePrefix) → signsOf (typePrefixLabel p) none ≡ signs (typePrefixToken p ∷ []) [] []
-unfolding signsOf signRows lookup pick
+unfolding signsOf signLines lookup pick
 type-prefix-signs constPtr = refl
 type-prefix-signs mutPtr = refl
 type-prefix-signs sharedRef = refl
 type-prefix-signs mutRef = refl
 
 type-sign-signs : (x : TypeSign) → signsOf (typeSignLabel x) none ≡ signs (typeSignToken x ∷ []) [] []
-unfolding signsOf signRows lookup pick
+unfolding signsOf signLines lookup pick
 type-sign-signs infer = refl
 type-sign-signs never = refl
 
 -- a link before another, and the last
 pub link-signs : (l : Expr items) → signsOf (label Link 0) (treeOf l) ≡ signs [] (Comma ∷ []) []
-unfolding signsOf signRows lookup pick
+unfolding signsOf signLines lookup pick
 link-signs (lastArgument b) = refl
 link-signs (moreArguments b l) = refl
 
 type-link-signs : (l : Ty items) → signsOf (label Link 0) (treeOfType l) ≡ signs [] (Comma ∷ []) []
-unfolding signsOf signRows lookup pick
+unfolding signsOf signLines lookup pick
 type-link-signs (lastType t) = refl
 type-link-signs (moreTypes t l) = refl
 
@@ -151,7 +151,7 @@ tokens-other : (h : Handed) (l : Label) (a b : Tree) (rest : List Token) → isE
 tokens-other h l a b rest e s q = tokens-by h (node l a b) rest ∙ rw (marked-other h (node l a b) e) (inside-at (ownContext h (node l a b)) l a b s q rest)
 
 pub types-are : {s : Sort} (t : Ty s) (h : Handed) (rest : List Token) → tokensFor h (treeOfType t) (close s rest) ≡ writeType t rest
-unfolding tokensFor signsOf signRows lookup pick classOf
+unfolding tokensFor signsOf signLines lookup pick classOf
 types-are named h rest = tokens-other h _ _ _ rest refl (signs (Name ∷ []) [] []) refl
 types-are (applied l) h rest =
     tokens-other h _ _ _ rest refl (signs (Name ∷ operator Lt ∷ []) [] (operator Gt ∷ [])) refl ∙ ap (λ r. Name ∷ operator Lt ∷ r) (types-are l _ rest)
@@ -194,7 +194,7 @@ Is list l = (h : Handed) (end : List Token) → tokensFor h (treeOf l) (RightPar
 Is items l = (h : Handed) (end : List Token) → tokensFor h (treeOf l) (RightParen ∷ end) ≡ write (addPairs l false) end
 
 pub is : (s : Sort) (e : Expr s) → Is s e
-unfolding tokensFor signsOf signRows lookup pick classOf
+unfolding tokensFor signsOf signLines lookup pick classOf
 is s (atom y) = λ x c w end. inside-at x _ _ _ (signs (atomToken y ∷ []) [] []) (atom-signs y) end
 is s (paren a) = λ x c w end.
     inside-at x _ _ _ (signs (LeftParen ∷ []) (RightParen ∷ []) []) refl end

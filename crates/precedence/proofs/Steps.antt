@@ -11,7 +11,7 @@ use Rattle.tree.proofs.Walks.{leads}
 use Rattle.precedence.specs.declared.Precedence.{Precedence}
 use Rattle.precedence.specs.declared.Precedence.the-variants.{Unambiguous}
 use Rattle.precedence.specs.declared.Level.the-variants.{Of, Content}
-use Rattle.precedence.specs.Precedences.{ofRows, closedBy, precedenceOf}
+use Rattle.precedence.specs.Precedences.{ofLines, closedBy, precedenceOf}
 use Rattle.precedence.specs.Steps.{closedOf, ofStep, levelBy}
 
 level-ends : (s : Step Precedence) (p : Precedence) → Of p ≡ levelBy s → s ≡ ends p
@@ -25,11 +25,11 @@ level-goes (goes m) n e = cc
 module _ (cells : List ℕ) (count i : ℕ) where
   pub of-ends : (p : Precedence) → Of p ≡ levelBy (ofStep cells count i) → precedenceOf (treeAt cells count i) ≡ p
   unfolding precedenceOf
-  of-ends p e = rw (level-ends (ofStep cells count i) p e) at (leads ofRows closedOf Unambiguous cells count i)
+  of-ends p e = rw (level-ends (ofStep cells count i) p e) at (leads ofLines closedOf Unambiguous cells count i)
 
   pub of-goes : (n : ℕ) → Content n ≡ levelBy (ofStep cells count i) → (i < n) × (n ≤ count) × (precedenceOf (treeAt cells count n) ≡ precedenceOf (treeAt cells count i))
   unfolding precedenceOf
-  of-goes n e = rw (level-goes (ofStep cells count i) n e) at (leads ofRows closedOf Unambiguous cells count i)
+  of-goes n e = rw (level-goes (ofStep cells count i) n e) at (leads ofLines closedOf Unambiguous cells count i)
 
 -- 0 is no form
 pub closed-none : (attributes : ℕ) → closedBy 0 attributes ≡ Unambiguous

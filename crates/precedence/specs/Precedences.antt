@@ -3,7 +3,7 @@ use mathlib.Core.Bool.{Bool, not, _&&_}
 use mathlib.Core.List.{List, [], _∷_}
 use Prim.Native.Nat.{ℕ}
 use lib.Dec.{eqb, leb, ltb}
-use Rattle.laws.specs.Choice.{pick, Row, row, lookup}
+use Rattle.laws.specs.Choice.{pick, Line, line, lookup}
 use Rattle.tree.specs.Forms.{ExprAssign, ExprBinary, ExprBreak, ExprCast, ExprClosure, ExprGroup, ExprLet, ExprRange, ExprRawAddr, ExprReference, ExprReturn, ExprUnary, ExprVerbatim, ExprYield, anExpression, classOf}
 use Rattle.tree.specs.Trees.{Label, Tree}
 use Rattle.tree.specs.Walks.{Ask, answer, first, isThere, walk}
@@ -42,23 +42,23 @@ same p q = eqb (rankOf p) (rankOf q)
 -- ---- operators, by document 01's numbers
 
 -- Precedence::of_binop
-unfoldable pub operators : List (Row Precedence)
+unfoldable pub operators : List (Line Precedence)
 operators =
     -- Add, Sub
-    row (0 ∷ 1 ∷ []) Sum ∷
+    line (0 ∷ 1 ∷ []) Sum ∷
     -- Mul, Div, Rem
-    row (2 ∷ 3 ∷ 4 ∷ []) Product ∷
-    row (5 ∷ []) And ∷
-    row (6 ∷ []) Or ∷
-    row (7 ∷ []) BitXor ∷
-    row (8 ∷ []) BitAnd ∷
-    row (9 ∷ []) BitOr ∷
+    line (2 ∷ 3 ∷ 4 ∷ []) Product ∷
+    line (5 ∷ []) And ∷
+    line (6 ∷ []) Or ∷
+    line (7 ∷ []) BitXor ∷
+    line (8 ∷ []) BitAnd ∷
+    line (9 ∷ []) BitOr ∷
     -- Shl, Shr
-    row (10 ∷ 11 ∷ []) Shift ∷
+    line (10 ∷ 11 ∷ []) Shift ∷
     -- Eq, Lt, Le, Ne, Ge, Gt
-    row (12 ∷ 13 ∷ 14 ∷ 15 ∷ 16 ∷ 17 ∷ []) Compare ∷
+    line (12 ∷ 13 ∷ 14 ∷ 15 ∷ 16 ∷ 17 ∷ []) Compare ∷
     -- the ten assigning operators
-    row (18 ∷ 19 ∷ 20 ∷ 21 ∷ 22 ∷ 23 ∷ 24 ∷ 25 ∷ 26 ∷ 27 ∷ []) Assign ∷
+    line (18 ∷ 19 ∷ 20 ∷ 21 ∷ 22 ∷ 23 ∷ 24 ∷ 25 ∷ 26 ∷ 27 ∷ []) Assign ∷
     []
 
 unfoldable pub ofBinop : ℕ → Precedence
@@ -71,19 +71,19 @@ unfoldable pub prefixAttrs : ℕ → Precedence
 prefixAttrs attributes = pick (eqb attributes 2) Prefix Unambiguous
 
 -- Precedence::of, by form
-unfoldable pub ofRows : Label → Tree → Tree → List (Row (Ask Precedence))
-ofRows l a b =
+unfoldable pub ofLines : Label → Tree → Tree → List (Line (Ask Precedence))
+ofLines l a b =
     -- without a written output, or with one
-    row (ExprClosure ∷ []) (answer (pick (eqb (l .detail) 0) Jump (prefixAttrs (l .attributes)))) ∷
+    line (ExprClosure ∷ []) (answer (pick (eqb (l .detail) 0) Jump (prefixAttrs (l .attributes)))) ∷
     -- with a value, or without
-    row (ExprBreak ∷ ExprReturn ∷ ExprYield ∷ []) (answer (pick (isThere a) Jump Unambiguous)) ∷
-    row (ExprAssign ∷ []) (answer Assign) ∷
-    row (ExprRange ∷ []) (answer Range) ∷
-    row (ExprBinary ∷ []) (answer (ofBinop (l .detail))) ∷
-    row (ExprLet ∷ []) (answer Let) ∷
-    row (ExprCast ∷ []) (answer Cast) ∷
-    row (ExprRawAddr ∷ ExprReference ∷ ExprUnary ∷ []) (answer Prefix) ∷
-    row (ExprGroup ∷ []) first ∷
+    line (ExprBreak ∷ ExprReturn ∷ ExprYield ∷ []) (answer (pick (isThere a) Jump Unambiguous)) ∷
+    line (ExprAssign ∷ []) (answer Assign) ∷
+    line (ExprRange ∷ []) (answer Range) ∷
+    line (ExprBinary ∷ []) (answer (ofBinop (l .detail))) ∷
+    line (ExprLet ∷ []) (answer Let) ∷
+    line (ExprCast ∷ []) (answer Cast) ∷
+    line (ExprRawAddr ∷ ExprReference ∷ ExprUnary ∷ []) (answer Prefix) ∷
+    line (ExprGroup ∷ []) first ∷
     []
 
 -- all other expressions: by their attributes; Verbatim, and what is no expression: Unambiguous
@@ -91,4 +91,4 @@ unfoldable pub closedBy : ℕ → ℕ → Precedence
 closedBy form attributes = pick (eqb (classOf form) anExpression && not (eqb form ExprVerbatim)) (prefixAttrs attributes) Unambiguous
 
 unfoldable pub precedenceOf : Tree → Precedence
-precedenceOf t = walk ofRows (λ l. closedBy (l .form) (l .attributes)) Unambiguous t
+precedenceOf t = walk ofLines (λ l. closedBy (l .form) (l .attributes)) Unambiguous t

@@ -10,7 +10,7 @@ use Rattle.precedence.specs.declared.Precedence.{Precedence}
 use Rattle.precedence.specs.declared.Precedence.the-variants.{Jump, Unambiguous}
 use Rattle.precedence.specs.declared.Level.{Level}
 use Rattle.precedence.specs.declared.Level.the-variants.{Of, Content}
-use Rattle.precedence.specs.Precedences.{prefixAttrs, ofRows, closedBy}
+use Rattle.precedence.specs.Precedences.{prefixAttrs, ofLines, closedBy}
 
 -- Break, Return and Yield: with a value or without
 abbrev pub jumpBy : Bool → Precedence
@@ -25,7 +25,7 @@ abbrev pub closedOf : Label → Precedence
 closedOf l = closedBy (l .form) (l .attributes)
 
 abbrev pub ofStep : List ℕ → ℕ → ℕ → Step Precedence
-ofStep cells count i = stepAt ofRows closedOf Unambiguous cells count i
+ofStep cells count i = stepAt ofLines closedOf Unambiguous cells count i
 
 abbrev pub levelBy : Step Precedence → Level
 levelBy (ends p) = Of p

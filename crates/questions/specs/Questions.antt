@@ -1,7 +1,7 @@
 -- What the functions of precedence.rs, classify.rs and fixup.rs say, by the number of the question; 65535 for a number that is no question's.
 use mathlib.Core.List.{List, [], _∷_}
 use Prim.Native.Nat.{ℕ}
-use Rattle.laws.specs.Choice.{pick, Row, row, lookup}
+use Rattle.laws.specs.Choice.{pick, Line, line, lookup}
 use Rattle.tree.specs.Trees.{Tree}
 use Rattle.precedence.specs.Precedences.{rankOf, precedenceOf}
 use Rattle.classify.specs.Classify.{requiresSemi, requiresComma, leadingLabel, trailingPath}
@@ -12,15 +12,15 @@ use Rattle.scan.specs.Scans.{leftmostPrecedence, rightmostPrecedence}
 
 -- ---- precedence.rs and classify.rs: a tree without a context
 
-unfoldable pub questions : Tree → List (Row ℕ)
+unfoldable pub questions : Tree → List (Line ℕ)
 questions t =
-    row (0 ∷ []) (rankOf (precedenceOf t)) ∷
-    row (1 ∷ []) (pick (requiresSemi t) 1 0) ∷
-    row (2 ∷ []) (pick (requiresComma t) 1 0) ∷
-    row (3 ∷ []) (pick (leadingLabel t) 1 0) ∷
-    row (4 ∷ []) (pick (trailingBrace t) 1 0) ∷
-    row (5 ∷ []) (pick (trailingPath t) 1 0) ∷
-    row (6 ∷ []) (pick (typeTrailingBrace t) 1 0) ∷
+    line (0 ∷ []) (rankOf (precedenceOf t)) ∷
+    line (1 ∷ []) (pick (requiresSemi t) 1 0) ∷
+    line (2 ∷ []) (pick (requiresComma t) 1 0) ∷
+    line (3 ∷ []) (pick (leadingLabel t) 1 0) ∷
+    line (4 ∷ []) (pick (trailingBrace t) 1 0) ∷
+    line (5 ∷ []) (pick (trailingPath t) 1 0) ∷
+    line (6 ∷ []) (pick (typeTrailingBrace t) 1 0) ∷
     []
 
 unfoldable pub answered : ℕ → Tree → ℕ
@@ -28,13 +28,13 @@ answered question t = lookup (questions t) 65535 question
 
 -- ---- fixup.rs: a tree in a context
 
-unfoldable pub fixupQuestions : FixupContext → Tree → List (Row ℕ)
+unfoldable pub fixupQuestions : FixupContext → Tree → List (Line ℕ)
 fixupQuestions x t =
-    row (0 ∷ []) (pick (parenthesize x t) 1 0) ∷
-    row (1 ∷ []) (rankOf (effective x t)) ∷
-    row (2 ∷ []) (pick (scanLeft t x) 1 0) ∷
-    row (3 ∷ []) (rankOf (leftmostPrecedence t x)) ∷
-    row (4 ∷ []) (rankOf (rightmostPrecedence t x)) ∷
+    line (0 ∷ []) (pick (parenthesize x t) 1 0) ∷
+    line (1 ∷ []) (rankOf (effective x t)) ∷
+    line (2 ∷ []) (pick (scanLeft t x) 1 0) ∷
+    line (3 ∷ []) (rankOf (leftmostPrecedence t x)) ∷
+    line (4 ∷ []) (rankOf (rightmostPrecedence t x)) ∷
     []
 
 unfoldable pub fixupAnswered : ℕ → FixupContext → Tree → ℕ

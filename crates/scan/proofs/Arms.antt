@@ -17,8 +17,8 @@ use Rattle.scan.specs.declared.Scan.the-variants.{Fail, Bailout, Consume
 use Rattle.scan.specs.declared.answer.Leave.the-variants.{Answer, Ask}
 use Rattle.scan.specs.declared.arm.Arm.{Arm}
 use Rattle.scan.specs.declared.arm.Arm.the-variants.{Assign, Binary, Prefix, Range, Break, Return, Closure, Let, Group, Closed}
-use Rattle.scan.specs.Scans.{by, Scans, rightBy, consumes, consumeBy, assign, binary, prefix, range, jump, bareJump, lets, closed, scanRows, scanRight}
-use Rattle.scan.specs.Arms.{armRows, armOf, operandBy, closedScan, bareScan, enough, early, failHanded, one, visitBy, failOr, leaveBy, settleBy, finish, scanBy}
+use Rattle.scan.specs.Scans.{by, Scans, rightBy, consumes, consumeBy, assign, binary, prefix, range, jump, bareJump, lets, closed, scanLines, scanRight}
+use Rattle.scan.specs.Arms.{armLines, armOf, operandBy, closedScan, bareScan, enough, early, failHanded, one, visitBy, failOr, leaveBy, settleBy, finish, scanBy}
 
 -- ---- choices
 
@@ -187,8 +187,8 @@ module _ (x : FixupContext) (p : Precedence) (f b : ℕ) (l : Label) (c d : Tree
   abbrev by-arm : Arm → Scan
   by-arm arm = scanBy arm (operandBy arm none c d) (scanRight (operandBy arm none c d)) x p f b
 
-  pub arms-agree : lookup (scanRows x p f b l c (scanRight c) d (scanRight d)) (closed x p f b) (l .form) ≡ by-arm (armOf (node l c d))
-  unfolding scanRows armOf armRows atRoot lookup
+  pub arms-agree : lookup (scanLines x p f b l c (scanRight c) d (scanRight d)) (closed x p f b) (l .form) ≡ by-arm (armOf (node l c d))
+  unfolding scanLines armOf armLines atRoot lookup
   arms-agree =
       row-by by-arm _ (row-by by-arm (eqb (l .attributes) 0) (assign-is x p f b d (scanRight d)) (closed-is x p f b (scanRight none)))
       (row-by by-arm _ (row-by by-arm (eqb (l .attributes) 0) (binary-is x p f b (ofBinop (l .detail)) d (scanRight d)) (closed-is x p f b (scanRight none)))

@@ -12,7 +12,7 @@ use Rattle.tree.specs.Trees.{Label, Tree, none, node, ownLevel, levels}
 use Rattle.tree.specs.Walks.{isThere, atRoot}
 use Rattle.scan.specs.declared.arm.Arm.{Arm}
 use Rattle.scan.specs.declared.arm.Arm.the-variants.{Assign, Binary, Prefix, Range, Break, Return, Closure, Let, Group, Closed}
-use Rattle.scan.specs.Arms.{armRows, armOf, operandBy}
+use Rattle.scan.specs.Arms.{armLines, armOf, operandBy}
 use Rattle.scan.specs.Linear.{onwards, spine}
 use Rattle.scan.proofs.Spine.{goesOn, there-goes-on, along}
 use Rattle.scan.proofs.Linear.{spine-along}
@@ -31,7 +31,7 @@ link-form form e = go (eqb form 0) (leb form 40) (leb form 55) refl (leb form 56
 
 -- a node that goes on with an operand is a level
 level-of : (l : Label) (a b : Tree) → goesOn (armOf (node l a b)) ≡ true → ownLevel (l .form) ≡ 1
-unfolding ownLevel armOf armRows atRoot lookup pick
+unfolding ownLevel armOf armLines atRoot lookup pick
 level-of l a b g = go (eqb (classOf (l .form)) aLink) refl
   where
     go : (e : Bool) → eqb (classOf (l .form)) aLink ≡ e → _≡_ {A = ℕ} (pick e 0 1) 1

@@ -3,7 +3,7 @@ use mathlib.Core.Bool.{Bool, true, false, not, _&&_, _||_}
 use mathlib.Core.List.{List, [], _∷_}
 use Prim.Native.Nat.{ℕ}
 use lib.Dec.{eqb, leb}
-use Rattle.laws.specs.Choice.{pick, Row, row}
+use Rattle.laws.specs.Choice.{pick, Line, line}
 use Rattle.tree.specs.Forms.{ExprAssign, ExprBinary, ExprBreak, ExprClosure, ExprGroup, ExprLet, ExprRange, ExprRawAddr, ExprReference, ExprReturn, ExprUnary, ExprYield}
 use Rattle.tree.specs.Trees.{Label, Tree, operandAt}
 use Rattle.tree.specs.Walks.{isThere, atRoot}
@@ -37,22 +37,22 @@ abbrev pub unattributed : ℕ → Arm → Arm
 unattributed attributes arm = pick (eqb attributes 0) arm Closed
 
 -- a Break's arm knows whether it has no label while its value begins with one
-unfoldable pub armRows : Label → Tree → Tree → List (Row Arm)
-armRows l a b =
-    row (ExprAssign ∷ []) (unattributed (l .attributes) Assign) ∷
-    row (ExprBinary ∷ []) (unattributed (l .attributes) (Binary (ofBinop (l .detail)))) ∷
-    row (ExprRawAddr ∷ ExprUnary ∷ []) Prefix ∷
-    row (ExprReference ∷ []) Prefix ∷
-    row (ExprRange ∷ []) (unattributed (l .attributes) Range) ∷
-    row (ExprBreak ∷ []) (Break (eqb (l .detail) 0 && leadingLabel a)) ∷
-    row (ExprReturn ∷ ExprYield ∷ []) Return ∷
-    row (ExprClosure ∷ []) Closure ∷
-    row (ExprLet ∷ []) Let ∷
-    row (ExprGroup ∷ []) Group ∷
+unfoldable pub armLines : Label → Tree → Tree → List (Line Arm)
+armLines l a b =
+    line (ExprAssign ∷ []) (unattributed (l .attributes) Assign) ∷
+    line (ExprBinary ∷ []) (unattributed (l .attributes) (Binary (ofBinop (l .detail)))) ∷
+    line (ExprRawAddr ∷ ExprUnary ∷ []) Prefix ∷
+    line (ExprReference ∷ []) Prefix ∷
+    line (ExprRange ∷ []) (unattributed (l .attributes) Range) ∷
+    line (ExprBreak ∷ []) (Break (eqb (l .detail) 0 && leadingLabel a)) ∷
+    line (ExprReturn ∷ ExprYield ∷ []) Return ∷
+    line (ExprClosure ∷ []) Closure ∷
+    line (ExprLet ∷ []) Let ∷
+    line (ExprGroup ∷ []) Group ∷
     []
 
 unfoldable pub armOf : Tree → Arm
-armOf t = atRoot armRows Closed t
+armOf t = atRoot armLines Closed t
 
 -- which operand an arm goes on with: the first, the second, or nothing
 abbrev pub operandBy : {A : Type 0} → Arm → A → A → A → A

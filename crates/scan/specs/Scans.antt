@@ -3,7 +3,7 @@ use mathlib.Core.Bool.{Bool, true, false, not, _&&_, _||_}
 use mathlib.Core.List.{List, [], _∷_}
 use Prim.Native.Nat.{ℕ}
 use lib.Dec.{eqb, leb}
-use Rattle.laws.specs.Choice.{pick, Row, row, lookup}
+use Rattle.laws.specs.Choice.{pick, Line, line, lookup}
 use Rattle.tree.specs.Forms.{ExprAssign, ExprBinary, ExprBreak, ExprClosure, ExprGroup, ExprLet, ExprRange, ExprRawAddr, ExprReference, ExprReturn, ExprUnary, ExprYield}
 use Rattle.tree.specs.Trees.{Label, Tree, none, node}
 use Rattle.tree.specs.Walks.{isThere}
@@ -145,17 +145,17 @@ module _ (x : FixupContext) (p : Precedence) (fail bailout : ℕ) where
   given e scans arm absent = pick (isThere e) (arm e scans) absent
 
   -- the `match`, at a node with operands a and b, and the scans of those
-  unfoldable pub scanRows : Label → Tree → Scans → Tree → Scans → List (Row Scan)
-  scanRows l a first b second =
-      row (ExprAssign ∷ []) (guarded l (given b second assign closed)) ∷
-      row (ExprBinary ∷ []) (guarded l (given b second (binary (ofBinop (l .detail))) closed)) ∷
-      row (ExprRawAddr ∷ ExprReference ∷ ExprUnary ∷ []) (given a first prefix closed) ∷
-      row (ExprRange ∷ []) (guarded l (given b second range (pick (x .«next_operator_can_begin_expr») Consume Fail))) ∷
-      row (ExprBreak ∷ []) (given a first (jump (leb 1 bailout || (eqb (l .detail) 0 && leadingLabel a)) true) bareJump) ∷
-      row (ExprReturn ∷ ExprYield ∷ []) (given a first (jump (leb 1 bailout) false) bareJump) ∷
-      row (ExprClosure ∷ []) Consume ∷
-      row (ExprLet ∷ []) (given a first lets closed) ∷
-      row (ExprGroup ∷ []) (given a first (λ e scans. scans x p fail bailout) closed) ∷
+  unfoldable pub scanLines : Label → Tree → Scans → Tree → Scans → List (Line Scan)
+  scanLines l a first b second =
+      line (ExprAssign ∷ []) (guarded l (given b second assign closed)) ∷
+      line (ExprBinary ∷ []) (guarded l (given b second (binary (ofBinop (l .detail))) closed)) ∷
+      line (ExprRawAddr ∷ ExprReference ∷ ExprUnary ∷ []) (given a first prefix closed) ∷
+      line (ExprRange ∷ []) (guarded l (given b second range (pick (x .«next_operator_can_begin_expr») Consume Fail))) ∷
+      line (ExprBreak ∷ []) (given a first (jump (leb 1 bailout || (eqb (l .detail) 0 && leadingLabel a)) true) bareJump) ∷
+      line (ExprReturn ∷ ExprYield ∷ []) (given a first (jump (leb 1 bailout) false) bareJump) ∷
+      line (ExprClosure ∷ []) Consume ∷
+      line (ExprLet ∷ []) (given a first lets closed) ∷
+      line (ExprGroup ∷ []) (given a first (λ e scans. scans x p fail bailout) closed) ∷
       []
 
 -- ---- scan_right and the precedences that ask it
@@ -164,7 +164,7 @@ unfoldable pub scanRight : Tree → Scans
 scanRight none x p fail bailout = pick (parenthesize x none) (consumeBy p (x .«next_operator»)) (closed x p fail bailout)
 scanRight (node l a b) x p fail bailout =
     pick (parenthesize x (node l a b)) (consumeBy p (x .«next_operator»))
-    (lookup (scanRows x p fail bailout l a (scanRight a) b (scanRight b)) (closed x p fail bailout) (l .form))
+    (lookup (scanLines x p fail bailout l a (scanRight a) b (scanRight b)) (closed x p fail bailout) (l .form))
 
 -- rightmost_subexpression_precedence
 unfoldable pub rightmostPrecedence : Tree → FixupContext → Precedence

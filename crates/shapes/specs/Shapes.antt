@@ -1,7 +1,7 @@
 -- The shape of a node. ("a node's shape holds, per place, an operand present or absent")
 use mathlib.Core.List.{List, [], _∷_}
 use Prim.Native.Nat.{ℕ}
-use Rattle.laws.specs.Choice.{Row, row, lookup}
+use Rattle.laws.specs.Choice.{Line, line, lookup}
 use Rattle.tree.specs.declared.table.Operand.{Operand}
 use Rattle.tree.specs.declared.table.Operand.the-variants.{Absent, Present}
 use Rattle.shapes.specs.declared.Shape.{Shape}
@@ -11,21 +11,21 @@ use Rattle.tree.specs.Trees.{operandAt}
 use Rattle.tree.specs.Operands.{presence, formIn}
 
 -- document 01, 'Operands': the forms that have a place for two operands, and those that have one; all others are closed
-unfoldable pub shapeRows : Operand → Operand → List (Row Shape)
-shapeRows first second =
-    row (ExprAssign ∷ ExprBinary ∷ ExprCall ∷ ExprIndex ∷ ExprMethodCall ∷ ExprRange ∷ []) (Two first second) ∷
-    row (ExprCast ∷ TypePath ∷ Link ∷ []) (Two first second) ∷
-    row
+unfoldable pub shapeLines : Operand → Operand → List (Line Shape)
+shapeLines first second =
+    line (ExprAssign ∷ ExprBinary ∷ ExprCall ∷ ExprIndex ∷ ExprMethodCall ∷ ExprRange ∷ []) (Two first second) ∷
+    line (ExprCast ∷ TypePath ∷ Link ∷ []) (Two first second) ∷
+    line
     (ExprAwait ∷ ExprBreak ∷ ExprClosure ∷ ExprField ∷ ExprGroup ∷ ExprLet ∷ ExprParen ∷ ExprRawAddr ∷ ExprReturn ∷ ExprTry ∷ ExprUnary ∷ ExprYield ∷ [])
     (One first) ∷
-    row (ExprReference ∷ []) (One first) ∷
-    row (TypeFnPtr ∷ TypeImplTrait ∷ TypePtr ∷ TypeTraitObject ∷ []) (One first) ∷
-    row (TypeReference ∷ []) (One first) ∷
+    line (ExprReference ∷ []) (One first) ∷
+    line (TypeFnPtr ∷ TypeImplTrait ∷ TypePtr ∷ TypeTraitObject ∷ []) (One first) ∷
+    line (TypeReference ∷ []) (One first) ∷
     []
 
 unfoldable pub shapeAt : List ℕ → ℕ → ℕ → Shape
 shapeAt cells count i =
-    lookup (shapeRows (presence (operandAt cells count i 3)) (presence (operandAt cells count i 4))) Closed (formIn cells count i)
+    lookup (shapeLines (presence (operandAt cells count i 3)) (presence (operandAt cells count i 4))) Closed (formIn cells count i)
 
 unfoldable pub firstInShape : Shape → Operand
 firstInShape Closed = Absent

@@ -7,7 +7,7 @@ use native.Mathlib.Omega.{arith}
 use lib.Dec.{eqb}
 use lib.ListN.{length, length-append}
 use borrow.Author.Tests.{eqb-true}
-use Rattle.laws.specs.Choice.{pick, Row, row, lookup, isOneOf}
+use Rattle.laws.specs.Choice.{pick, Line, line, lookup, isOneOf}
 use Rattle.tree.specs.Trees.{Label, Tree, none, node, operandAt, treeAt}
 use Rattle.rules.specs.Refusals.{refusal, Accepted}
 use Rattle.tree.specs.Walks.{isThere}
@@ -15,7 +15,7 @@ use Rattle.rules.proofs.Accepted.{count-bounds}
 use Rattle.grammar.specs.Tokens.{Token, LeftParen, RightParen, Comma}
 use Rattle.numbering.specs.Numbered.{size}
 use Rattle.numbering.proofs.Sizes.{size-accepted}
-use Rattle.plain.specs.Written.{Signs, signs, comma, signRows, signsOf, tokensAt, hasPair}
+use Rattle.plain.specs.Written.{Signs, signs, comma, signLines, signsOf, tokensAt, hasPair}
 use Rattle.token_writer.specs.Writes.{rowsFor, written, writeRefusal}
 use Rattle.token_writer.proofs.Tokens.{oneOf, in-row}
 
@@ -27,14 +27,14 @@ module _ {A : Type 0} (P : A → Type 0) where
   by-test true x y p q = p
   by-test false x y p q = q
 
-  abbrev Each : List (Row A) → Type 0
+  abbrev Each : List (Line A) → Type 0
   Each [] = Unit {0}
-  Each (row ks a ∷ rows) = P a × Each rows
+  Each (line ks a ∷ rows) = P a × Each rows
 
-  in-table : (rows : List (Row A)) (other : A) (n : ℕ) → Each rows → P other → P (lookup rows other n)
+  in-table : (rows : List (Line A)) (other : A) (n : ℕ) → Each rows → P other → P (lookup rows other n)
   unfolding lookup
   in-table [] other n e o = o
-  in-table (row ks a ∷ rows) other n e o = by-test (isOneOf ks n) a (lookup rows other n) (e .0) (in-table rows other n (e .1) o)
+  in-table (line ks a ∷ rows) other n e o = by-test (isOneOf ks n) a (lookup rows other n) (e .0) (in-table rows other n (e .1) o)
 
 -- ---- a node
 
@@ -43,9 +43,9 @@ few s = length (s .before) + (length (s .between) + length (s .behind))
 
 -- a node's own tokens are at most four
 four : (l : Label) (b : Tree) → few (signsOf l b) ≤ 4
-unfolding signsOf signRows few
+unfolding signsOf signLines few
 four l b =
-    in-table (λ (s : Signs). few s ≤ 4) (signRows (l .detail) (isThere b)) (signs [] [] []) (l .form)
+    in-table (λ (s : Signs). few s ≤ 4) (signLines (l .detail) (isThere b)) (signs [] [] []) (l .form)
     (omega arith, (omega arith, (omega arith, (omega arith, (omega arith, (omega arith, (omega arith, (omega arith, (omega arith, (omega arith, (omega arith, (omega arith, (omega arith, (omega arith, (by-test (λ (s : Signs). few s ≤ 4) _ _ _ (omega arith) (omega arith), (omega arith, (omega arith, (omega arith, (link (isThere b), tt)))))))))))))))))))
     (omega arith)
   where

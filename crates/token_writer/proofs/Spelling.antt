@@ -18,7 +18,7 @@ use Rattle.tree.specs.Trees.{labelAt, operandAt, treeAt}
 use Rattle.tree.specs.Steps.{isPresent}
 use Rattle.tree.proofs.Walks.{there}
 use Rattle.grammar.specs.Tokens.{Token, operator, Assign, Lt, Gt, Name, code, number, allOperators, operatorOf, codesOf}
-use Rattle.plain.specs.Written.{signs, signRows, signsOf}
+use Rattle.plain.specs.Written.{signs, signLines, signsOf}
 use Rattle.token_writer.specs.declared.signs.Few.{Few}
 use Rattle.token_writer.specs.declared.signs.Few.the-variants.{Nothing, One, Two}
 use Rattle.token_writer.specs.declared.signs.Signs.{Signs}
@@ -64,12 +64,12 @@ operator-high n h = go (ℕ-discrete n 28)
 
 module _ (detail form : ℕ) (more : Bool) (s : Signs) where
   -- arm j of the table
-  pub spells-arm : (j : ℕ) → T (apartBefore (arms (signRows detail more)) j (numbersAt (arms (signRows detail more)) j)) → OneOf (numbersAt (arms (signRows detail more)) j) form → Spells s (givenAt (arms (signRows detail more)) (signs [] [] []) j) → Spells s (lookup (signRows detail more) (signs [] [] []) form)
-  spells-arm j t o h = rw (arm (signRows detail more) (signs [] [] []) form j t o) h
+  pub spells-arm : (j : ℕ) → T (apartBefore (arms (signLines detail more)) j (numbersAt (arms (signLines detail more)) j)) → OneOf (numbersAt (arms (signLines detail more)) j) form → Spells s (givenAt (arms (signLines detail more)) (signs [] [] []) j) → Spells s (lookup (signLines detail more) (signs [] [] []) form)
+  spells-arm j t o h = rw (arm (signLines detail more) (signs [] [] []) form j t o) h
 
   -- the default arm
-  pub spells-rest : Missed (Unit {0}) (arms (signRows detail more)) form → Spells s (signs [] [] []) → Spells s (lookup (signRows detail more) (signs [] [] []) form)
-  spells-rest m h = rw (rest (signRows detail more) (signs [] [] []) form m) h
+  pub spells-rest : Missed (Unit {0}) (arms (signLines detail more)) form → Spells s (signs [] [] []) → Spells s (lookup (signLines detail more) (signs [] [] []) form)
+  spells-rest m h = rw (rest (signLines detail more) (signs [] [] []) form m) h
 
 module _ (s : Signs) (f : Few) (ts : List Token) where
   pub before-only : s ≡ onlyBefore f → spelled f ≡ codesOf ts → Spells s (signs ts [] [])
@@ -99,7 +99,7 @@ there-by (suc p) = sym (ap not (ne-eqb (suc p) 0 (λ e. omega arith)))
 
 module _ (cells : List ℕ) (count i : ℕ) where
   pub spells-at : (s : Signs) (form detail second : ℕ) → form ≡ cellAt cells i 0 → detail ≡ cellAt cells i 2 → second ≡ operandAt cells count i 4
-      → Spells s (lookup (signRows detail (not (eqb second 0))) (signs [] [] []) form)
+      → Spells s (lookup (signLines detail (not (eqb second 0))) (signs [] [] []) form)
       → Spells s (signsOf (labelAt cells i) (treeAt cells count (operandAt cells count i 4)))
   unfolding signsOf labelAt
   spells-at s form detail second f d o h =

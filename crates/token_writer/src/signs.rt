@@ -9,7 +9,7 @@ ghost use lib.Dec.{eqb};
 ghost use Rattle.laws.specs.Choice.{pick, lookup};
 ghost use Rattle.tree.specs.Trees.{labelAt, treeAt, operandAt};
 ghost use Rattle.grammar.specs.Tokens.{number, code, operatorOf};
-ghost use Rattle.plain.specs.Written.{unary, signs, signRows, signsOf};
+ghost use Rattle.plain.specs.Written.{unary, signs, signLines, signsOf};
 ghost use Rattle.token_writer.specs.Puts.{onlyBefore, onlyBetween, enclosing, pathType, oneIf, Spells};
 
 // Up to three codes.
@@ -108,7 +108,7 @@ fn path_type(detail: u16) -> Signs
 
 // The signs of a form with a detail; `more` says whether a second operand is there.
 fn signs_of(form: u16, detail: u16, more: bool) -> Signs
-    ensures { λ r. ⌜ Spells r (lookup (signRows detail more) (signs [] [] []) form) ⌝ }
+    ensures { λ r. ⌜ Spells r (lookup (signLines detail more) (signs [] [] []) form) ⌝ }
 {
     match form {
         forms::EXPR_PATH => ahead(Few::One(codes::NAME)),

@@ -7,7 +7,7 @@ use native.Mathlib.Omega.{arith}
 use native.Mathlib.Decide.{decLe}
 use lib.Dec.{leb}
 use borrow.Author.Tests.{le-leb, lt-leb}
-use Rattle.laws.specs.Choice.{Row}
+use Rattle.laws.specs.Choice.{Line}
 use Rattle.laws.proofs.Choice.{pick-true, pick-false}
 use Rattle.tree.specs.declared.table.Operand.{Operand}
 use Rattle.tree.specs.declared.table.Operand.the-variants.{Absent, Present}
@@ -57,7 +57,7 @@ tree-of cells count (suc n) = refl
 
 -- ---- steps
 
-module _ {A : Type 0} (rows : Label → Tree → Tree → List (Row (Ask A))) (other : Label → A) (missing : A) (cells : List ℕ) (count i : ℕ) where
+module _ {A : Type 0} (rows : Label → Tree → Tree → List (Line (Ask A))) (other : Label → A) (missing : A) (cells : List ℕ) (count i : ℕ) where
   abbrev asked : Ask A
   asked = askedAt rows other cells count i
 

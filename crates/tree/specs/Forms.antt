@@ -3,7 +3,7 @@ use mathlib.Core.Bool.{Bool, not, _&&_}
 use mathlib.Core.List.{List, [], _∷_}
 use Prim.Native.Nat.{ℕ}
 use lib.Dec.{eqb, leb}
-use Rattle.laws.specs.Choice.{pick, Row, row, lookup}
+use Rattle.laws.specs.Choice.{pick, Line, line, lookup}
 
 -- "Forms 1 to 40 are expressions: Array, Assign, Async, Await, Binary, Block, Break, Call, Cast, Closure, Const, Continue, Field, ForLoop, Group, If, Index, Infer, Let, Lit, Loop, Macro, Match, MethodCall, Paren, Path, Range, RawAddr, Reference, Repeat, Return, Struct, Try, TryBlock, Tuple, Unary, Unsafe, Verbatim, While, Yield."
 abbrev pub ExprAssign : ℕ
@@ -165,26 +165,26 @@ unfoldable pub highestAttributes : ℕ → ℕ
 highestAttributes form = pick (eqb (classOf form) anExpression && not (eqb form ExprVerbatim)) 2 0
 
 -- 'Details', each from 0 up to what stands here. "All others 0."
-unfoldable pub details : List (Row ℕ)
+unfoldable pub details : List (Line ℕ)
 details =
     -- "Binary 0 to 27"
-    row (ExprBinary ∷ []) 27 ∷
+    line (ExprBinary ∷ []) 27 ∷
     -- "Unary: Deref, Not, Neg as 0 to 2."
-    row (ExprUnary ∷ []) 2 ∷
+    line (ExprUnary ∷ []) 2 ∷
     -- "Block, ForLoop, Loop, While, Break: 1 labelled."
-    row (ExprBlock ∷ ExprForLoop ∷ ExprLoop ∷ ExprWhile ∷ ExprBreak ∷ []) 1 ∷
+    line (ExprBlock ∷ ExprForLoop ∷ ExprLoop ∷ ExprWhile ∷ ExprBreak ∷ []) 1 ∷
     -- "Macros: 0 parenthesis, 1 bracket, 2 brace."
-    row (ExprMacro ∷ TypeMacro ∷ []) 2 ∷
+    line (ExprMacro ∷ TypeMacro ∷ []) 2 ∷
     -- "Range: 1 closed. Field: 0 named, 1 numbered. Closure: 1 output written."
-    row (ExprClosure ∷ ExprField ∷ ExprRange ∷ []) 1 ∷
+    line (ExprClosure ∷ ExprField ∷ ExprRange ∷ []) 1 ∷
     -- "Ptr, RawAddr, both References: 1 mutable."
-    row (TypePtr ∷ ExprRawAddr ∷ ExprReference ∷ TypeReference ∷ []) 1 ∷
+    line (TypePtr ∷ ExprRawAddr ∷ ExprReference ∷ TypeReference ∷ []) 1 ∷
     -- "Both Verbatims: 1 ends in a brace group."
-    row (ExprVerbatim ∷ TypeVerbatim ∷ []) 1 ∷
+    line (ExprVerbatim ∷ TypeVerbatim ∷ []) 1 ∷
     -- "Path type, by last segment: 0 none there, 1 no arguments, 2 angle, 3 parenthesised."
-    row (TypePath ∷ []) 3 ∷
+    line (TypePath ∷ []) 3 ∷
     -- "ImplTrait and TraitObject, by last bound: the same, or 4 lifetime, 5 precise capture, 6 verbatim, 7 verbatim ending in braces."
-    row (TypeImplTrait ∷ TypeTraitObject ∷ []) 7 ∷
+    line (TypeImplTrait ∷ TypeTraitObject ∷ []) 7 ∷
     []
 
 unfoldable pub highestDetail : ℕ → ℕ

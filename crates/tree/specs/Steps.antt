@@ -3,7 +3,7 @@ use mathlib.Core.Bool.{Bool, true, false, _&&_}
 use mathlib.Core.List.{List}
 use Prim.Native.Nat.{ℕ}
 use lib.Dec.{leb}
-use Rattle.laws.specs.Choice.{pick, Row, lookup}
+use Rattle.laws.specs.Choice.{pick, Line, lookup}
 use Rattle.tree.specs.declared.table.Operand.{Operand}
 use Rattle.tree.specs.declared.table.Operand.the-variants.{Absent, Present}
 use Rattle.tree.specs.Trees.{Label, Tree, none, labelAt, operandAt, treeAt}
@@ -34,14 +34,14 @@ stepBy absent first p q = into absent p
 stepBy absent second p q = into absent q
 
 -- what node i does with a question
-abbrev pub askedAt : {A : Type 0} → (Label → Tree → Tree → List (Row (Ask A))) → (Label → A) → List ℕ → ℕ → ℕ → Ask A
+abbrev pub askedAt : {A : Type 0} → (Label → Tree → Tree → List (Line (Ask A))) → (Label → A) → List ℕ → ℕ → ℕ → Ask A
 askedAt rows other cells count i =
     lookup
     (rows (labelAt cells i) (treeAt cells count (operandAt cells count i 3)) (treeAt cells count (operandAt cells count i 4)))
     (answer (other (labelAt cells i)))
     (labelAt cells i .form)
 
-unfoldable pub stepAt : {A : Type 0} → (Label → Tree → Tree → List (Row (Ask A))) → (Label → A) → A → List ℕ → ℕ → ℕ → Step A
+unfoldable pub stepAt : {A : Type 0} → (Label → Tree → Tree → List (Line (Ask A))) → (Label → A) → A → List ℕ → ℕ → ℕ → Step A
 stepAt rows other absent cells count i =
     pick
     (leb 1 i && leb i count)

@@ -8,10 +8,9 @@ use native.Mathlib.Omega.{arith}
 use native.Mathlib.Decide.{decLe}
 use lib.Dec.{T, eqb, ltb}
 use borrow.Author.Tests.{ne-eqb, le-leb, le-ltb}
-use Rattle.laws.specs.Choice.{pick, lookup}
-use Rattle.laws.specs.Choice as choice
+use Rattle.laws.specs.Choice.{Line, pick, lookup}
 use Rattle.laws.proofs.Choice.{pick-true, pick-false, true-not-false}
-use Rattle.laws.proofs.Keys.{apartFrom, not-found, rowsBelow, past-rows}
+use Rattle.laws.proofs.Keys.{apartFrom, not-found, linesBelow, past-rows}
 use Rattle.tree.specs.Forms.{anExpression, classOf}
 use Rattle.tree.specs.Trees.{Tree, none, node, labelAt, treeAt}
 use Rattle.tree.specs.Operands.{formIn}
@@ -25,7 +24,7 @@ use Rattle.fixup.specs.Contexts.{NONE}
 use Rattle.fixup.specs.Fixup.{parenthesize, effective}
 use Rattle.expr.specs.declared.Handed.{Handed}
 use Rattle.expr.specs.Handed.{neither}
-use Rattle.expr.specs.Expr.{firstRows, handsFirst, secondRows, handsSecond}
+use Rattle.expr.specs.Expr.{firstLines, handsFirst, secondLines, handsSecond}
 use Rattle.pack.specs.Cells.{ofBits, flagsOf}
 use Rattle.row.specs.Rows.{outerPair, expressionRow, zeros, isExpression, rowOf, ownContext, rowsOf}
 use Rattle.row.specs.Steps.{alone}
@@ -66,19 +65,19 @@ other-form form e = go (decLe 1 form) (decLe form 40)
     go (yes p) (no q) = inr (omega arith)
     go (no p) d = inl (omega arith)
 
-other-row : {A : Type 0} (rows : List (choice.Row A)) (other : A) (form : ℕ) → T (apartFrom rows (0 ∷ [])) → T (rowsBelow 41 rows) → (form ≡ 0) ⊎ (41 ≤ form) → lookup rows other form ≡ other
+other-row : {A : Type 0} (rows : List (Line A)) (other : A) (form : ℕ) → T (apartFrom rows (0 ∷ [])) → T (linesBelow 41 rows) → (form ≡ 0) ⊎ (41 ≤ form) → lookup rows other form ≡ other
 other-row rows other form t u (inl e) = rw e (not-found rows other (0 ∷ []) 0 t refl)
 other-row rows other form t u (inr h) = past-rows rows other 41 form u h
 
 pub first-other : (x : FixupContext) (t : Tree) → isExpression t ≡ false → alone ≡ handsFirst x t
-unfolding handsFirst atRoot firstRows
+unfolding handsFirst atRoot firstLines
 first-other x none e = refl
-first-other x (node l a b) e = sym (other-row (firstRows x l a b) alone (l .form) tt tt (other-form (l .form) e))
+first-other x (node l a b) e = sym (other-row (firstLines x l a b) alone (l .form) tt tt (other-form (l .form) e))
 
 pub second-other : (x : FixupContext) (t : Tree) → isExpression t ≡ false → alone ≡ handsSecond x t
-unfolding handsSecond atRoot secondRows
+unfolding handsSecond atRoot secondLines
 second-other x none e = refl
-second-other x (node l a b) e = sym (other-row (secondRows x l a b) alone (l .form) tt tt (other-form (l .form) e))
+second-other x (node l a b) e = sym (other-row (secondLines x l a b) alone (l .form) tt tt (other-form (l .form) e))
 
 -- what is handed to a type or a link does not matter
 pub rows-other : (h : Handed) (t : Tree) → isExpression t ≡ false → rowsOf alone t ≡ rowsOf h t

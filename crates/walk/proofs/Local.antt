@@ -10,7 +10,7 @@ use Rattle.fixup.specs.declared.context.FixupContext.{FixupContext}
 use Rattle.fixup.specs.Contexts.{NONE}
 use Rattle.expr.specs.declared.Handed.{Handed}
 use Rattle.expr.specs.Handed.{neither}
-use Rattle.expr.specs.Expr.{firstRows, handsFirst, secondRows, handsSecond}
+use Rattle.expr.specs.Expr.{firstLines, handsFirst, secondLines, handsSecond}
 use Rattle.row.specs.Rows.{isExpression, outerPair, rowOf, ownContext, present, rowsOf}
 
 module _ (h : Handed) (l : Label) (a b : Tree) where
@@ -18,15 +18,15 @@ module _ (h : Handed) (l : Label) (a b : Tree) where
   here = node l a b
 
   index-handed : (x : FixupContext) → l .form ≡ ExprIndex → handsSecond x here ≡ neither NONE
-  unfolding handsSecond secondRows atRoot lookup pick
+  unfolding handsSecond secondLines atRoot lookup pick
   index-handed x e = rw e
 
   item-handed : (x : FixupContext) → l .form ≡ Link → handsFirst x here ≡ neither NONE
-  unfolding handsFirst firstRows atRoot lookup pick
+  unfolding handsFirst firstLines atRoot lookup pick
   item-handed x e = rw e
 
   paren-handed : (x : FixupContext) → l .form ≡ ExprParen → handsFirst x here ≡ neither NONE
-  unfolding handsFirst firstRows atRoot lookup pick
+  unfolding handsFirst firstLines atRoot lookup pick
   paren-handed x e = rw e
 
   -- the rows of an index depend on the index alone

@@ -4,8 +4,7 @@ use mathlib.Core.List.{List, [], _∷_}
 use Prim.Native.Nat.{ℕ, _+_, _*_, _-_}
 use lib.Dec.{eqb, ltb}
 use lib.ListN.{length, set, replicate}
-use Rattle.laws.specs.Choice.{pick, row, lookup}
-use Rattle.laws.specs.Choice as choice
+use Rattle.laws.specs.Choice.{pick, Line, line, lookup}
 use Rattle.laws.specs.Lists.{over}
 use Rattle.tree.specs.Trees.{operandAt, treeAt}
 use Rattle.rules.specs.Refusals.{refusal}
@@ -17,8 +16,8 @@ use Rattle.row.specs.declared.Row.{Row}
 use Rattle.row.specs.Rows.{Rows, absent, present, rowsOf}
 
 -- document 01, 'Tree file': "Context: 0 NONE, 1 new_stmt, 2 new_match_arm, 3 new_condition."
-unfoldable pub contexts : List (choice.Row FixupContext)
-contexts = row (1 ∷ []) newStmt ∷ row (2 ∷ []) newMatchArm ∷ row (3 ∷ []) newCondition ∷ []
+unfoldable pub contexts : List (Line FixupContext)
+contexts = line (1 ∷ []) newStmt ∷ line (2 ∷ []) newMatchArm ∷ line (3 ∷ []) newCondition ∷ []
 
 unfoldable pub contextNumbered : ℕ → FixupContext
 contextNumbered context = lookup contexts NONE context

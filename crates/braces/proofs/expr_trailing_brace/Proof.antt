@@ -5,7 +5,7 @@ use Prim.Native.Nat.{_-_}
 use native.Mathlib.Omega.{arith}
 use borrow.Author.Needs.{needs}
 use Rattle.tree.specs.Trees.{treeAt}
-use Rattle.braces.specs.Braces.{braceRows, trailingBrace}
+use Rattle.braces.specs.Braces.{braceLines, trailingBrace}
 use Rattle.classify.proofs.Steps.{walk-ends, walk-goes}
 use Rattle.braces.proofs.expr_trailing_brace.Statement.{statement}
 use Rattle.braces.proofs.expr_trailing_brace.Tie as tie
@@ -17,15 +17,15 @@ abbrev μ-loop : tie.MeasureT-loop
 μ-loop table count node at₀ at = 65536 - at
 
 loop-less : tie.Need-loop-less Inv-loop μ-loop
-loop-less c = let g = walk-goes braceRows _ false _ _ _ _ (sym (c .before .step2 .given .1) ∙ c .before .before .before .brace-step .ensures) in let h = c .before .before .before .before .before .before .fits .count in omega arith
+loop-less c = let g = walk-goes braceLines _ false _ _ _ _ (sym (c .before .step2 .given .1) ∙ c .before .before .before .brace-step .ensures) in let h = c .before .before .before .before .before .before .fits .count in omega arith
 
 loop-again : tie.Need-loop-again Inv-loop μ-loop
 unfolding trailingBrace
-loop-again c = walk-goes braceRows _ false _ _ _ _ (sym (c .before .step2 .given .1) ∙ c .before .before .before .brace-step .ensures) .2 ∙ c .before .before .before .before .loop .inv
+loop-again c = walk-goes braceLines _ false _ _ _ _ (sym (c .before .step2 .given .1) ∙ c .before .before .before .brace-step .ensures) .2 ∙ c .before .before .before .before .loop .inv
 
 returns : tie.Need-returns Inv-loop μ-loop
 unfolding trailingBrace
-returns c = sym (walk-ends braceRows _ false _ _ _ _ (sym (c .before .step .given .1) ∙ c .before .before .before .brace-step .ensures)) ∙ c .before .before .before .before .loop .inv
+returns c = sym (walk-ends braceLines _ false _ _ _ _ (sym (c .before .step .given .1) ∙ c .before .before .before .brace-step .ensures)) ∙ c .before .before .before .before .loop .inv
 
 pub expr-trailing-brace-spec : {M : Type 1} → statement M
 expr-trailing-brace-spec =

@@ -2,11 +2,11 @@
 use mathlib.Core.Path.{refl, ap, _∙_}
 use mathlib.Core.Bool.{true}
 use mathlib.Core.List.{[], _∷_}
-use Rattle.shapes.specs.Shapes.{shapeRows, firstInShape}
+use Rattle.shapes.specs.Shapes.{shapeLines, firstInShape}
 use Rattle.tree.specs.Steps.{into}
 use Rattle.tree.proofs.Matches.{form-arm, form-rest}
 use Rattle.shapes.proofs.Shapes.{shape-is}
-use Rattle.classify.specs.Classify.{commaRows}
+use Rattle.classify.specs.Classify.{commaLines}
 use Rattle.classify.specs.Steps.{flowBy}
 use borrow.Author.Needs.{needs}
 use Rattle.classify.proofs.comma_step.Statement.{statement}
@@ -25,16 +25,16 @@ go-on-requires : tie.Need-go-on-requires
 go-on-requires c κs = search needs
 
 returns : tie.Need-returns
-unfolding commaRows
-returns c = ap flowBy (form-arm _ _ _ commaRows _ true _ (c .before .form-at .ensures) tt 0 tt (c .match .keys1) _ refl)
+unfolding commaLines
+returns c = ap flowBy (form-arm _ _ _ commaLines _ true _ (c .before .form-at .ensures) tt 0 tt (c .match .keys1) _ refl)
 
 returns-2 : tie.Need-returns-2
-unfolding commaRows shapeRows firstInShape
-returns-2 c = c .go-on .ensures ∙ ap flowBy (ap (into true) (c .before .first .ensures ∙ ap firstInShape (c .before .before .before .before .shape-at .ensures ∙ shape-is _ _ _ _ (c .before .before .before .form-at .ensures) (15 ∷ []) (c .before .before .match .keys2) 2 tt tt)) ∙ form-arm _ _ _ commaRows _ true _ (c .before .before .before .form-at .ensures) tt 1 tt (c .before .before .match .keys2) _ refl)
+unfolding commaLines shapeLines firstInShape
+returns-2 c = c .go-on .ensures ∙ ap flowBy (ap (into true) (c .before .first .ensures ∙ ap firstInShape (c .before .before .before .before .shape-at .ensures ∙ shape-is _ _ _ _ (c .before .before .before .form-at .ensures) (15 ∷ []) (c .before .before .match .keys2) 2 tt tt)) ∙ form-arm _ _ _ commaLines _ true _ (c .before .before .before .form-at .ensures) tt 1 tt (c .before .before .match .keys2) _ refl)
 
 returns-3 : tie.Need-returns-3
-unfolding commaRows
-returns-3 c = ap flowBy (form-rest _ _ _ commaRows _ true _ (c .before .form-at .ensures) (c .match .rest) _ (λ h k. refl) (λ n. refl))
+unfolding commaLines
+returns-3 c = ap flowBy (form-rest _ _ _ commaLines _ true _ (c .before .form-at .ensures) (c .match .rest) _ (λ h k. refl) (λ n. refl))
 
 pub comma-step-spec : {M : Type 1} → statement M
 comma-step-spec =

@@ -5,7 +5,7 @@ use Prim.Native.Nat.{_-_}
 use native.Mathlib.Omega.{arith}
 use borrow.Author.Needs.{needs}
 use Rattle.tree.specs.Trees.{treeAt}
-use Rattle.classify.specs.Classify.{labelRows, leadingLabel}
+use Rattle.classify.specs.Classify.{labelLines, leadingLabel}
 use Rattle.classify.proofs.Steps.{walk-ends, walk-goes}
 use Rattle.classify.proofs.expr_leading_label.Statement.{statement}
 use Rattle.classify.proofs.expr_leading_label.Tie as tie
@@ -17,15 +17,15 @@ abbrev μ-loop : tie.MeasureT-loop
 μ-loop table count node at₀ at = 65536 - at
 
 loop-less : tie.Need-loop-less Inv-loop μ-loop
-loop-less c = let g = walk-goes labelRows _ false _ _ _ _ (sym (c .before .step2 .given .1) ∙ c .before .before .before .label-step .ensures) in let h = c .before .before .before .before .before .before .fits .count in omega arith
+loop-less c = let g = walk-goes labelLines _ false _ _ _ _ (sym (c .before .step2 .given .1) ∙ c .before .before .before .label-step .ensures) in let h = c .before .before .before .before .before .before .fits .count in omega arith
 
 loop-again : tie.Need-loop-again Inv-loop μ-loop
 unfolding leadingLabel
-loop-again c = walk-goes labelRows _ false _ _ _ _ (sym (c .before .step2 .given .1) ∙ c .before .before .before .label-step .ensures) .2 ∙ c .before .before .before .before .loop .inv
+loop-again c = walk-goes labelLines _ false _ _ _ _ (sym (c .before .step2 .given .1) ∙ c .before .before .before .label-step .ensures) .2 ∙ c .before .before .before .before .loop .inv
 
 returns : tie.Need-returns Inv-loop μ-loop
 unfolding leadingLabel
-returns c = sym (walk-ends labelRows _ false _ _ _ _ (sym (c .before .step .given .1) ∙ c .before .before .before .label-step .ensures)) ∙ c .before .before .before .before .loop .inv
+returns c = sym (walk-ends labelLines _ false _ _ _ _ (sym (c .before .step .given .1) ∙ c .before .before .before .label-step .ensures)) ∙ c .before .before .before .before .loop .inv
 
 pub expr-leading-label-spec : {M : Type 1} → statement M
 expr-leading-label-spec =

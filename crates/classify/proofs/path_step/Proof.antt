@@ -4,12 +4,12 @@ use mathlib.Core.Bool.{false}
 use mathlib.Core.List.{[], _∷_}
 use Prim.Native.Nat.{ℕ}
 use Rattle.tree.specs.declared.table.Operand.{Operand}
-use Rattle.shapes.specs.Shapes.{shapeRows, firstInShape}
+use Rattle.shapes.specs.Shapes.{shapeLines, firstInShape}
 use Rattle.tree.specs.Trees.{labelAt}
 use Rattle.tree.specs.Steps.{into, stepBy}
 use Rattle.tree.proofs.Matches.{form-arm, form-rest}
 use Rattle.shapes.proofs.Shapes.{shape-is, first-is}
-use Rattle.classify.specs.Classify.{pathRows, lastTypeInPath}
+use Rattle.classify.specs.Classify.{pathLines, lastTypeInPath}
 use Rattle.classify.specs.Steps.{flowBy}
 use Rattle.classify.proofs.Steps.{path-one}
 use borrow.Author.Needs.{needs}
@@ -44,25 +44,25 @@ last-type-in-path-requires : tie.Need-last-type-in-path-requires
 last-type-in-path-requires c κs = search needs
 
 returns : tie.Need-returns
-unfolding pathRows shapeRows firstInShape
-returns c = c .go-on .ensures ∙ ap flowBy (ap (into false) (c .before .first .ensures ∙ ap firstInShape (c .before .before .before .before .shape-at .ensures ∙ shape-is _ _ _ _ (c .before .before .before .form-at .ensures) (42 ∷ 50 ∷ []) (c .before .before .match .keys1) 4 tt tt)) ∙ form-arm _ _ _ pathRows _ false _ (c .before .before .before .form-at .ensures) tt 0 tt (c .before .before .match .keys1) _ refl)
+unfolding pathLines shapeLines firstInShape
+returns c = c .go-on .ensures ∙ ap flowBy (ap (into false) (c .before .first .ensures ∙ ap firstInShape (c .before .before .before .before .shape-at .ensures ∙ shape-is _ _ _ _ (c .before .before .before .form-at .ensures) (42 ∷ 50 ∷ []) (c .before .before .match .keys1) 4 tt tt)) ∙ form-arm _ _ _ pathLines _ false _ (c .before .before .before .form-at .ensures) tt 0 tt (c .before .before .match .keys1) _ refl)
 
 returns-2 : tie.Need-returns-2
-unfolding pathRows shapeRows firstInShape
-returns-2 c = c .go-on2 .ensures ∙ ap flowBy (ap (into false) (c .before .first2 .ensures ∙ ap firstInShape (c .before .before .before .before .shape-at .ensures ∙ shape-is _ _ _ _ (c .before .before .before .form-at .ensures) (51 ∷ []) (c .before .before .match .keys2) 5 tt tt)) ∙ form-arm _ _ _ pathRows _ false _ (c .before .before .before .form-at .ensures) tt 1 tt (c .before .before .match .keys2) _ refl)
+unfolding pathLines shapeLines firstInShape
+returns-2 c = c .go-on2 .ensures ∙ ap flowBy (ap (into false) (c .before .first2 .ensures ∙ ap firstInShape (c .before .before .before .before .shape-at .ensures ∙ shape-is _ _ _ _ (c .before .before .before .form-at .ensures) (51 ∷ []) (c .before .before .match .keys2) 5 tt tt)) ∙ form-arm _ _ _ pathLines _ false _ (c .before .before .before .form-at .ensures) tt 1 tt (c .before .before .match .keys2) _ refl)
 
 returns-3 : tie.Need-returns-3
-unfolding pathRows labelAt shapeRows
+unfolding pathLines labelAt shapeLines
 returns-3 c =
     c .last-type-in-path .ensures
     ∙ ap flowBy
     (ap₂ (λ (x : ℕ) (u : Operand). stepBy false (lastTypeInPath x) u u) (c .before .before .cell .ensures) (c .before .first3 .ensures ∙ ap firstInShape (c .before .before .before .before .before .shape-at .ensures) ∙ first-is _ _ _ _ (c .before .before .before .before .form-at .ensures) (44 ∷ 49 ∷ 53 ∷ []) (c .before .before .before .match .keys3) tt)
     ∙ sym (path-one _ _ _)
-    ∙ form-arm _ _ _ pathRows _ false _ (c .before .before .before .before .form-at .ensures) tt 2 tt (c .before .before .before .match .keys3) _ refl)
+    ∙ form-arm _ _ _ pathLines _ false _ (c .before .before .before .before .form-at .ensures) tt 2 tt (c .before .before .before .match .keys3) _ refl)
 
 returns-4 : tie.Need-returns-4
-unfolding pathRows
-returns-4 c = ap flowBy (form-rest _ _ _ pathRows _ false _ (c .before .form-at .ensures) (c .match .rest) _ (λ h k. refl) (λ n. refl))
+unfolding pathLines
+returns-4 c = ap flowBy (form-rest _ _ _ pathLines _ false _ (c .before .form-at .ensures) (c .match .rest) _ (λ h k. refl) (λ n. refl))
 
 pub path-step-spec : {M : Type 1} → statement M
 path-step-spec =

@@ -5,7 +5,7 @@ use Prim.Native.Nat.{_-_}
 use native.Mathlib.Omega.{arith}
 use borrow.Author.Needs.{needs}
 use Rattle.tree.specs.Trees.{treeAt}
-use Rattle.classify.specs.Classify.{pathRows, trailingPath}
+use Rattle.classify.specs.Classify.{pathLines, trailingPath}
 use Rattle.classify.proofs.Steps.{walk-ends, walk-goes}
 use Rattle.classify.proofs.trailing_unparameterized_path.Statement.{statement}
 use Rattle.classify.proofs.trailing_unparameterized_path.Tie as tie
@@ -17,15 +17,15 @@ abbrev μ-loop : tie.MeasureT-loop
 μ-loop table count node at₀ at = 65536 - at
 
 loop-less : tie.Need-loop-less Inv-loop μ-loop
-loop-less c = let g = walk-goes pathRows _ false _ _ _ _ (sym (c .before .step2 .given .1) ∙ c .before .before .before .path-step .ensures) in let h = c .before .before .before .before .before .before .fits .count in omega arith
+loop-less c = let g = walk-goes pathLines _ false _ _ _ _ (sym (c .before .step2 .given .1) ∙ c .before .before .before .path-step .ensures) in let h = c .before .before .before .before .before .before .fits .count in omega arith
 
 loop-again : tie.Need-loop-again Inv-loop μ-loop
 unfolding trailingPath
-loop-again c = walk-goes pathRows _ false _ _ _ _ (sym (c .before .step2 .given .1) ∙ c .before .before .before .path-step .ensures) .2 ∙ c .before .before .before .before .loop .inv
+loop-again c = walk-goes pathLines _ false _ _ _ _ (sym (c .before .step2 .given .1) ∙ c .before .before .before .path-step .ensures) .2 ∙ c .before .before .before .before .loop .inv
 
 returns : tie.Need-returns Inv-loop μ-loop
 unfolding trailingPath
-returns c = sym (walk-ends pathRows _ false _ _ _ _ (sym (c .before .step .given .1) ∙ c .before .before .before .path-step .ensures)) ∙ c .before .before .before .before .loop .inv
+returns c = sym (walk-ends pathLines _ false _ _ _ _ (sym (c .before .step .given .1) ∙ c .before .before .before .path-step .ensures)) ∙ c .before .before .before .before .loop .inv
 
 pub trailing-unparameterized-path-spec : {M : Type 1} → statement M
 trailing-unparameterized-path-spec =

@@ -3,13 +3,13 @@ use mathlib.Core.Path.{ap, ap₂, _∙_}
 use mathlib.Core.Bool.{true, false}
 use mathlib.Core.List.{[], _∷_}
 use Rattle.tree.specs.Trees.{labelAt}
-use Rattle.shapes.specs.Shapes.{shapeRows, firstInShape}
+use Rattle.shapes.specs.Shapes.{shapeLines, firstInShape}
 use Rattle.tree.proofs.Matches.{root-arm, root-rest}
 use Rattle.shapes.proofs.Shapes.{shape-is}
 use Rattle.precedence.specs.declared.Precedence.the-variants.{Jump, Assign, Range, Cast, Unambiguous}
 use Rattle.fixup.specs.Contexts.{NONE}
 use Rattle.expr.specs.Handed.{beforeOperator, beforeDot, atEnd, neither}
-use Rattle.expr.specs.Expr.{binaryLeft, callTest, firstRows, handsFirst}
+use Rattle.expr.specs.Expr.{binaryLeft, callTest, firstLines, handsFirst}
 use Rattle.expr.specs.Steps.{breakTest}
 use Rattle.tree.specs.Steps.{treeOf}
 use Rattle.tree.proofs.Walks.{tree-of}
@@ -105,74 +105,74 @@ neither-requires-3 : tie.Need-neither-requires-3
 neither-requires-3 c κs = search needs
 
 returns : tie.Need-returns
-unfolding handsFirst firstRows
-returns c = c .before-operator .ensures ∙ ap (beforeOperator (c .before .before .before .before .before .before .args .fixup) false false Assign) (c .before .up-to .ensures) ∙ root-arm _ _ _ (firstRows (c .before .before .before .before .before .before .args .fixup)) (neither NONE) _ (c .before .before .before .form-at .ensures) tt 0 tt (c .before .before .match .keys1)
+unfolding handsFirst firstLines
+returns c = c .before-operator .ensures ∙ ap (beforeOperator (c .before .before .before .before .before .before .args .fixup) false false Assign) (c .before .up-to .ensures) ∙ root-arm _ _ _ (firstLines (c .before .before .before .before .before .before .args .fixup)) (neither NONE) _ (c .before .before .before .form-at .ensures) tt 0 tt (c .before .before .match .keys1)
 
 returns-2 : tie.Need-returns-2
-unfolding handsFirst firstRows
-returns-2 c = c .before-dot .ensures ∙ ap (beforeDot (c .before .before .before .before .before .before .args .fixup)) (c .before .rank .ensures) ∙ root-arm _ _ _ (firstRows (c .before .before .before .before .before .before .args .fixup)) (neither NONE) _ (c .before .before .before .form-at .ensures) tt 1 tt (c .before .before .match .keys2)
+unfolding handsFirst firstLines
+returns-2 c = c .before-dot .ensures ∙ ap (beforeDot (c .before .before .before .before .before .before .args .fixup)) (c .before .rank .ensures) ∙ root-arm _ _ _ (firstLines (c .before .before .before .before .before .before .args .fixup)) (neither NONE) _ (c .before .before .before .form-at .ensures) tt 1 tt (c .before .before .match .keys2)
 
 returns-3 : tie.Need-returns-3
-unfolding handsFirst firstRows labelAt
-returns-3 c = c .binary-left .ensures ∙ ap (binaryLeft (c .before .before .before .before .before .before .args .fixup)) (c .before .cell .ensures) ∙ root-arm _ _ _ (firstRows (c .before .before .before .before .before .before .args .fixup)) (neither NONE) _ (c .before .before .before .form-at .ensures) tt 2 tt (c .before .before .match .keys3)
+unfolding handsFirst firstLines labelAt
+returns-3 c = c .binary-left .ensures ∙ ap (binaryLeft (c .before .before .before .before .before .before .args .fixup)) (c .before .cell .ensures) ∙ root-arm _ _ _ (firstLines (c .before .before .before .before .before .before .args .fixup)) (neither NONE) _ (c .before .before .before .form-at .ensures) tt 2 tt (c .before .before .match .keys3)
 
 returns-4 : tie.Need-returns-4
-unfolding handsFirst firstRows labelAt shapeRows firstInShape
+unfolding handsFirst firstLines labelAt shapeLines firstInShape
 returns-4 c =
     c .at-end .ensures
     ∙ ap (atEnd (c .before .before .before .before .before .before .before .before .args .fixup) true true Jump) (c .before .break-test .ensures ∙ ap₂ breakTest (c .before .before .before .cell2 .ensures) (ap (treeOf (c .before .before .before .before .before .before .before .before .args .table .now) (c .before .before .before .before .before .before .before .before .args .count)) (c .before .before .first-at .ensures ∙ ap firstInShape (shape-is _ _ _ _ (c .before .before .before .before .before .form-at .ensures) (7 ∷ []) (c .before .before .before .before .match .keys4) 2 tt tt)) ∙ tree-of _ _ _))
-    ∙ root-arm _ _ _ (firstRows (c .before .before .before .before .before .before .before .before .args .fixup)) (neither NONE) _ (c .before .before .before .before .before .form-at .ensures) tt 3 tt (c .before .before .before .before .match .keys4)
+    ∙ root-arm _ _ _ (firstLines (c .before .before .before .before .before .before .before .before .args .fixup)) (neither NONE) _ (c .before .before .before .before .before .form-at .ensures) tt 3 tt (c .before .before .before .before .match .keys4)
 
 returns-5 : tie.Need-returns-5
-unfolding handsFirst firstRows shapeRows firstInShape
+unfolding handsFirst firstLines shapeLines firstInShape
 returns-5 c =
     c .before-operator2 .ensures
     ∙ ap (beforeOperator (c .before .before .before .before .before .before .before .args .fixup) true false Unambiguous) (c .before .call-test .ensures ∙ ap callTest (ap (treeOf (c .before .before .before .before .before .before .before .args .table .now) (c .before .before .before .before .before .before .before .args .count)) (c .before .before .first-at2 .ensures ∙ ap firstInShape (shape-is _ _ _ _ (c .before .before .before .before .form-at .ensures) (8 ∷ []) (c .before .before .before .match .keys5) 0 tt tt)) ∙ tree-of _ _ _))
-    ∙ root-arm _ _ _ (firstRows (c .before .before .before .before .before .before .before .args .fixup)) (neither NONE) _ (c .before .before .before .before .form-at .ensures) tt 4 tt (c .before .before .before .match .keys5)
+    ∙ root-arm _ _ _ (firstLines (c .before .before .before .before .before .before .before .args .fixup)) (neither NONE) _ (c .before .before .before .before .form-at .ensures) tt 4 tt (c .before .before .before .match .keys5)
 
 returns-6 : tie.Need-returns-6
-unfolding handsFirst firstRows
-returns-6 c = c .before-operator3 .ensures ∙ ap (beforeOperator (c .before .before .before .before .before .before .args .fixup) false false Cast) (c .before .rank2 .ensures) ∙ root-arm _ _ _ (firstRows (c .before .before .before .before .before .before .args .fixup)) (neither NONE) _ (c .before .before .before .form-at .ensures) tt 5 tt (c .before .before .match .keys6)
+unfolding handsFirst firstLines
+returns-6 c = c .before-operator3 .ensures ∙ ap (beforeOperator (c .before .before .before .before .before .before .args .fixup) false false Cast) (c .before .rank2 .ensures) ∙ root-arm _ _ _ (firstLines (c .before .before .before .before .before .before .args .fixup)) (neither NONE) _ (c .before .before .before .form-at .ensures) tt 5 tt (c .before .before .match .keys6)
 
 returns-7 : tie.Need-returns-7
-unfolding handsFirst firstRows
-returns-7 c = c .at-end2 .ensures ∙ root-arm _ _ _ (firstRows (c .before .before .before .before .before .args .fixup)) (neither NONE) _ (c .before .before .form-at .ensures) tt 6 tt (c .before .match .keys7)
+unfolding handsFirst firstLines
+returns-7 c = c .at-end2 .ensures ∙ root-arm _ _ _ (firstLines (c .before .before .before .before .before .args .fixup)) (neither NONE) _ (c .before .before .form-at .ensures) tt 6 tt (c .before .match .keys7)
 
 returns-8 : tie.Need-returns-8
-unfolding handsFirst firstRows
-returns-8 c = c .neither .ensures ∙ root-arm _ _ _ (firstRows (c .before .before .before .before .before .args .fixup)) (neither NONE) _ (c .before .before .form-at .ensures) tt 7 tt (c .before .match .keys8)
+unfolding handsFirst firstLines
+returns-8 c = c .neither .ensures ∙ root-arm _ _ _ (firstLines (c .before .before .before .before .before .args .fixup)) (neither NONE) _ (c .before .before .form-at .ensures) tt 7 tt (c .before .match .keys8)
 
 returns-9 : tie.Need-returns-9
-unfolding handsFirst firstRows
-returns-9 c = c .before-operator4 .ensures ∙ ap (beforeOperator (c .before .before .before .before .before .before .args .fixup) true false Unambiguous) (c .before .rank3 .ensures) ∙ root-arm _ _ _ (firstRows (c .before .before .before .before .before .before .args .fixup)) (neither NONE) _ (c .before .before .before .form-at .ensures) tt 8 tt (c .before .before .match .keys9)
+unfolding handsFirst firstLines
+returns-9 c = c .before-operator4 .ensures ∙ ap (beforeOperator (c .before .before .before .before .before .before .args .fixup) true false Unambiguous) (c .before .rank3 .ensures) ∙ root-arm _ _ _ (firstLines (c .before .before .before .before .before .before .args .fixup)) (neither NONE) _ (c .before .before .before .form-at .ensures) tt 8 tt (c .before .before .match .keys9)
 
 returns-10 : tie.Need-returns-10
-unfolding handsFirst firstRows
-returns-10 c = c .after-prefix .ensures ∙ root-arm _ _ _ (firstRows (c .before .before .before .before .before .args .fixup)) (neither NONE) _ (c .before .before .form-at .ensures) tt 9 tt (c .before .match .keys10)
+unfolding handsFirst firstLines
+returns-10 c = c .after-prefix .ensures ∙ root-arm _ _ _ (firstLines (c .before .before .before .before .before .args .fixup)) (neither NONE) _ (c .before .before .form-at .ensures) tt 9 tt (c .before .match .keys10)
 
 returns-11 : tie.Need-returns-11
-unfolding handsFirst firstRows
-returns-11 c = c .neither2 .ensures ∙ ap neither (c .before .before .before .none .ensures) ∙ root-arm _ _ _ (firstRows (c .before .before .before .before .before .args .fixup)) (neither NONE) _ (c .before .before .form-at .ensures) tt 10 tt (c .before .match .keys11)
+unfolding handsFirst firstLines
+returns-11 c = c .neither2 .ensures ∙ ap neither (c .before .before .before .none .ensures) ∙ root-arm _ _ _ (firstLines (c .before .before .before .before .before .args .fixup)) (neither NONE) _ (c .before .before .form-at .ensures) tt 10 tt (c .before .match .keys11)
 
 returns-12 : tie.Need-returns-12
-unfolding handsFirst firstRows
-returns-12 c = c .before-operator5 .ensures ∙ ap (beforeOperator (c .before .before .before .before .before .before .args .fixup) true false Range) (c .before .up-to2 .ensures) ∙ root-arm _ _ _ (firstRows (c .before .before .before .before .before .before .args .fixup)) (neither NONE) _ (c .before .before .before .form-at .ensures) tt 11 tt (c .before .before .match .keys12)
+unfolding handsFirst firstLines
+returns-12 c = c .before-operator5 .ensures ∙ ap (beforeOperator (c .before .before .before .before .before .before .args .fixup) true false Range) (c .before .up-to2 .ensures) ∙ root-arm _ _ _ (firstLines (c .before .before .before .before .before .before .args .fixup)) (neither NONE) _ (c .before .before .before .form-at .ensures) tt 11 tt (c .before .before .match .keys12)
 
 returns-13 : tie.Need-returns-13
-unfolding handsFirst firstRows
-returns-13 c = c .after-prefix2 .ensures ∙ root-arm _ _ _ (firstRows (c .before .before .before .before .before .args .fixup)) (neither NONE) _ (c .before .before .form-at .ensures) tt 12 tt (c .before .match .keys13)
+unfolding handsFirst firstLines
+returns-13 c = c .after-prefix2 .ensures ∙ root-arm _ _ _ (firstLines (c .before .before .before .before .before .args .fixup)) (neither NONE) _ (c .before .before .form-at .ensures) tt 12 tt (c .before .match .keys13)
 
 returns-14 : tie.Need-returns-14
-unfolding handsFirst firstRows
-returns-14 c = c .after-prefix3 .ensures ∙ root-arm _ _ _ (firstRows (c .before .before .before .before .before .args .fixup)) (neither NONE) _ (c .before .before .form-at .ensures) tt 13 tt (c .before .match .keys14)
+unfolding handsFirst firstLines
+returns-14 c = c .after-prefix3 .ensures ∙ root-arm _ _ _ (firstLines (c .before .before .before .before .before .args .fixup)) (neither NONE) _ (c .before .before .form-at .ensures) tt 13 tt (c .before .match .keys14)
 
 returns-15 : tie.Need-returns-15
-unfolding handsFirst firstRows
-returns-15 c = c .at-end3 .ensures ∙ root-arm _ _ _ (firstRows (c .before .before .before .before .before .args .fixup)) (neither NONE) _ (c .before .before .form-at .ensures) tt 14 tt (c .before .match .keys15)
+unfolding handsFirst firstLines
+returns-15 c = c .at-end3 .ensures ∙ root-arm _ _ _ (firstLines (c .before .before .before .before .before .args .fixup)) (neither NONE) _ (c .before .before .form-at .ensures) tt 14 tt (c .before .match .keys15)
 
 returns-16 : tie.Need-returns-16
-unfolding handsFirst firstRows
-returns-16 c = c .neither3 .ensures ∙ ap neither (c .before .before .before .none .ensures) ∙ root-rest _ _ _ (firstRows (c .before .before .before .before .before .args .fixup)) (neither NONE) _ (c .before .before .form-at .ensures) (c .before .match .rest)
+unfolding handsFirst firstLines
+returns-16 c = c .neither3 .ensures ∙ ap neither (c .before .before .before .none .ensures) ∙ root-rest _ _ _ (firstLines (c .before .before .before .before .before .args .fixup)) (neither NONE) _ (c .before .before .form-at .ensures) (c .before .match .rest)
 
 pub first-operand-spec : {M : Type 1} → statement M
 first-operand-spec =

@@ -6,7 +6,7 @@ use Rattle.tree.proofs.Matches.{root-arm, root-rest}
 use Rattle.precedence.specs.declared.Precedence.the-variants.{Range}
 use Rattle.fixup.specs.Contexts.{NONE}
 use Rattle.expr.specs.Handed.{atEnd, neither}
-use Rattle.expr.specs.Expr.{binaryRight, secondRows, handsSecond}
+use Rattle.expr.specs.Expr.{binaryRight, secondLines, handsSecond}
 use borrow.Author.Needs.{needs}
 use Rattle.expr.proofs.second_operand.Statement.{statement}
 use Rattle.expr.proofs.second_operand.Tie as tie
@@ -39,24 +39,24 @@ neither-requires-2 : tie.Need-neither-requires-2
 neither-requires-2 c κs = search needs
 
 returns : tie.Need-returns
-unfolding handsSecond secondRows
-returns c = c .at-end .ensures ∙ root-arm _ _ _ (secondRows (c .before .before .before .before .before .args .fixup)) (neither NONE) _ (c .before .before .form-at .ensures) tt 0 tt (c .before .match .keys1)
+unfolding handsSecond secondLines
+returns c = c .at-end .ensures ∙ root-arm _ _ _ (secondLines (c .before .before .before .before .before .args .fixup)) (neither NONE) _ (c .before .before .form-at .ensures) tt 0 tt (c .before .match .keys1)
 
 returns-2 : tie.Need-returns-2
-unfolding handsSecond secondRows labelAt
-returns-2 c = c .binary-right .ensures ∙ ap (binaryRight (c .before .before .before .before .before .before .args .fixup)) (c .before .cell .ensures) ∙ root-arm _ _ _ (secondRows (c .before .before .before .before .before .before .args .fixup)) (neither NONE) _ (c .before .before .before .form-at .ensures) tt 1 tt (c .before .before .match .keys2)
+unfolding handsSecond secondLines labelAt
+returns-2 c = c .binary-right .ensures ∙ ap (binaryRight (c .before .before .before .before .before .before .args .fixup)) (c .before .cell .ensures) ∙ root-arm _ _ _ (secondLines (c .before .before .before .before .before .before .args .fixup)) (neither NONE) _ (c .before .before .before .form-at .ensures) tt 1 tt (c .before .before .match .keys2)
 
 returns-3 : tie.Need-returns-3
-unfolding handsSecond secondRows
-returns-3 c = c .neither .ensures ∙ ap neither (c .before .before .before .none .ensures) ∙ root-arm _ _ _ (secondRows (c .before .before .before .before .before .args .fixup)) (neither NONE) _ (c .before .before .form-at .ensures) tt 2 tt (c .before .match .keys3)
+unfolding handsSecond secondLines
+returns-3 c = c .neither .ensures ∙ ap neither (c .before .before .before .none .ensures) ∙ root-arm _ _ _ (secondLines (c .before .before .before .before .before .args .fixup)) (neither NONE) _ (c .before .before .form-at .ensures) tt 2 tt (c .before .match .keys3)
 
 returns-4 : tie.Need-returns-4
-unfolding handsSecond secondRows
-returns-4 c = c .at-end2 .ensures ∙ ap (atEnd (c .before .before .before .before .before .before .args .fixup) false true Range) (c .before .up-to .ensures) ∙ root-arm _ _ _ (secondRows (c .before .before .before .before .before .before .args .fixup)) (neither NONE) _ (c .before .before .before .form-at .ensures) tt 3 tt (c .before .before .match .keys4)
+unfolding handsSecond secondLines
+returns-4 c = c .at-end2 .ensures ∙ ap (atEnd (c .before .before .before .before .before .before .args .fixup) false true Range) (c .before .up-to .ensures) ∙ root-arm _ _ _ (secondLines (c .before .before .before .before .before .before .args .fixup)) (neither NONE) _ (c .before .before .before .form-at .ensures) tt 3 tt (c .before .before .match .keys4)
 
 returns-5 : tie.Need-returns-5
-unfolding handsSecond secondRows
-returns-5 c = c .neither2 .ensures ∙ ap neither (c .before .before .before .none .ensures) ∙ root-rest _ _ _ (secondRows (c .before .before .before .before .before .args .fixup)) (neither NONE) _ (c .before .before .form-at .ensures) (c .before .match .rest)
+unfolding handsSecond secondLines
+returns-5 c = c .neither2 .ensures ∙ ap neither (c .before .before .before .none .ensures) ∙ root-rest _ _ _ (secondLines (c .before .before .before .before .before .args .fixup)) (neither NONE) _ (c .before .before .form-at .ensures) (c .before .match .rest)
 
 pub second-operand-spec : {M : Type 1} → statement M
 second-operand-spec =

@@ -2,7 +2,7 @@
 use mathlib.Core.Path.{ap, _∙_}
 use mathlib.Core.List.{[], _∷_}
 use Rattle.tree.specs.declared.table.Operand.{Operand}
-use Rattle.shapes.specs.Shapes.{shapeRows, secondInShape}
+use Rattle.shapes.specs.Shapes.{shapeLines, secondInShape}
 use Rattle.tree.specs.Steps.{treeOf}
 use Rattle.tree.proofs.Walks.{tree-of}
 use Rattle.tree.proofs.Matches.{root-arm, root-rest}
@@ -23,7 +23,7 @@ ends-in-path-requires : tie.Need-ends-in-path-requires
 ends-in-path-requires c κs = search needs
 
 returns : tie.Need-returns
-unfolding isCastToPath shapeRows secondInShape
+unfolding isCastToPath shapeLines secondInShape
 returns c = c .ends-in-path .ensures ∙ ap (λ (p : Operand). trailingPath (treeOf (c .before .before .before .before .before .args .table .now) (c .before .before .before .before .before .args .count) p)) (c .before .second-at .ensures ∙ ap secondInShape (shape-is _ _ _ _ (c .before .before .before .form-at .ensures) (9 ∷ []) (c .before .before .match .keys1) 1 tt tt)) ∙ ap trailingPath (tree-of _ _ _) ∙ root-arm _ _ _ _ _ _ (c .before .before .before .form-at .ensures) tt 0 tt (c .before .before .match .keys1)
 
 returns-2 : tie.Need-returns-2

@@ -3,7 +3,7 @@ use mathlib.Core.Path.{sym, ap, _∙_}
 use mathlib.Core.Bool.{false, not}
 use mathlib.Core.List.{[], _∷_}
 use Rattle.tree.specs.declared.table.Operand.{Operand}
-use Rattle.shapes.specs.Shapes.{shapeRows, firstInShape}
+use Rattle.shapes.specs.Shapes.{shapeLines, firstInShape}
 use Rattle.tree.specs.Steps.{isPresent}
 use Rattle.tree.proofs.Walks.{there}
 use Rattle.tree.proofs.Matches.{root-arm, root-rest}
@@ -27,7 +27,7 @@ unfolding isOpenAhead
 returns c = root-arm _ _ _ _ _ _ (c .before .form-at .ensures) tt 0 tt (c .match .keys1)
 
 returns-2 : tie.Need-returns-2
-unfolding isOpenAhead shapeRows firstInShape
+unfolding isOpenAhead shapeLines firstInShape
 returns-2 c = c .is-absent .ensures ∙ ap (λ (p : Operand). not (isPresent p)) (c .before .first-at .ensures ∙ ap firstInShape (shape-is _ _ _ _ (c .before .before .before .form-at .ensures) (27 ∷ []) (c .before .before .match .keys2) 0 tt tt)) ∙ ap not (sym (there (c .before .before .before .before .before .args .table .now) (c .before .before .before .before .before .args .count) (c .before .before .before .before .before .args .node) _)) ∙ root-arm _ _ _ _ _ _ (c .before .before .before .form-at .ensures) tt 1 tt (c .before .before .match .keys2)
 
 returns-3 : tie.Need-returns-3

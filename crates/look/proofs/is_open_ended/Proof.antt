@@ -3,7 +3,7 @@ use mathlib.Core.Path.{sym, ap, _∙_}
 use mathlib.Core.Bool.{false, not}
 use mathlib.Core.List.{[], _∷_}
 use Rattle.tree.specs.declared.table.Operand.{Operand}
-use Rattle.shapes.specs.Shapes.{shapeRows, firstInShape, secondInShape}
+use Rattle.shapes.specs.Shapes.{shapeLines, firstInShape, secondInShape}
 use Rattle.tree.specs.Steps.{isPresent}
 use Rattle.tree.proofs.Walks.{there}
 use Rattle.tree.proofs.Matches.{root-arm, root-rest}
@@ -29,7 +29,7 @@ is-absent-requires-2 : tie.Need-is-absent-requires-2
 is-absent-requires-2 c κs = search needs
 
 returns : tie.Need-returns
-unfolding isOpenEnded shapeRows firstInShape
+unfolding isOpenEnded shapeLines firstInShape
 returns c = c .is-absent .ensures ∙ ap (λ (p : Operand). not (isPresent p)) (c .before .first-at .ensures ∙ ap firstInShape (shape-is _ _ _ _ (c .before .before .before .form-at .ensures) (7 ∷ []) (c .before .before .match .keys1) 2 tt tt)) ∙ ap not (sym (there (c .before .before .before .before .before .args .table .now) (c .before .before .before .before .before .args .count) (c .before .before .before .before .before .args .node) _)) ∙ root-arm _ _ _ _ _ _ (c .before .before .before .form-at .ensures) tt 0 tt (c .before .before .match .keys1)
 
 returns-2 : tie.Need-returns-2
@@ -37,7 +37,7 @@ unfolding isOpenEnded
 returns-2 c = root-arm _ _ _ _ _ _ (c .before .form-at .ensures) tt 1 tt (c .match .keys2)
 
 returns-3 : tie.Need-returns-3
-unfolding isOpenEnded shapeRows secondInShape
+unfolding isOpenEnded shapeLines secondInShape
 returns-3 c = c .is-absent2 .ensures ∙ ap (λ (p : Operand). not (isPresent p)) (c .before .second-at .ensures ∙ ap secondInShape (shape-is _ _ _ _ (c .before .before .before .form-at .ensures) (27 ∷ []) (c .before .before .match .keys3) 0 tt tt)) ∙ ap not (sym (there (c .before .before .before .before .before .args .table .now) (c .before .before .before .before .before .args .count) (c .before .before .before .before .before .args .node) _)) ∙ root-arm _ _ _ _ _ _ (c .before .before .before .form-at .ensures) tt 2 tt (c .before .before .match .keys3)
 
 returns-4 : tie.Need-returns-4

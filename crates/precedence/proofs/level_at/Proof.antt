@@ -2,13 +2,13 @@
 use mathlib.Core.Path.{refl, sym, ap, _∙_}
 use mathlib.Core.List.{[], _∷_}
 use Rattle.tree.specs.declared.table.Operand.{Operand}
-use Rattle.shapes.specs.Shapes.{shapeRows, firstInShape}
+use Rattle.shapes.specs.Shapes.{shapeLines, firstInShape}
 use Rattle.tree.specs.Trees.{labelAt}
 use Rattle.tree.specs.Walks.{answer}
 use Rattle.tree.specs.Steps.{into, isPresent}
 use Rattle.tree.proofs.Matches.{form-arm, form-rest}
 use Rattle.shapes.proofs.Shapes.{shape-is}
-use Rattle.precedence.specs.Precedences.{ofRows, closedBy}
+use Rattle.precedence.specs.Precedences.{ofLines, closedBy}
 use Rattle.precedence.specs.declared.Precedence.the-variants.{Unambiguous}
 use Rattle.precedence.specs.declared.Level.the-variants.{Of}
 use Rattle.precedence.specs.Steps.{jumpBy, closedOf, levelBy}
@@ -56,53 +56,53 @@ closed-of-requires : tie.Need-closed-of-requires
 closed-of-requires c κs = search needs
 
 returns : tie.Need-returns
-unfolding ofRows labelAt
-returns c = ap Of (c .closure-of .ensures ∙ rw (c .before .before .cell .ensures, c .before .cell2 .ensures)) ∙ ap levelBy (form-arm _ _ _ ofRows closedOf Unambiguous _ (c .before .before .before .before .form-at .ensures) tt 0 tt (c .before .before .before .match .keys1) _ refl)
+unfolding ofLines labelAt
+returns c = ap Of (c .closure-of .ensures ∙ rw (c .before .before .cell .ensures, c .before .cell2 .ensures)) ∙ ap levelBy (form-arm _ _ _ ofLines closedOf Unambiguous _ (c .before .before .before .before .form-at .ensures) tt 0 tt (c .before .before .before .match .keys1) _ refl)
 
 returns-2 : tie.Need-returns-2
-unfolding ofRows shapeRows firstInShape
+unfolding ofLines shapeLines firstInShape
 returns-2 c =
     ap Of (c .jump-of .ensures ∙ ap (λ (p : Operand). jumpBy (isPresent p)) (c .before .first-at .ensures ∙ ap firstInShape (shape-is _ _ _ _ (c .before .before .before .form-at .ensures) (7 ∷ 31 ∷ 40 ∷ []) (c .before .before .match .keys2) 2 tt tt)) ∙ ap jumpBy (sym (there (c .before .before .before .before .before .args .table .now) (c .before .before .before .before .before .args .count) (c .before .before .before .before .before .args .node) _)))
-    ∙ ap levelBy (form-arm _ _ _ ofRows closedOf Unambiguous _ (c .before .before .before .form-at .ensures) tt 1 tt (c .before .before .match .keys2) _ refl)
+    ∙ ap levelBy (form-arm _ _ _ ofLines closedOf Unambiguous _ (c .before .before .before .form-at .ensures) tt 1 tt (c .before .before .match .keys2) _ refl)
 
 returns-3 : tie.Need-returns-3
-unfolding ofRows
-returns-3 c = ap levelBy (form-arm _ _ _ ofRows closedOf Unambiguous _ (c .before .form-at .ensures) tt 2 tt (c .match .keys3) _ refl)
+unfolding ofLines
+returns-3 c = ap levelBy (form-arm _ _ _ ofLines closedOf Unambiguous _ (c .before .form-at .ensures) tt 2 tt (c .match .keys3) _ refl)
 
 returns-4 : tie.Need-returns-4
-unfolding ofRows
-returns-4 c = ap levelBy (form-arm _ _ _ ofRows closedOf Unambiguous _ (c .before .form-at .ensures) tt 3 tt (c .match .keys4) _ refl)
+unfolding ofLines
+returns-4 c = ap levelBy (form-arm _ _ _ ofLines closedOf Unambiguous _ (c .before .form-at .ensures) tt 3 tt (c .match .keys4) _ refl)
 
 returns-5 : tie.Need-returns-5
-unfolding ofRows labelAt
-returns-5 c = ap Of (c .of-binop .ensures ∙ rw (c .before .cell3 .ensures)) ∙ ap levelBy (form-arm _ _ _ ofRows closedOf Unambiguous _ (c .before .before .before .form-at .ensures) tt 4 tt (c .before .before .match .keys5) _ refl)
+unfolding ofLines labelAt
+returns-5 c = ap Of (c .of-binop .ensures ∙ rw (c .before .cell3 .ensures)) ∙ ap levelBy (form-arm _ _ _ ofLines closedOf Unambiguous _ (c .before .before .before .form-at .ensures) tt 4 tt (c .before .before .match .keys5) _ refl)
 
 returns-6 : tie.Need-returns-6
-unfolding ofRows
-returns-6 c = ap levelBy (form-arm _ _ _ ofRows closedOf Unambiguous _ (c .before .form-at .ensures) tt 5 tt (c .match .keys6) _ refl)
+unfolding ofLines
+returns-6 c = ap levelBy (form-arm _ _ _ ofLines closedOf Unambiguous _ (c .before .form-at .ensures) tt 5 tt (c .match .keys6) _ refl)
 
 returns-7 : tie.Need-returns-7
-unfolding ofRows
-returns-7 c = ap levelBy (form-arm _ _ _ ofRows closedOf Unambiguous _ (c .before .form-at .ensures) tt 6 tt (c .match .keys7) _ refl)
+unfolding ofLines
+returns-7 c = ap levelBy (form-arm _ _ _ ofLines closedOf Unambiguous _ (c .before .form-at .ensures) tt 6 tt (c .match .keys7) _ refl)
 
 returns-8 : tie.Need-returns-8
-unfolding ofRows
-returns-8 c = ap levelBy (form-arm _ _ _ ofRows closedOf Unambiguous _ (c .before .form-at .ensures) tt 7 tt (c .match .keys8) _ refl)
+unfolding ofLines
+returns-8 c = ap levelBy (form-arm _ _ _ ofLines closedOf Unambiguous _ (c .before .form-at .ensures) tt 7 tt (c .match .keys8) _ refl)
 
 returns-9 : tie.Need-returns-9
-unfolding ofRows
-returns-9 c = ap levelBy (form-arm _ _ _ ofRows closedOf Unambiguous _ (c .before .form-at .ensures) tt 8 tt (c .match .keys9) _ refl)
+unfolding ofLines
+returns-9 c = ap levelBy (form-arm _ _ _ ofLines closedOf Unambiguous _ (c .before .form-at .ensures) tt 8 tt (c .match .keys9) _ refl)
 
 returns-10 : tie.Need-returns-10
-unfolding ofRows shapeRows firstInShape
-returns-10 c = c .content-of .ensures ∙ ap levelBy (ap (into Unambiguous) (c .before .first-at2 .ensures ∙ ap firstInShape (shape-is _ _ _ _ (c .before .before .before .form-at .ensures) (15 ∷ []) (c .before .before .match .keys10) 2 tt tt)) ∙ form-arm _ _ _ ofRows closedOf Unambiguous _ (c .before .before .before .form-at .ensures) tt 9 tt (c .before .before .match .keys10) _ refl)
+unfolding ofLines shapeLines firstInShape
+returns-10 c = c .content-of .ensures ∙ ap levelBy (ap (into Unambiguous) (c .before .first-at2 .ensures ∙ ap firstInShape (shape-is _ _ _ _ (c .before .before .before .form-at .ensures) (15 ∷ []) (c .before .before .match .keys10) 2 tt tt)) ∙ form-arm _ _ _ ofLines closedOf Unambiguous _ (c .before .before .before .form-at .ensures) tt 9 tt (c .before .before .match .keys10) _ refl)
 
 returns-11 : tie.Need-returns-11
-unfolding ofRows labelAt
+unfolding ofLines labelAt
 returns-11 c =
     ap Of (c .closed-of .ensures)
     ∙ ap levelBy
-    (form-rest _ _ _ ofRows closedOf Unambiguous _ (c .before .before .form-at .ensures) (c .before .match .rest) (ends (closedBy (formIn (c .before .before .before .before .args .table .now) (c .before .before .before .before .args .count) (c .before .before .before .before .args .node)) (attributesAt (c .before .before .before .before .args .table .now) (c .before .before .before .before .args .node)))) (λ h k. rw (form-in (c .before .before .before .before .args .table .now) (c .before .before .before .before .args .count) (c .before .before .before .before .args .node) h k)) (λ n. rw (form-none (c .before .before .before .before .args .table .now) (c .before .before .before .before .args .count) (c .before .before .before .before .args .node) n, closed-none _)))
+    (form-rest _ _ _ ofLines closedOf Unambiguous _ (c .before .before .form-at .ensures) (c .before .match .rest) (ends (closedBy (formIn (c .before .before .before .before .args .table .now) (c .before .before .before .before .args .count) (c .before .before .before .before .args .node)) (attributesAt (c .before .before .before .before .args .table .now) (c .before .before .before .before .args .node)))) (λ h k. rw (form-in (c .before .before .before .before .args .table .now) (c .before .before .before .before .args .count) (c .before .before .before .before .args .node) h k)) (λ n. rw (form-none (c .before .before .before .before .args .table .now) (c .before .before .before .before .args .count) (c .before .before .before .before .args .node) n, closed-none _)))
 
 pub level-at-spec : {M : Type 1} → statement M
 level-at-spec =

@@ -2,7 +2,7 @@
 use mathlib.Core.Path.{_≡_, sym}
 use Rattle.laws.proofs.Keys.{arm, rest}
 use Rattle.shapes.specs.declared.Shape.the-variants.{Closed}
-use Rattle.shapes.specs.Shapes.{shapeRows, shapeAt}
+use Rattle.shapes.specs.Shapes.{shapeLines, shapeAt}
 use borrow.Author.Needs.{needs}
 use Rattle.shapes.proofs.shape_at.Statement.{statement}
 use Rattle.shapes.proofs.shape_at.Tie as tie
@@ -17,32 +17,32 @@ form-at-requires : tie.Need-form-at-requires
 form-at-requires c κs = search needs
 
 returns : tie.Need-returns
-unfolding shapeAt shapeRows
-returns c = rw (← c .before .form-at .ensures, ← c .before .before .operand-at2 .ensures, ← c .before .before .before .operand-at .ensures) (sym (arm (shapeRows _ _) Closed _ 0 tt (c .match .keys1)))
+unfolding shapeAt shapeLines
+returns c = rw (← c .before .form-at .ensures, ← c .before .before .operand-at2 .ensures, ← c .before .before .before .operand-at .ensures) (sym (arm (shapeLines _ _) Closed _ 0 tt (c .match .keys1)))
 
 returns-2 : tie.Need-returns-2
-unfolding shapeAt shapeRows
-returns-2 c = rw (← c .before .form-at .ensures, ← c .before .before .operand-at2 .ensures, ← c .before .before .before .operand-at .ensures) (sym (arm (shapeRows _ _) Closed _ 1 tt (c .match .keys2)))
+unfolding shapeAt shapeLines
+returns-2 c = rw (← c .before .form-at .ensures, ← c .before .before .operand-at2 .ensures, ← c .before .before .before .operand-at .ensures) (sym (arm (shapeLines _ _) Closed _ 1 tt (c .match .keys2)))
 
 returns-3 : tie.Need-returns-3
-unfolding shapeAt shapeRows
-returns-3 c = rw (← c .before .form-at .ensures, ← c .before .before .operand-at2 .ensures, ← c .before .before .before .operand-at .ensures) (sym (arm (shapeRows _ _) Closed _ 2 tt (c .match .keys3)))
+unfolding shapeAt shapeLines
+returns-3 c = rw (← c .before .form-at .ensures, ← c .before .before .operand-at2 .ensures, ← c .before .before .before .operand-at .ensures) (sym (arm (shapeLines _ _) Closed _ 2 tt (c .match .keys3)))
 
 returns-4 : tie.Need-returns-4
-unfolding shapeAt shapeRows
-returns-4 c = rw (← c .before .form-at .ensures, ← c .before .before .operand-at2 .ensures, ← c .before .before .before .operand-at .ensures) (sym (arm (shapeRows _ _) Closed _ 3 tt (c .match .keys4)))
+unfolding shapeAt shapeLines
+returns-4 c = rw (← c .before .form-at .ensures, ← c .before .before .operand-at2 .ensures, ← c .before .before .before .operand-at .ensures) (sym (arm (shapeLines _ _) Closed _ 3 tt (c .match .keys4)))
 
 returns-5 : tie.Need-returns-5
-unfolding shapeAt shapeRows
-returns-5 c = rw (← c .before .form-at .ensures, ← c .before .before .operand-at2 .ensures, ← c .before .before .before .operand-at .ensures) (sym (arm (shapeRows _ _) Closed _ 4 tt (c .match .keys5)))
+unfolding shapeAt shapeLines
+returns-5 c = rw (← c .before .form-at .ensures, ← c .before .before .operand-at2 .ensures, ← c .before .before .before .operand-at .ensures) (sym (arm (shapeLines _ _) Closed _ 4 tt (c .match .keys5)))
 
 returns-6 : tie.Need-returns-6
-unfolding shapeAt shapeRows
-returns-6 c = rw (← c .before .form-at .ensures, ← c .before .before .operand-at2 .ensures, ← c .before .before .before .operand-at .ensures) (sym (arm (shapeRows _ _) Closed _ 5 tt (c .match .keys6)))
+unfolding shapeAt shapeLines
+returns-6 c = rw (← c .before .form-at .ensures, ← c .before .before .operand-at2 .ensures, ← c .before .before .before .operand-at .ensures) (sym (arm (shapeLines _ _) Closed _ 5 tt (c .match .keys6)))
 
 returns-7 : tie.Need-returns-7
-unfolding shapeAt shapeRows
-returns-7 c = rw (← c .before .form-at .ensures, ← c .before .before .operand-at2 .ensures, ← c .before .before .before .operand-at .ensures) (sym (rest (shapeRows _ _) Closed _ (c .match .rest)))
+unfolding shapeAt shapeLines
+returns-7 c = rw (← c .before .form-at .ensures, ← c .before .before .operand-at2 .ensures, ← c .before .before .before .operand-at .ensures) (sym (rest (shapeLines _ _) Closed _ (c .match .rest)))
 
 pub shape-at-spec : {M : Type 1} → statement M
 shape-at-spec =

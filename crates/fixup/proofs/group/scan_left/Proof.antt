@@ -3,13 +3,13 @@ use mathlib.Core.Path.{sym, ap, _∙_}
 use mathlib.Core.Bool.{Bool, true, not, _||_}
 use mathlib.Core.List.{[], _∷_}
 use Rattle.tree.specs.declared.table.Operand.{Operand}
-use Rattle.shapes.specs.Shapes.{shapeRows, firstInShape}
+use Rattle.shapes.specs.Shapes.{shapeLines, firstInShape}
 use Rattle.tree.specs.Trees.{labelAt}
 use Rattle.tree.specs.Steps.{isPresent}
 use Rattle.tree.proofs.Walks.{there}
 use Rattle.tree.proofs.Matches.{root-arm, root-rest}
 use Rattle.shapes.proofs.Shapes.{shape-is}
-use Rattle.fixup.specs.Fixup.{leftOfBinary, scanLeftRows, scanLeft}
+use Rattle.fixup.specs.Fixup.{leftOfBinary, scanLeftLines, scanLeft}
 use Rattle.precedence.specs.declared.Precedence.the-variants.{Assign}
 use Rattle.precedence.specs.Precedences.{below, ofBinop}
 use borrow.Author.Needs.{needs}
@@ -48,34 +48,34 @@ is-below-requires-2 c κs = search needs
 
 -- a Range without a start
 returns : tie.Need-returns
-unfolding scanLeft scanLeftRows shapeRows firstInShape
+unfolding scanLeft scanLeftLines shapeLines firstInShape
 returns c =
     ap (λ (bare : Bool). bare || below (c .before .before .before .before .before .before .args .fixup .«previous_operator») Assign) (ap (λ (p : Operand). not (isPresent p)) (sym (c .enum-told2 .given .1) ∙ c .before .before .first-at .ensures ∙ ap firstInShape (shape-is _ _ _ _ (c .before .before .before .before .form-at .ensures) (27 ∷ []) (c .before .before .before .match .keys4) 0 tt tt)) ∙ ap not (sym (there (c .before .before .before .before .before .before .args .table .now) (c .before .before .before .before .before .before .args .count) (c .before .before .before .before .before .before .args .node) _)))
-    ∙ root-arm _ _ _ (scanLeftRows (c .before .before .before .before .before .before .args .fixup)) true _ (c .before .before .before .before .form-at .ensures) tt 3 tt (c .before .before .before .match .keys4)
+    ∙ root-arm _ _ _ (scanLeftLines (c .before .before .before .before .before .before .args .fixup)) true _ (c .before .before .before .before .form-at .ensures) tt 3 tt (c .before .before .before .match .keys4)
 
 returns-2 : tie.Need-returns-2
-unfolding scanLeft scanLeftRows
-returns-2 c = c .is-at-most .ensures ∙ root-arm _ _ _ (scanLeftRows (c .before .before .before .before .args .fixup)) true _ (c .before .before .form-at .ensures) tt 0 tt (c .before .match .keys1)
+unfolding scanLeft scanLeftLines
+returns-2 c = c .is-at-most .ensures ∙ root-arm _ _ _ (scanLeftLines (c .before .before .before .before .args .fixup)) true _ (c .before .before .form-at .ensures) tt 0 tt (c .before .match .keys1)
 
 returns-3 : tie.Need-returns-3
-unfolding scanLeft scanLeftRows labelAt
-returns-3 c = c .left-of-binary .ensures ∙ ap (leftOfBinary (c .before .before .before .before .before .before .args .fixup .«previous_operator»)) (c .before .of-binop .ensures ∙ ap ofBinop (c .before .before .cell .ensures)) ∙ root-arm _ _ _ (scanLeftRows (c .before .before .before .before .before .before .args .fixup)) true _ (c .before .before .before .before .form-at .ensures) tt 1 tt (c .before .before .before .match .keys2)
+unfolding scanLeft scanLeftLines labelAt
+returns-3 c = c .left-of-binary .ensures ∙ ap (leftOfBinary (c .before .before .before .before .before .before .args .fixup .«previous_operator»)) (c .before .of-binop .ensures ∙ ap ofBinop (c .before .before .cell .ensures)) ∙ root-arm _ _ _ (scanLeftLines (c .before .before .before .before .before .before .args .fixup)) true _ (c .before .before .before .before .form-at .ensures) tt 1 tt (c .before .before .before .match .keys2)
 
 returns-4 : tie.Need-returns-4
-unfolding scanLeft scanLeftRows
-returns-4 c = c .is-below .ensures ∙ root-arm _ _ _ (scanLeftRows (c .before .before .before .before .args .fixup)) true _ (c .before .before .form-at .ensures) tt 2 tt (c .before .match .keys3)
+unfolding scanLeft scanLeftLines
+returns-4 c = c .is-below .ensures ∙ root-arm _ _ _ (scanLeftLines (c .before .before .before .before .args .fixup)) true _ (c .before .before .form-at .ensures) tt 2 tt (c .before .match .keys3)
 
 -- a Range with a start
 returns-5 : tie.Need-returns-5
-unfolding scanLeft scanLeftRows shapeRows firstInShape
+unfolding scanLeft scanLeftLines shapeLines firstInShape
 returns-5 c =
     c .is-below2 .ensures
     ∙ ap (λ (bare : Bool). bare || below (c .before .before .before .before .before .before .before .args .fixup .«previous_operator») Assign) (ap (λ (p : Operand). not (isPresent p)) (sym (c .before .enum-told .given .1) ∙ c .before .before .before .first-at .ensures ∙ ap firstInShape (shape-is _ _ _ _ (c .before .before .before .before .before .form-at .ensures) (27 ∷ []) (c .before .before .before .before .match .keys4) 0 tt tt)) ∙ ap not (sym (there (c .before .before .before .before .before .before .before .args .table .now) (c .before .before .before .before .before .before .before .args .count) (c .before .before .before .before .before .before .before .args .node) _)))
-    ∙ root-arm _ _ _ (scanLeftRows (c .before .before .before .before .before .before .before .args .fixup)) true _ (c .before .before .before .before .before .form-at .ensures) tt 3 tt (c .before .before .before .before .match .keys4)
+    ∙ root-arm _ _ _ (scanLeftLines (c .before .before .before .before .before .before .before .args .fixup)) true _ (c .before .before .before .before .before .form-at .ensures) tt 3 tt (c .before .before .before .before .match .keys4)
 
 returns-6 : tie.Need-returns-6
-unfolding scanLeft scanLeftRows
-returns-6 c = root-rest _ _ _ (scanLeftRows (c .before .before .before .args .fixup)) true _ (c .before .form-at .ensures) (c .match .rest)
+unfolding scanLeft scanLeftLines
+returns-6 c = root-rest _ _ _ (scanLeftLines (c .before .before .before .args .fixup)) true _ (c .before .form-at .ensures) (c .match .rest)
 
 pub scan-left-spec : {M : Type 1} → statement M
 scan-left-spec =

@@ -9,7 +9,7 @@ use borrow.Author.Needs.{needs}
 use Rattle.laws.specs.Choice.{isOneOf}
 use Rattle.laws.proofs.Keys.{arm, rest}
 use Rattle.grammar.specs.Expressions.{path, literal, neg, deref, invert, ref, refMut, byNumber, awaited}
-use Rattle.grammar.specs.Parser.{noStart, startRows, startBy, noMember, afterDotRows, afterDotBy}
+use Rattle.grammar.specs.Parser.{noStart, startLines, startBy, noMember, afterDotLines, afterDotBy}
 use Rattle.token_reader.specs.Tables.{goesOnWith}
 use Rattle.token_reader.proofs.First.{there}
 use Rattle.token_reader.proofs.Tables.{level-most, after-least, no-form}
@@ -421,22 +421,22 @@ dot-same-length : (t : ℕ) → dot-lts.Need-same-length (dot-claims t) (dot-at 
 dot-same-length t c = search needs
 
 dot-returns : (t : ℕ) → dot-lts.Need-returns (dot-claims t) (dot-at t) dot.Post
-dot-returns t c = dot-named _ (c .before .before .before .before .before .before .before .before .before .pre .1 .0) (sym (ap afterDotBy (c .before .before .before .before .before .code-at .ensures)) ∙ arm afterDotRows noMember _ 0 tt (c .before .before .before .before .match .keys1)) (c .before .before .named .ensures)
+dot-returns t c = dot-named _ (c .before .before .before .before .before .before .before .before .before .pre .1 .0) (sym (ap afterDotBy (c .before .before .before .before .before .code-at .ensures)) ∙ arm afterDotLines noMember _ 0 tt (c .before .before .before .before .match .keys1)) (c .before .before .named .ensures)
 
 dot-same-length-2 : (t : ℕ) → dot-lts.Need-same-length-2 (dot-claims t) (dot-at t) dot.Post
 dot-same-length-2 t c = search needs
 
 dot-returns-2 : (t : ℕ) → dot-lts.Need-returns-2 (dot-claims t) (dot-at t) dot.Post
-dot-returns-2 t c = dot-member _ (c .before .before .before .before .before .before .before .before .before .pre .1 .0) byNumber refl (sym (ap afterDotBy (c .before .before .before .before .before .code-at .ensures)) ∙ arm afterDotRows noMember _ 1 tt (c .before .before .before .before .match .keys2)) refl (c .before .before .member .ensures)
+dot-returns-2 t c = dot-member _ (c .before .before .before .before .before .before .before .before .before .pre .1 .0) byNumber refl (sym (ap afterDotBy (c .before .before .before .before .before .code-at .ensures)) ∙ arm afterDotLines noMember _ 1 tt (c .before .before .before .before .match .keys2)) refl (c .before .before .member .ensures)
 
 dot-same-length-3 : (t : ℕ) → dot-lts.Need-same-length-3 (dot-claims t) (dot-at t) dot.Post
 dot-same-length-3 t c = search needs
 
 dot-returns-3 : (t : ℕ) → dot-lts.Need-returns-3 (dot-claims t) (dot-at t) dot.Post
-dot-returns-3 t c = dot-member _ (c .before .before .before .before .before .before .before .before .before .pre .1 .0) awaited refl (sym (ap afterDotBy (c .before .before .before .before .before .code-at .ensures)) ∙ arm afterDotRows noMember _ 2 tt (c .before .before .before .before .match .keys3)) refl (c .before .before .member2 .ensures)
+dot-returns-3 t c = dot-member _ (c .before .before .before .before .before .before .before .before .before .pre .1 .0) awaited refl (sym (ap afterDotBy (c .before .before .before .before .before .code-at .ensures)) ∙ arm afterDotLines noMember _ 2 tt (c .before .before .before .before .match .keys3)) refl (c .before .before .member2 .ensures)
 
 dot-returns-4 : (t : ℕ) → dot-lts.Need-returns-4 (dot-claims t) (dot-at t) dot.Post
-dot-returns-4 t c = dot-none _ (c .before .before .before .before .before .before .pre .1 .0) (sym (ap afterDotBy (c .before .before .code-at .ensures)) ∙ rest afterDotRows noMember _ (c .before .match .rest)) (c .no-expr .ensures)
+dot-returns-4 t c = dot-none _ (c .before .before .before .before .before .before .pre .1 .0) (sym (ap afterDotBy (c .before .before .code-at .ensures)) ∙ rest afterDotLines noMember _ (c .before .match .rest)) (c .no-expr .ensures)
 
 expr-operand-requires : (t : ℕ) → expr-lts.Need-operand-requires (expr-claims t) (expr-at t) expr.Post expr-Inv-loop expr-μ-loop
 expr-operand-requires t c κs = let p = c .before .before .before .pre .0 in (omega arith, c .before .before .before .pre .1 .0)
@@ -605,52 +605,52 @@ operand-same-length : (t : ℕ) → operand-lts.Need-same-length (operand-claims
 operand-same-length t c = search needs
 
 operand-returns : (t : ℕ) → operand-lts.Need-returns (operand-claims t) (operand-at t) operand.Post
-operand-returns t c = operand-prefixed (c .before .before .before .before .before .before .before .before .pre .1) neg (sym (ap startBy (c .before .before .before .before .before .code-at .ensures)) ∙ arm startRows noStart _ 0 tt (c .before .before .before .before .match .keys1)) refl (c .before .before .prefixed .ensures)
+operand-returns t c = operand-prefixed (c .before .before .before .before .before .before .before .before .pre .1) neg (sym (ap startBy (c .before .before .before .before .before .code-at .ensures)) ∙ arm startLines noStart _ 0 tt (c .before .before .before .before .match .keys1)) refl (c .before .before .prefixed .ensures)
 
 operand-same-length-2 : (t : ℕ) → operand-lts.Need-same-length-2 (operand-claims t) (operand-at t) operand.Post
 operand-same-length-2 t c = search needs
 
 operand-returns-2 : (t : ℕ) → operand-lts.Need-returns-2 (operand-claims t) (operand-at t) operand.Post
-operand-returns-2 t c = operand-prefixed (c .before .before .before .before .before .before .before .before .pre .1) deref (sym (ap startBy (c .before .before .before .before .before .code-at .ensures)) ∙ arm startRows noStart _ 1 tt (c .before .before .before .before .match .keys2)) refl (c .before .before .prefixed2 .ensures)
+operand-returns-2 t c = operand-prefixed (c .before .before .before .before .before .before .before .before .pre .1) deref (sym (ap startBy (c .before .before .before .before .before .code-at .ensures)) ∙ arm startLines noStart _ 1 tt (c .before .before .before .before .match .keys2)) refl (c .before .before .prefixed2 .ensures)
 
 operand-same-length-3 : (t : ℕ) → operand-lts.Need-same-length-3 (operand-claims t) (operand-at t) operand.Post
 operand-same-length-3 t c = search needs
 
 operand-returns-3 : (t : ℕ) → operand-lts.Need-returns-3 (operand-claims t) (operand-at t) operand.Post
-operand-returns-3 t c = operand-prefixed (c .before .before .before .before .before .before .before .before .pre .1) ref (sym (ap startBy (c .before .before .before .before .before .code-at .ensures)) ∙ arm startRows noStart _ 2 tt (c .before .before .before .before .match .keys3)) refl (c .before .before .prefixed3 .ensures)
+operand-returns-3 t c = operand-prefixed (c .before .before .before .before .before .before .before .before .pre .1) ref (sym (ap startBy (c .before .before .before .before .before .code-at .ensures)) ∙ arm startLines noStart _ 2 tt (c .before .before .before .before .match .keys3)) refl (c .before .before .prefixed3 .ensures)
 
 operand-same-length-4 : (t : ℕ) → operand-lts.Need-same-length-4 (operand-claims t) (operand-at t) operand.Post
 operand-same-length-4 t c = search needs
 
 operand-returns-4 : (t : ℕ) → operand-lts.Need-returns-4 (operand-claims t) (operand-at t) operand.Post
-operand-returns-4 t c = operand-prefixed (c .before .before .before .before .before .before .before .before .pre .1) invert (sym (ap startBy (c .before .before .before .before .before .code-at .ensures)) ∙ arm startRows noStart _ 3 tt (c .before .before .before .before .match .keys4)) refl (c .before .before .prefixed4 .ensures)
+operand-returns-4 t c = operand-prefixed (c .before .before .before .before .before .before .before .before .pre .1) invert (sym (ap startBy (c .before .before .before .before .before .code-at .ensures)) ∙ arm startLines noStart _ 3 tt (c .before .before .before .before .match .keys4)) refl (c .before .before .prefixed4 .ensures)
 
 operand-same-length-5 : (t : ℕ) → operand-lts.Need-same-length-5 (operand-claims t) (operand-at t) operand.Post
 operand-same-length-5 t c = search needs
 
 operand-returns-5 : (t : ℕ) → operand-lts.Need-returns-5 (operand-claims t) (operand-at t) operand.Post
-operand-returns-5 t c = operand-prefixed (c .before .before .before .before .before .before .before .before .pre .1) refMut (sym (ap startBy (c .before .before .before .before .before .code-at .ensures)) ∙ arm startRows noStart _ 4 tt (c .before .before .before .before .match .keys5)) refl (c .before .before .prefixed5 .ensures)
+operand-returns-5 t c = operand-prefixed (c .before .before .before .before .before .before .before .before .pre .1) refMut (sym (ap startBy (c .before .before .before .before .before .code-at .ensures)) ∙ arm startLines noStart _ 4 tt (c .before .before .before .before .match .keys5)) refl (c .before .before .prefixed5 .ensures)
 
 operand-same-length-6 : (t : ℕ) → operand-lts.Need-same-length-6 (operand-claims t) (operand-at t) operand.Post
 operand-same-length-6 t c = search needs
 
 operand-returns-6 : (t : ℕ) → operand-lts.Need-returns-6 (operand-claims t) (operand-at t) operand.Post
-operand-returns-6 t c = operand-atom (c .before .before .before .before .before .before .before .before .pre .1) path (sym (ap startBy (c .before .before .before .before .before .code-at .ensures)) ∙ arm startRows noStart _ 5 tt (c .before .before .before .before .match .keys6)) refl (c .before .before .atom .ensures)
+operand-returns-6 t c = operand-atom (c .before .before .before .before .before .before .before .before .pre .1) path (sym (ap startBy (c .before .before .before .before .before .code-at .ensures)) ∙ arm startLines noStart _ 5 tt (c .before .before .before .before .match .keys6)) refl (c .before .before .atom .ensures)
 
 operand-same-length-7 : (t : ℕ) → operand-lts.Need-same-length-7 (operand-claims t) (operand-at t) operand.Post
 operand-same-length-7 t c = search needs
 
 operand-returns-7 : (t : ℕ) → operand-lts.Need-returns-7 (operand-claims t) (operand-at t) operand.Post
-operand-returns-7 t c = operand-atom (c .before .before .before .before .before .before .before .before .pre .1) literal (sym (ap startBy (c .before .before .before .before .before .code-at .ensures)) ∙ arm startRows noStart _ 6 tt (c .before .before .before .before .match .keys7)) refl (c .before .before .atom2 .ensures)
+operand-returns-7 t c = operand-atom (c .before .before .before .before .before .before .before .before .pre .1) literal (sym (ap startBy (c .before .before .before .before .before .code-at .ensures)) ∙ arm startLines noStart _ 6 tt (c .before .before .before .before .match .keys7)) refl (c .before .before .atom2 .ensures)
 
 operand-same-length-8 : (t : ℕ) → operand-lts.Need-same-length-8 (operand-claims t) (operand-at t) operand.Post
 operand-same-length-8 t c = search needs
 
 operand-returns-8 : (t : ℕ) → operand-lts.Need-returns-8 (operand-claims t) (operand-at t) operand.Post
-operand-returns-8 t c = operand-group (c .before .before .before .before .before .before .before .before .pre .1) (sym (ap startBy (c .before .before .before .before .before .code-at .ensures)) ∙ arm startRows noStart _ 7 tt (c .before .before .before .before .match .keys8)) (c .before .before .group .ensures)
+operand-returns-8 t c = operand-group (c .before .before .before .before .before .before .before .before .pre .1) (sym (ap startBy (c .before .before .before .before .before .code-at .ensures)) ∙ arm startLines noStart _ 7 tt (c .before .before .before .before .match .keys8)) (c .before .before .group .ensures)
 
 operand-returns-9 : (t : ℕ) → operand-lts.Need-returns-9 (operand-claims t) (operand-at t) operand.Post
-operand-returns-9 t c = operand-none (c .before .before .before .before .before .pre .1) (sym (ap startBy (c .before .before .code-at .ensures)) ∙ rest startRows noStart _ (c .before .match .rest)) (c .no-expr .ensures)
+operand-returns-9 t c = operand-none (c .before .before .before .before .before .pre .1) (sym (ap startBy (c .before .before .code-at .ensures)) ∙ rest startLines noStart _ (c .before .match .rest)) (c .no-expr .ensures)
 
 prefixed-add-expr : (t : ℕ) → prefixed-lts.Need-add-expr (prefixed-claims t) (prefixed-at t) prefixed.Post
 prefixed-add-expr t c = search needs

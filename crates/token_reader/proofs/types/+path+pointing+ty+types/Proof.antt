@@ -6,7 +6,7 @@ use lib.ListN.{length}
 use borrow.Author.Needs.{needs}
 use Rattle.laws.proofs.Keys.{arm, rest}
 use Rattle.grammar.specs.Types.{constPtr, mutPtr, sharedRef, mutRef, infer, never}
-use Rattle.grammar.specs.Parser.{noType, typeStartRows, typeStartBy}
+use Rattle.grammar.specs.Parser.{noType, typeStartLines, typeStartBy}
 use Rattle.token_reader.proofs.First.{there}
 use Rattle.token_reader.proofs.Tells.{ready-on, ready-grew}
 use Rattle.token_reader.proofs.TypeEnds.{type-sign, type-pointing, type-path, type-none, pointing-none, pointing-stored, path-named, path-empty, path-none, path-stored, types-last, types-none, types-more-none, types-more}
@@ -202,46 +202,46 @@ ty-same-length : (t : ℕ) → ty-lts.Need-same-length (ty-claims t) (ty-at t) t
 ty-same-length t c = search needs
 
 ty-returns : (t : ℕ) → ty-lts.Need-returns (ty-claims t) (ty-at t) ty.Post
-ty-returns t c = type-pointing (c .before .before .before .before .before .before .before .before .pre .1) sharedRef (there (c .before .before .before .before .before .before .before .before .args .tokens .now) (c .before .before .before .before .before .before .before .before .args .at) 8 (sym (c .before .before .before .before .before .code-at .ensures) ∙ c .before .before .before .before .match .keys1) (omega arith)) (sym (ap typeStartBy (c .before .before .before .before .before .code-at .ensures)) ∙ arm typeStartRows noType _ 0 tt (c .before .before .before .before .match .keys1)) refl (c .before .before .pointing .ensures)
+ty-returns t c = type-pointing (c .before .before .before .before .before .before .before .before .pre .1) sharedRef (there (c .before .before .before .before .before .before .before .before .args .tokens .now) (c .before .before .before .before .before .before .before .before .args .at) 8 (sym (c .before .before .before .before .before .code-at .ensures) ∙ c .before .before .before .before .match .keys1) (omega arith)) (sym (ap typeStartBy (c .before .before .before .before .before .code-at .ensures)) ∙ arm typeStartLines noType _ 0 tt (c .before .before .before .before .match .keys1)) refl (c .before .before .pointing .ensures)
 
 ty-same-length-2 : (t : ℕ) → ty-lts.Need-same-length-2 (ty-claims t) (ty-at t) ty.Post
 ty-same-length-2 t c = search needs
 
 ty-returns-2 : (t : ℕ) → ty-lts.Need-returns-2 (ty-claims t) (ty-at t) ty.Post
-ty-returns-2 t c = type-sign (c .before .before .before .before .before .before .before .before .pre .1) never (there (c .before .before .before .before .before .before .before .before .args .tokens .now) (c .before .before .before .before .before .before .before .before .args .at) 29 (sym (c .before .before .before .before .before .code-at .ensures) ∙ c .before .before .before .before .match .keys2) (omega arith)) (sym (ap typeStartBy (c .before .before .before .before .before .code-at .ensures)) ∙ arm typeStartRows noType _ 1 tt (c .before .before .before .before .match .keys2)) refl (c .before .before .sign .ensures)
+ty-returns-2 t c = type-sign (c .before .before .before .before .before .before .before .before .pre .1) never (there (c .before .before .before .before .before .before .before .before .args .tokens .now) (c .before .before .before .before .before .before .before .before .args .at) 29 (sym (c .before .before .before .before .before .code-at .ensures) ∙ c .before .before .before .before .match .keys2) (omega arith)) (sym (ap typeStartBy (c .before .before .before .before .before .code-at .ensures)) ∙ arm typeStartLines noType _ 1 tt (c .before .before .before .before .match .keys2)) refl (c .before .before .sign .ensures)
 
 ty-same-length-3 : (t : ℕ) → ty-lts.Need-same-length-3 (ty-claims t) (ty-at t) ty.Post
 ty-same-length-3 t c = search needs
 
 ty-returns-3 : (t : ℕ) → ty-lts.Need-returns-3 (ty-claims t) (ty-at t) ty.Post
-ty-returns-3 t c = type-pointing (c .before .before .before .before .before .before .before .before .pre .1) mutRef (there (c .before .before .before .before .before .before .before .before .args .tokens .now) (c .before .before .before .before .before .before .before .before .args .at) 30 (sym (c .before .before .before .before .before .code-at .ensures) ∙ c .before .before .before .before .match .keys3) (omega arith)) (sym (ap typeStartBy (c .before .before .before .before .before .code-at .ensures)) ∙ arm typeStartRows noType _ 2 tt (c .before .before .before .before .match .keys3)) refl (c .before .before .pointing2 .ensures)
+ty-returns-3 t c = type-pointing (c .before .before .before .before .before .before .before .before .pre .1) mutRef (there (c .before .before .before .before .before .before .before .before .args .tokens .now) (c .before .before .before .before .before .before .before .before .args .at) 30 (sym (c .before .before .before .before .before .code-at .ensures) ∙ c .before .before .before .before .match .keys3) (omega arith)) (sym (ap typeStartBy (c .before .before .before .before .before .code-at .ensures)) ∙ arm typeStartLines noType _ 2 tt (c .before .before .before .before .match .keys3)) refl (c .before .before .pointing2 .ensures)
 
 ty-same-length-4 : (t : ℕ) → ty-lts.Need-same-length-4 (ty-claims t) (ty-at t) ty.Post
 ty-same-length-4 t c = search needs
 
 ty-returns-4 : (t : ℕ) → ty-lts.Need-returns-4 (ty-claims t) (ty-at t) ty.Post
-ty-returns-4 t c = type-path (c .before .before .before .before .before .before .before .before .pre .1) (there (c .before .before .before .before .before .before .before .before .args .tokens .now) (c .before .before .before .before .before .before .before .before .args .at) 32 (sym (c .before .before .before .before .before .code-at .ensures) ∙ c .before .before .before .before .match .keys4) (omega arith)) (sym (ap typeStartBy (c .before .before .before .before .before .code-at .ensures)) ∙ arm typeStartRows noType _ 3 tt (c .before .before .before .before .match .keys4)) (c .before .before .path .ensures)
+ty-returns-4 t c = type-path (c .before .before .before .before .before .before .before .before .pre .1) (there (c .before .before .before .before .before .before .before .before .args .tokens .now) (c .before .before .before .before .before .before .before .before .args .at) 32 (sym (c .before .before .before .before .before .code-at .ensures) ∙ c .before .before .before .before .match .keys4) (omega arith)) (sym (ap typeStartBy (c .before .before .before .before .before .code-at .ensures)) ∙ arm typeStartLines noType _ 3 tt (c .before .before .before .before .match .keys4)) (c .before .before .path .ensures)
 
 ty-same-length-5 : (t : ℕ) → ty-lts.Need-same-length-5 (ty-claims t) (ty-at t) ty.Post
 ty-same-length-5 t c = search needs
 
 ty-returns-5 : (t : ℕ) → ty-lts.Need-returns-5 (ty-claims t) (ty-at t) ty.Post
-ty-returns-5 t c = type-pointing (c .before .before .before .before .before .before .before .before .pre .1) constPtr (there (c .before .before .before .before .before .before .before .before .args .tokens .now) (c .before .before .before .before .before .before .before .before .args .at) 41 (sym (c .before .before .before .before .before .code-at .ensures) ∙ c .before .before .before .before .match .keys5) (omega arith)) (sym (ap typeStartBy (c .before .before .before .before .before .code-at .ensures)) ∙ arm typeStartRows noType _ 4 tt (c .before .before .before .before .match .keys5)) refl (c .before .before .pointing3 .ensures)
+ty-returns-5 t c = type-pointing (c .before .before .before .before .before .before .before .before .pre .1) constPtr (there (c .before .before .before .before .before .before .before .before .args .tokens .now) (c .before .before .before .before .before .before .before .before .args .at) 41 (sym (c .before .before .before .before .before .code-at .ensures) ∙ c .before .before .before .before .match .keys5) (omega arith)) (sym (ap typeStartBy (c .before .before .before .before .before .code-at .ensures)) ∙ arm typeStartLines noType _ 4 tt (c .before .before .before .before .match .keys5)) refl (c .before .before .pointing3 .ensures)
 
 ty-same-length-6 : (t : ℕ) → ty-lts.Need-same-length-6 (ty-claims t) (ty-at t) ty.Post
 ty-same-length-6 t c = search needs
 
 ty-returns-6 : (t : ℕ) → ty-lts.Need-returns-6 (ty-claims t) (ty-at t) ty.Post
-ty-returns-6 t c = type-pointing (c .before .before .before .before .before .before .before .before .pre .1) mutPtr (there (c .before .before .before .before .before .before .before .before .args .tokens .now) (c .before .before .before .before .before .before .before .before .args .at) 42 (sym (c .before .before .before .before .before .code-at .ensures) ∙ c .before .before .before .before .match .keys6) (omega arith)) (sym (ap typeStartBy (c .before .before .before .before .before .code-at .ensures)) ∙ arm typeStartRows noType _ 5 tt (c .before .before .before .before .match .keys6)) refl (c .before .before .pointing4 .ensures)
+ty-returns-6 t c = type-pointing (c .before .before .before .before .before .before .before .before .pre .1) mutPtr (there (c .before .before .before .before .before .before .before .before .args .tokens .now) (c .before .before .before .before .before .before .before .before .args .at) 42 (sym (c .before .before .before .before .before .code-at .ensures) ∙ c .before .before .before .before .match .keys6) (omega arith)) (sym (ap typeStartBy (c .before .before .before .before .before .code-at .ensures)) ∙ arm typeStartLines noType _ 5 tt (c .before .before .before .before .match .keys6)) refl (c .before .before .pointing4 .ensures)
 
 ty-same-length-7 : (t : ℕ) → ty-lts.Need-same-length-7 (ty-claims t) (ty-at t) ty.Post
 ty-same-length-7 t c = search needs
 
 ty-returns-7 : (t : ℕ) → ty-lts.Need-returns-7 (ty-claims t) (ty-at t) ty.Post
-ty-returns-7 t c = type-sign (c .before .before .before .before .before .before .before .before .pre .1) infer (there (c .before .before .before .before .before .before .before .before .args .tokens .now) (c .before .before .before .before .before .before .before .before .args .at) 43 (sym (c .before .before .before .before .before .code-at .ensures) ∙ c .before .before .before .before .match .keys7) (omega arith)) (sym (ap typeStartBy (c .before .before .before .before .before .code-at .ensures)) ∙ arm typeStartRows noType _ 6 tt (c .before .before .before .before .match .keys7)) refl (c .before .before .sign2 .ensures)
+ty-returns-7 t c = type-sign (c .before .before .before .before .before .before .before .before .pre .1) infer (there (c .before .before .before .before .before .before .before .before .args .tokens .now) (c .before .before .before .before .before .before .before .before .args .at) 43 (sym (c .before .before .before .before .before .code-at .ensures) ∙ c .before .before .before .before .match .keys7) (omega arith)) (sym (ap typeStartBy (c .before .before .before .before .before .code-at .ensures)) ∙ arm typeStartLines noType _ 6 tt (c .before .before .before .before .match .keys7)) refl (c .before .before .sign2 .ensures)
 
 ty-returns-8 : (t : ℕ) → ty-lts.Need-returns-8 (ty-claims t) (ty-at t) ty.Post
-ty-returns-8 t c = type-none (c .before .before .before .before .before .pre .1) (sym (ap typeStartBy (c .before .before .code-at .ensures)) ∙ rest typeStartRows noType _ (c .before .match .rest)) (c .no-piece .ensures)
+ty-returns-8 t c = type-none (c .before .before .before .before .before .pre .1) (sym (ap typeStartBy (c .before .before .code-at .ensures)) ∙ rest typeStartLines noType _ (c .before .match .rest)) (c .no-piece .ensures)
 
 types-ty-requires : (t : ℕ) → types-lts.Need-ty-requires (types-claims t) (types-at t) types.Post
 types-ty-requires t c κs = let p = c .before .before .before .pre .0 in (omega arith, c .before .before .before .pre .1)
