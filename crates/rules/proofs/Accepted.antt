@@ -11,7 +11,7 @@ use lib.ListN.{length}
 use borrow.Author.Tests.{eqb-true, eqb-false, ltb-false, leb-true, leb-false, le-leb, eq-eqb, ne-eqb, not-false, not-true}
 use Rattle.laws.specs.Choice.{pick}
 use Rattle.laws.specs.Each.{some}
-use Rattle.laws.proofs.Choice.{pick-true, pick-false, true-not-false, and-true, or-false}
+use Rattle.laws.proofs.Choice.{pick-true, true-not-false, and-true, or-false}
 use Rattle.laws.proofs.Each.{some-none}
 use Rattle.places.specs.declared.place.Place.{Place}
 use Rattle.places.specs.declared.place.Place.the-variants.{Nothing, Required, Optional, List as ListOf, Item, Next}

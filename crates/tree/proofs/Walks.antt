@@ -11,7 +11,7 @@ use Rattle.laws.specs.Choice.{Line}
 use Rattle.laws.proofs.Choice.{pick-true, pick-false}
 use Rattle.tree.specs.declared.table.Operand.{Operand}
 use Rattle.tree.specs.declared.table.Operand.the-variants.{Absent, Present}
-use Rattle.tree.specs.Trees.{Label, Tree, none, node, labelAt, operandOf, operandAt, treeAt}
+use Rattle.tree.specs.Trees.{Label, Tree, none, node, operandOf, operandAt, treeAt}
 use Rattle.tree.specs.Operands.{presence}
 use Rattle.tree.specs.Walks.{Ask, answer, first, second, follow, isThere, walk}
 use Rattle.tree.specs.Steps.{isPresent, treeOf, Step, ends, goes, into, stepBy, askedAt, stepAt}

@@ -4,7 +4,6 @@ use mathlib.Core.List.{[], _∷_}
 use Rattle.tree.specs.declared.table.Operand.{Operand}
 use Rattle.shapes.specs.Shapes.{shapeLines, firstInShape}
 use Rattle.tree.specs.Trees.{labelAt}
-use Rattle.tree.specs.Walks.{answer}
 use Rattle.tree.specs.Steps.{into, isPresent}
 use Rattle.tree.proofs.Matches.{form-arm, form-rest}
 use Rattle.shapes.proofs.Shapes.{shape-is}
