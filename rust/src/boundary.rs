@@ -3,56 +3,37 @@
 //! Each is total: no argument is wrong, a refusal is a reply. On a refusal every
 //! lent cell keeps its contents; otherwise cells past the answer keep theirs.
 
+mod library;
 pub mod questions;
 
-mod library {
-    extern "C" {
-        pub fn tezhukor_load(
-            file: *const u8,
-            file_length: usize,
-            table: *mut u16,
-            table_length: usize,
-        ) -> u32;
+use crate::Refusal;
+use model::sizes::{CONTEXT_UNIT, MOST_TOKENS, REFUSAL_UNIT};
 
-        pub fn tezhukor_decide(
-            context: u16,
-            count: u16,
-            table: *const u16,
-            table_length: usize,
-            rows: *mut u16,
-            rows_length: usize,
-            scratch: *mut u16,
-            scratch_length: usize,
-        ) -> u16;
-
-        pub fn tezhukor_write(
-            context: u16,
-            count: u16,
-            table: *const u16,
-            table_length: usize,
-            tokens: *mut u16,
-            tokens_length: usize,
-        ) -> u32;
-
-        pub fn tezhukor_read(
-            tokens: *const u16,
-            tokens_length: usize,
-            table: *mut u16,
-            table_length: usize,
-        ) -> u32;
+/// What a reply of one number says: what was done, or the refusal.
+pub fn done(reply: u32) -> Result<u16, Refusal> {
+    // The library's contracts allow no refusals but those.
+    match Refusal::numbered((reply / REFUSAL_UNIT) as u16) {
+        None => Ok((reply % REFUSAL_UNIT) as u16),
+        Some(refusal) => Err(refusal),
     }
 }
 
-/// Loads a tree file into a table, five cells a node. The reply is the refusal
-/// times 65,536, or the context times 8,192 and the count.
+/// The context and the count of a file that is loaded.
+pub fn header(done: u16) -> (u16, u16) {
+    (done / CONTEXT_UNIT, done % CONTEXT_UNIT)
+}
+
+/// Loads a tree file into a table of [`NODE_CELLS`](model::sizes::NODE_CELLS) cells a
+/// node. What is done, without a refusal, is a [`header`].
 pub fn load(file: &[u8], table: &mut [u16]) -> u32 {
     // SAFETY: pointers and lengths are those of slices, of which none overlaps
     // another; the function demands nothing else of its arguments.
     unsafe { library::tezhukor_load(file.as_ptr(), file.len(), table.as_mut_ptr(), table.len()) }
 }
 
-/// Decides the rows of a table, five cells a node, with three cells of scratch a
-/// node. The reply is 0 or the refusal.
+/// Decides the rows of a table, [`ROW_CELLS`](model::sizes::ROW_CELLS) cells a node, with
+/// [`SCRATCH_CELLS`](model::sizes::SCRATCH_CELLS) of scratch a node. The reply is 0 or the
+/// refusal.
 pub fn decide(
     context: u16,
     count: u16,
@@ -75,8 +56,9 @@ pub fn decide(
     }
 }
 
-/// Writes the tokens of a plain table, six cells a node at most. The reply is the
-/// refusal times 65,536, or the number of tokens.
+/// Writes the tokens of a plain table;
+/// [`TOKENS_PER_NODE`](model::sizes::TOKENS_PER_NODE) cells a node must be lent. What is
+/// done is the number of tokens.
 pub fn write(context: u16, count: u16, table: &[u16], tokens: &mut [u16]) -> u32 {
     // SAFETY: as above.
     unsafe {
@@ -97,8 +79,8 @@ const LONG: usize = 2_048;
 /// The longest lists were measured to take up to 4.0 MiB of it (docs/PERFORMANCE.md).
 const STACK: usize = 16 << 20;
 
-/// Reads a token list into a table of at least 20,480 cells. The reply is the
-/// refusal times 65,536, or the number of nodes.
+/// Reads a token list into a table of at least [`MOST_CELLS`](model::sizes::MOST_CELLS)
+/// cells. What is done is the number of nodes.
 ///
 /// The library's reader is recursive: a long list is read on a thread of its own,
 /// whose stack is large enough for the longest one.
@@ -117,10 +99,8 @@ pub fn read(tokens: &[u16], table: &mut [u16]) -> u32 {
     })
 }
 
-/// The most tokens of a list; a longer one is refused before it is read.
-pub const MOST_TOKENS: usize = 24_576;
-
-fn read_here(tokens: &[u16], table: &mut [u16]) -> u32 {
+/// As [`read`], always on the caller's stack.
+pub fn read_here(tokens: &[u16], table: &mut [u16]) -> u32 {
     // SAFETY: as above.
     unsafe {
         library::tezhukor_read(tokens.as_ptr(), tokens.len(), table.as_mut_ptr(), table.len())

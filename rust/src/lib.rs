@@ -47,13 +47,13 @@
 //! none. Nests that double the time of each level in prettyplease do not here.
 
 pub mod boundary;
-pub mod codes;
-pub mod forms;
 mod refusal;
 mod tree;
 
+#[doc(inline)]
+pub use model::{codes, forms, sizes};
 pub use refusal::Refusal;
-pub use tree::{Node, Row, Tree, MOST_NODES};
+pub use tree::{Node, Row, Tree};
 
 /// The rows of a tree file, node 1 first.
 ///

@@ -1,5 +1,6 @@
 //! Refusals.
 
+use model::sizes::LAST_REFUSAL;
 use std::fmt;
 
 /// Defines the refusals: number, name and sentence.
@@ -14,7 +15,7 @@ macro_rules! refusals {
 
         impl Refusal {
             /// All refusals, by number.
-            pub const ALL: [Refusal; 16] = [$(Refusal::$name,)*];
+            pub const ALL: [Refusal; LAST_REFUSAL as usize] = [$(Refusal::$name,)*];
 
             /// What is wrong, in one sentence.
             pub fn sentence(self) -> &'static str {

@@ -1,36 +1,11 @@
 //! What lies behind a row: the crate's single functions, asked of a node.
 //!
-//! A context is three numbers: previous operator, next operator and flags, as in
-//! a row.
+//! Questions have the numbers of `crates/questions/specs` and `crates/cells/specs`.
 
-mod library {
-    extern "C" {
-        pub fn tezhukor_fixup_answer(
-            question: u16,
-            previous: u16,
-            next: u16,
-            flags: u16,
-            table: *const u16,
-            table_length: usize,
-            count: u16,
-            node: u16,
-        ) -> u16;
+use super::library;
+use model::forms::Side;
 
-        pub fn tezhukor_handed(
-            question: u16,
-            cell: u16,
-            previous: u16,
-            next: u16,
-            flags: u16,
-            table: *const u16,
-            table_length: usize,
-            count: u16,
-            node: u16,
-        ) -> u16;
-    }
-}
-
-/// A context: previous operator, next operator, flags.
+/// A context: previous operator, next operator and flags, as in a row.
 pub type Context = [u16; 3];
 
 /// A node of a table.
@@ -41,32 +16,95 @@ pub struct Place<'a> {
     pub node: u16,
 }
 
-/// A question about a node in a context.
-#[derive(Copy, Clone, PartialEq, Eq, Debug)]
-#[repr(u16)]
-pub enum Question {
-    /// Whether `parenthesize` asks for a pair: 1, or 0.
-    Parenthesize = 0,
-    /// The precedence as an operand on neither side.
-    Precedence = 1,
-    /// The precedence as a left operand.
-    LeftPrecedence = 3,
-    /// The precedence as a right operand.
-    RightPrecedence = 4,
+/// Defines the questions about a node by itself: name, and the function's name in the
+/// crate.
+macro_rules! questions {
+    ($($name:ident $function:literal,)*) => {
+        /// A question about a node by itself.
+        #[derive(Copy, Clone, PartialEq, Eq, Debug)]
+        #[repr(u16)]
+        pub enum Question {
+            $(#[doc = $function] $name,)*
+        }
+
+        impl Question {
+            /// All questions, by number.
+            pub const ALL: [Question; 7] = [$(Question::$name,)*];
+
+            /// The function's name in the crate.
+            pub fn name(self) -> &'static str {
+                match self {
+                    $(Question::$name => $function,)*
+                }
+            }
+        }
+    };
 }
 
-/// The answer about a node in a context.
-pub fn answer(question: Question, context: Context, place: Place) -> u16 {
-    let [previous, next, flags] = context;
+questions! {
+    PrecedenceOf "Precedence::of",
+    RequiresSemi "requires_semi_to_be_stmt",
+    RequiresComma "requires_comma_to_be_match_arm",
+    LeadingLabel "expr_leading_label",
+    TrailingBrace "expr_trailing_brace",
+    TrailingPath "trailing_unparameterized_path",
+    TypeTrailingBrace "type_trailing_brace",
+}
+
+/// The answer about a node: a precedence, or 1 for yes and 0 for no.
+pub fn answer(question: Question, place: Place) -> u16 {
     let Place { table, count, node } = place;
     // SAFETY: the pointer and the length are those of a slice, which is only read;
     // the function demands nothing else of its arguments.
+    unsafe { library::tezhukor_answer(question as u16, table.as_ptr(), table.len(), count, node) }
+}
+
+/// A question about an expression in a context.
+#[derive(Copy, Clone, PartialEq, Eq, Debug)]
+#[repr(u16)]
+pub enum InContext {
+    /// Whether `parenthesize` asks for a pair: 1, or 0.
+    Parenthesize,
+    /// The precedence as an operand on neither side.
+    Precedence,
+    /// `scan_left`: 1, or 0.
+    ScanLeft,
+    /// The precedence as a left operand.
+    LeftPrecedence,
+    /// The precedence as a right operand.
+    RightPrecedence,
+}
+
+/// The answer about an expression in a context.
+pub fn answer_in(question: InContext, context: Context, place: Place) -> u16 {
+    let [previous, next, flags] = context;
+    let Place { table, count, node } = place;
+    let (asked, pointer, length) = (question as u16, table.as_ptr(), table.len());
+    // SAFETY: as above.
     unsafe {
-        library::tezhukor_fixup_answer(
-            question as u16,
+        library::tezhukor_fixup_answer(asked, previous, next, flags, pointer, length, count, node)
+    }
+}
+
+/// `scan_right` of an expression: 0 Fail, 1 Bailout, 2 Consume.
+pub fn scan_right(
+    context: Context,
+    precedence: u16,
+    fail_offset: u16,
+    bailout_offset: u16,
+    place: Place,
+) -> u16 {
+    let [previous, next, flags] = context;
+    let Place { table, count, node } = place;
+    // SAFETY: as above.
+    unsafe {
+        library::tezhukor_scan_right(
             previous,
             next,
             flags,
+            precedence,
+            fail_offset,
+            bailout_offset,
             table.as_ptr(),
             table.len(),
             count,
@@ -75,12 +113,37 @@ pub fn answer(question: Question, context: Context, place: Place) -> u16 {
     }
 }
 
+/// A function of fixup.rs that makes a context.
+#[derive(Copy, Clone, PartialEq, Eq, Debug)]
+#[repr(u16)]
+pub enum Maker {
+    None,
+    NewStmt,
+    NewMatchArm,
+    NewCondition,
+    LeftmostWithOperator,
+    LeftmostWithDot,
+    Rightmost,
+}
+
+/// The context that the function makes, from another one, two booleans in source
+/// order, and a precedence. Some take less.
+pub fn context(maker: Maker, from: Context, booleans: [bool; 2], precedence: u16) -> Context {
+    let [previous, next, flags] = from;
+    let [first, second] = booleans.map(u16::from);
+    // SAFETY: the arguments are numbers, and the function demands nothing of them.
+    [0, 1, 2].map(|cell| unsafe {
+        let maker = maker as u16;
+        library::tezhukor_context(maker, cell, previous, next, flags, first, second, precedence)
+    })
+}
+
 /// What an owner hands to an operand.
 #[derive(Copy, Clone, PartialEq, Eq, Debug)]
 pub struct Handed {
     pub context: Context,
-    /// 0 left, 1 right, 2 neither.
-    pub side: u16,
+    /// Which function gives the operand's precedence.
+    pub side: Side,
     /// The owner groups the operand if its precedence is smaller than this.
     pub below: u16,
 }
@@ -94,5 +157,6 @@ pub fn handed(operand: u16, own: Context, owner: Place) -> Handed {
     let [previous, next, flags, side, below] = [0, 1, 2, 3, 4].map(|cell| unsafe {
         library::tezhukor_handed(operand, cell, previous, next, flags, pointer, length, count, node)
     });
+    let side = [Side::Left, Side::Right].get(usize::from(side)).copied().unwrap_or(Side::Neither);
     Handed { context: [previous, next, flags], side, below }
 }

@@ -2,47 +2,21 @@
 //! and token lists, with every buffer length around each boundary.
 //!
 //! Each reply and each lent cell is compared with what the library's definitions say,
-//! as they are stated a second time by `tools/oracle` (tree files and refusals) and
-//! `tools/readings` (all readings of a token list, found by cutting it), and here
-//! (buffers, tokens, trees without parentheses). A row's contents are stated by the
-//! recorded rows, see `tests/recorded.rs`.
+//! as they are stated a second time by `model` (tree files, refusals, tokens, and all
+//! readings of a token list, found by cutting it) and here (buffers). A row's contents
+//! are stated by the recorded rows, see `tests/recorded.rs`.
 //!
 //! TEZHUKOR_FUZZ says how many of each are made; 2,000 if it says nothing.
 
-extern crate self as oracle;
-
-#[allow(dead_code)]
-#[path = "../../../tools/oracle/src/accept.rs"]
-mod accept;
-#[allow(dead_code)]
-#[path = "../../../tools/readings/src/chart.rs"]
-mod chart;
-#[allow(dead_code)]
-#[path = "../../../tools/readings/src/codes.rs"]
-mod codes;
-#[allow(dead_code)]
-#[path = "../../../tools/oracle/src/forms.rs"]
-mod forms;
-#[allow(dead_code, unused_imports)]
-#[path = "../../../tools/oracle/src/generate/mod.rs"]
-mod generate;
-mod lent;
-#[allow(dead_code)]
-#[path = "../../../tools/readings/src/rules.rs"]
-mod rules;
-#[allow(dead_code)]
-#[path = "../../../tools/oracle/src/table.rs"]
-mod table;
-#[allow(dead_code)]
-#[path = "../../../tools/readings/src/verdict.rs"]
-mod verdict;
-mod written;
-
-use chart::Chart;
-use generate::{Dice, Family};
-use lent::Lent;
-use rules::Rules;
-use table::NodeTable;
+use model::chart::Chart;
+use model::codes::{self, CLOSE, EQUALS, MINUS, NAME, OPEN};
+use model::generate::{Dice, Family};
+use model::lent::Lent;
+use model::rules::Rules;
+use model::sizes::*;
+use model::table::{self, NodeTable, DETAIL, FIRST, FORM, SECOND};
+use model::written::{self, without_parens, Written};
+use model::{accept, forms, verdict};
 use tezhukor::{boundary, Refusal, Tree};
 
 /// How many of each are made.
@@ -52,7 +26,7 @@ fn times() -> u64 {
 
 /// How many have which reply.
 #[derive(Default)]
-struct Tally([u64; 17]);
+struct Tally([u64; LAST_REFUSAL as usize + 1]);
 
 impl Tally {
     fn count(&mut self, refusal: u16) {
@@ -61,7 +35,7 @@ impl Tally {
 
     fn print(&self, name: &str) {
         let all: u64 = self.0.iter().sum();
-        let replies: Vec<String> = (0..17)
+        let replies: Vec<String> = (0..self.0.len())
             .filter(|&reply| self.0[reply] > 0)
             .map(|reply| format!("{reply}: {}", self.0[reply]))
             .collect();
@@ -77,7 +51,7 @@ fn loaded(file: &[u8], lent: usize) -> Result<NodeTable, u16> {
     }
     // The context is one byte, the count one or two.
     let high = if file[1] < 0x80 { 0 } else { usize::from(file[2]) << 7 };
-    if lent < 5 * (usize::from(file[1] & 0x7F) | high) {
+    if lent < NODE_CELLS * (usize::from(file[1] & 0x7F) | high) {
         return Err(4);
     }
     let table = parsed?;
@@ -90,85 +64,84 @@ fn loaded(file: &[u8], lent: usize) -> Result<NodeTable, u16> {
 /// Loads a file with so many cells lent.
 fn load(file: &[u8], length: usize, tally: &mut Tally) -> Option<NodeTable> {
     let mut lent = Lent::new(length);
-    let reply = boundary::load(file, lent.cells());
+    let reply = boundary::load(file, lent.lend(length));
     let meant = loaded(file, length);
     let (refusal, number) = match &meant {
-        Ok(table) => (0, 8_192 * u32::from(table.context) + u32::from(table.count)),
-        Err(refusal) => (*refusal, 65_536 * u32::from(*refusal)),
+        Ok(table) => (0, u32::from(CONTEXT_UNIT * table.context + table.count)),
+        Err(refusal) => (*refusal, REFUSAL_UNIT * u32::from(*refusal)),
     };
     assert_eq!(reply, number, "{file:?}");
-    lent.holds(meant.as_ref().map_or(&[], |table| &table.cells[..]));
+    holds(lent, meant.as_ref().map_or(&[], |table| &table.cells[..]));
     tally.count(refusal);
     meant.ok()
+}
+
+/// Checks that a buffer holds an answer, and else what it was lent with.
+fn holds(mut lent: Lent, answer: &[u16]) {
+    assert_eq!(lent.take(answer.len()).as_deref(), Some(answer));
 }
 
 /// Decides a table with so many cells lent for rows and for scratch.
 fn decide(table: &NodeTable, [rows, scratch]: [usize; 2], tally: &mut Tally) {
     let (mut lent_rows, mut lent_scratch) = (Lent::new(rows), Lent::new(scratch));
     let NodeTable { context, count, cells } = table;
-    let reply = boundary::decide(*context, *count, cells, lent_rows.cells(), lent_scratch.cells());
+    let reply =
+        boundary::decide(*context, *count, cells, lent_rows.lend(rows), lent_scratch.lend(scratch));
     let nodes = usize::from(*count);
     let meant = match accept::refusal(table) {
-        0 if rows < 5 * nodes || scratch < 3 * nodes => 12,
+        0 if rows < ROW_CELLS * nodes || scratch < SCRATCH_CELLS * nodes => 12,
         refusal => refusal,
     };
     assert_eq!(reply, meant, "{table:?}");
     tally.count(reply);
     if reply != 0 {
-        lent_rows.holds(&[]);
-        lent_scratch.holds(&[]);
+        holds(lent_rows, &[]);
+        holds(lent_scratch, &[]);
         return;
     }
-    let tree = Tree::load(&table::write(&exactly(table))).expect("accepted");
-    let rows: Vec<u16> = tree
-        .rows()
-        .iter()
-        .flat_map(|row| {
-            [row.pair, row.precedence, row.previous_operator, row.next_operator, row.flags]
-        })
-        .collect();
-    lent_rows.holds(&rows);
-    lent_scratch.holds(&vec![0; 3 * nodes]);
+    let rows: Vec<u16> = tree(table).rows().iter().flat_map(|row| row.cells()).collect();
+    holds(lent_rows, &rows);
+    holds(lent_scratch, &vec![0; SCRATCH_CELLS * nodes]);
 }
 
-/// A table without cells past its last node.
-fn exactly(table: &NodeTable) -> NodeTable {
-    let cells = table.cells[..5 * usize::from(table.count)].to_vec();
-    NodeTable { cells, ..*table }
+/// The tree of an accepted table, which may have cells past its last node.
+fn tree(table: &NodeTable) -> Tree {
+    let cells = table.cells[..NODE_CELLS * usize::from(table.count)].to_vec();
+    Tree::load(&table::write(&NodeTable { cells, ..*table })).expect("accepted")
+}
+
+/// Which nodes of an accepted table have an outer pair, by the library's rows.
+fn pairs(table: &NodeTable) -> Vec<bool> {
+    tree(table).rows().iter().map(|row| row.has_outer_pair()).collect()
 }
 
 /// Writes a table with so many cells lent; gives the tokens.
 fn write(table: &NodeTable, length: usize, tally: &mut Tally) -> Option<Vec<u16>> {
     let mut lent = Lent::new(length);
     let NodeTable { context, count, cells } = table;
-    let reply = boundary::write(*context, *count, cells, lent.cells());
-    let meant = match accept::refusal(table) {
-        0 if length < 6 * usize::from(*count) => Err(12),
-        0 if *context != 0 || !written::is_plain(table) => Err(13),
-        0 => Ok(written::tokens(table)),
-        refusal => Err(refusal),
-    };
+    let reply = boundary::write(*context, *count, cells, lent.lend(length));
+    let meant = written::reply(table, length, pairs);
     let number = match &meant {
         Ok(tokens) => tokens.len() as u32,
-        Err(refusal) => 65_536 * u32::from(*refusal),
+        Err(refusal) => REFUSAL_UNIT * u32::from(*refusal),
     };
     assert_eq!(reply, number, "{table:?}");
     tally.count(meant.as_ref().err().copied().unwrap_or(0));
-    lent.holds(meant.as_deref().unwrap_or(&[]));
+    holds(lent, meant.as_deref().unwrap_or(&[]));
     meant.ok()
 }
 
 /// Reads a token list with so many cells lent, when it must give that.
 fn read(tokens: &[u16], length: usize, verdict: &Result<Vec<u16>, u16>, tally: &mut Tally) {
     let mut lent = Lent::new(length);
-    let reply = boundary::read(tokens, lent.cells());
-    let meant = if length < 20_480 { &Err(12) } else { verdict };
+    let reply = boundary::read(tokens, lent.lend(length));
+    let meant = if length < MOST_CELLS { &Err(12) } else { verdict };
     let number = match meant {
-        Ok(cells) => cells.len() as u32 / 5,
-        Err(refusal) => 65_536 * u32::from(*refusal),
+        Ok(cells) => (cells.len() / NODE_CELLS) as u32,
+        Err(refusal) => REFUSAL_UNIT * u32::from(*refusal),
     };
     assert_eq!(reply, number, "{tokens:?}");
-    lent.holds(meant.as_deref().unwrap_or(&[]));
+    holds(lent, meant.as_deref().unwrap_or(&[]));
     tally.count(meant.as_ref().err().copied().unwrap_or(0));
 }
 
@@ -182,11 +155,15 @@ fn around(boundary: usize, dice: &mut Dice) -> usize {
     }
 }
 
+/// Lengths for a table of any count.
+const NEAR_MOST_CELLS: [usize; 8] =
+    [0, NODE_CELLS, MOST_CELLS - 1, MOST_CELLS, MOST_CELLS, MOST_CELLS, MOST_CELLS, MOST_CELLS + 1];
+
 /// The length for a table that a file of that many bytes may need.
 fn table_length(file: &[u8], dice: &mut Dice) -> usize {
-    match loaded(file, 20_480) {
+    match loaded(file, MOST_CELLS) {
         Ok(table) => around(table.cells.len(), dice),
-        Err(_) => dice.pick(&[0, 5, 20_479, 20_480, 20_480, 20_480, 20_480, 20_481]),
+        Err(_) => dice.pick(&NEAR_MOST_CELLS),
     }
 }
 
@@ -200,17 +177,17 @@ fn random_bytes() {
         let mut file: Vec<u8> = (0..length).map(|_| dice.below(most) as u8).collect();
         if length > 2 && dice.percent(60) {
             file[0] = dice.below(4) as u8;
-            file[1] = ((length - 2) / 5) as u8 & 0x7F;
+            file[1] = ((length - 2) / NODE_CELLS) as u8 & 0x7F;
         }
         let length = table_length(&file, dice);
         load(&file, length, &mut tally);
         let whole = Tree::load(&file).map(|tree| tree.cells().to_vec());
-        let meant = loaded(&file, 20_480).map(|table| table.cells);
+        let meant = loaded(&file, MOST_CELLS).map(|table| table.cells);
         assert_eq!(whole.map_err(Refusal::number), meant);
     }
-    for length in [65_535, 65_536, 65_537, 70_000] {
-        load(&vec![0; length], 20_480, &mut tally);
-        load(&vec![0x81; length], 20_480, &mut tally);
+    for length in [MOST_FILE_BYTES - 1, MOST_FILE_BYTES, MOST_FILE_BYTES + 1, 70_000] {
+        load(&vec![0; length], MOST_CELLS, &mut tally);
+        load(&vec![0x81; length], MOST_CELLS, &mut tally);
     }
     tally.print("random bytes loaded");
 }
@@ -245,7 +222,7 @@ fn damaged_files() {
         let file = damaged(table::write(&tree), dice);
         let length = table_length(&file, dice);
         load(&file, length, &mut loads);
-        if let Ok(table) = loaded(&file, 20_480) {
+        if let Ok(table) = loaded(&file, MOST_CELLS) {
             ask(&table, dice, &mut decides, &mut writes);
         }
     }
@@ -257,30 +234,20 @@ fn damaged_files() {
 /// Decides and writes a table with buffers around their boundaries.
 fn ask(table: &NodeTable, dice: &mut Dice, decides: &mut Tally, writes: &mut Tally) {
     let count = usize::from(table.count);
-    let lengths = [around(5 * count, dice), around(3 * count, dice)];
+    let lengths = [around(ROW_CELLS * count, dice), around(SCRATCH_CELLS * count, dice)];
     decide(table, lengths, decides);
-    let length = around(6 * count, dice);
+    let length = around(TOKENS_PER_NODE * count, dice);
     write(table, length, writes);
-}
-
-/// Puts parentheses round the root, so many.
-fn deepened(tree: &NodeTable, more: u16) -> NodeTable {
-    let mut cells: Vec<u16> = (0..more).flat_map(|at| [forms::PAREN, 0, 0, at + 2, 0]).collect();
-    for node in tree.cells.chunks(5) {
-        let moved = |operand: u16| if operand == 0 { 0 } else { operand + more };
-        cells.extend([node[0], node[1], node[2], moved(node[3]), moved(node[4])]);
-    }
-    NodeTable { context: tree.context, count: tree.count + more, cells }
 }
 
 /// The details that refusals 9 and 10 speak of.
 fn refused_detail(table: &mut NodeTable, dice: &mut Dice) {
-    let at = 5 * dice.below(table.cells.len() / 5);
-    for node in table.cells[at..].chunks_mut(5) {
-        match node[0] {
-            forms::TYPE_PATH if node[3..] == [0, 0] => return node[2] = 0,
-            forms::TYPE_IMPL_TRAIT | forms::TYPE_TRAIT_OBJECT => return node[2] = 0,
-            forms::CLOSURE => return node[2] = 1,
+    let at = NODE_CELLS * dice.below(table.cells.len() / NODE_CELLS);
+    for node in table.cells[at..].chunks_mut(NODE_CELLS) {
+        match node[FORM] {
+            forms::TYPE_PATH if node[FIRST..=SECOND] == [0, 0] => return node[DETAIL] = 0,
+            forms::TYPE_IMPL_TRAIT | forms::TYPE_TRAIT_OBJECT => return node[DETAIL] = 0,
+            forms::CLOSURE => return node[DETAIL] = 1,
             _ => {}
         }
     }
@@ -288,10 +255,11 @@ fn refused_detail(table: &mut NodeTable, dice: &mut Dice) {
 
 /// Changes some cells of a table, its context, its count or its length.
 fn damaged_table(tree: &NodeTable, dice: &mut Dice) -> NodeTable {
+    const MOST: u16 = MOST_NODES as u16;
     let mut table = tree.clone();
     match dice.below(6) {
         0 => refused_detail(&mut table, dice),
-        1 => table = deepened(tree, dice.between(100, 129) as u16),
+        1 => table = tree.in_parens(dice.between(100, MOST_LEVELS + 1) as u16),
         _ => {}
     }
     for _ in 0..dice.pick(&[0, 1, 1, 2]) {
@@ -299,7 +267,7 @@ fn damaged_table(tree: &NodeTable, dice: &mut Dice) -> NodeTable {
         let number = dice.pick(&[0, 1, 2, 3, tree.count, tree.count + 1, 56, 57, 65_535]);
         match dice.below(8) {
             0 => table.context = dice.pick(&[0, 1, 2, 3, 4, 65_535]),
-            1 => table.count = dice.pick(&[0, 1, tree.count + 1, 4_096, 4_097, 65_535]),
+            1 => table.count = dice.pick(&[0, 1, tree.count + 1, MOST, MOST + 1, 65_535]),
             2 => table.cells.truncate(at),
             3 => table.cells.push(number),
             _ if at < table.cells.len() => table.cells[at] = number,
@@ -316,8 +284,12 @@ fn damaged_tables() {
         let dice = &mut Dice::new(4, index);
         let table = damaged_table(&Family::Mixed.tree(5, index), dice);
         let nodes = usize::from(table.count).min(5_000);
-        decide(&table, [around(5 * nodes, dice), around(3 * nodes, dice)], &mut decides);
-        write(&table, around(6 * nodes, dice), &mut writes);
+        decide(
+            &table,
+            [around(ROW_CELLS * nodes, dice), around(SCRATCH_CELLS * nodes, dice)],
+            &mut decides,
+        );
+        write(&table, around(TOKENS_PER_NODE * nodes, dice), &mut writes);
     }
     decides.print("damaged tables decided");
     writes.print("damaged tables written");
@@ -333,14 +305,14 @@ fn every_length() {
             continue;
         }
         let file = table::write(&tree);
-        for length in 0..=6 * count + 8 {
+        for length in 0..=TOKENS_PER_NODE * count + 8 {
             load(&file, length, &mut loads);
-            decide(&tree, [length, 3 * count], &mut decides);
-            decide(&tree, [5 * count, length], &mut decides);
+            decide(&tree, [length, SCRATCH_CELLS * count], &mut decides);
+            decide(&tree, [ROW_CELLS * count, length], &mut decides);
             write(&tree, length, &mut writes);
         }
         for length in 0..=file.len() {
-            load(&file[..length], 20_480, &mut loads);
+            load(&file[..length], MOST_CELLS, &mut loads);
         }
     }
     loads.print("loaded with every length");
@@ -353,9 +325,10 @@ fn written_and_read() {
     let [mut writes, mut reads] = [(); 2].map(|()| Tally::default());
     for index in 0..times() {
         let tree = Family::Plain.tree(7, index);
-        let tokens = write(&tree, 6 * usize::from(tree.count), &mut writes).expect("plain");
-        let bare = written::without_parens(&tree);
-        read(&tokens, 20_480, &Ok(bare), &mut reads);
+        let tokens =
+            write(&tree, TOKENS_PER_NODE * usize::from(tree.count), &mut writes).expect("plain");
+        let bare = without_parens(&tree);
+        read(&tokens, MOST_CELLS, &Ok(bare), &mut reads);
     }
     writes.print("plain trees written");
     reads.print("their tokens read");
@@ -364,11 +337,13 @@ fn written_and_read() {
 /// A token list: written for a plain tree and edited, or any codes.
 fn list(dice: &mut Dice, index: u64) -> Vec<u16> {
     if dice.percent(20) {
-        return (0..dice.below(9)).map(|_| dice.below(47) as u16).collect();
+        return (0..dice.below(9))
+            .map(|_| dice.below(usize::from(codes::CODES) + 1) as u16)
+            .collect();
     }
     let tree = Family::Plain.tree(8, index);
     let mut tokens = match tree.count {
-        0..=12 => written::tokens(&tree),
+        0..=12 => Written::new(&tree, &pairs(&tree)).tokens,
         _ => vec![32, 31, 32, 13, 32, 17, 13, 32],
     };
     for _ in 0..dice.below(4) {
@@ -392,7 +367,7 @@ fn token_lists() {
         let dice = &mut Dice::new(9, index);
         let tokens = list(dice, index);
         let verdict = verdict::of(&mut chart, &tokens).expect("at most one reading");
-        let length = dice.pick(&[20_480, 20_480, 20_481, 20_479, 0]);
+        let length = dice.pick(&[MOST_CELLS, MOST_CELLS, MOST_CELLS + 1, MOST_CELLS - 1, 0]);
         read(&tokens, length, &verdict, &mut tally);
         let file = tezhukor::tree_file(&tokens).map_err(Refusal::number);
         assert_eq!(file.map(|file| Tree::load(&file).expect("a tree").cells().to_vec()), verdict);
@@ -404,26 +379,26 @@ fn token_lists() {
 #[test]
 fn longest_lists() {
     let mut tally = Tally::default();
-    for length in [2_047, 2_048, 2_049, 24_575, 24_576, 24_577] {
-        let long = |verdict| if length > 24_576 { Err(14) } else { verdict };
-        let name = vec![26, 0, 0, 0, 0];
+    for length in [2_047, 2_048, 2_049, MOST_TOKENS - 1, MOST_TOKENS, MOST_TOKENS + 1] {
+        let long = |verdict| if length > MOST_TOKENS { Err(14) } else { verdict };
+        let name = vec![forms::PATH, 0, 0, 0, 0];
         let even = length - (length + 1) % 2;
-        let mut grouped = vec![35; even / 2];
-        grouped.push(32);
-        grouped.extend(vec![36; even / 2]);
-        let grouped_verdict = if even > 24_576 { Err(14) } else { Ok(name) };
+        let mut grouped = vec![OPEN; even / 2];
+        grouped.push(NAME);
+        grouped.extend(vec![CLOSE; even / 2]);
+        let grouped_verdict = if even > MOST_TOKENS { Err(14) } else { Ok(name) };
         let repeated = |codes: &[u16]| codes.iter().copied().cycle().take(length).collect();
         let lists: [(Vec<u16>, Result<Vec<u16>, u16>); 7] = [
             (grouped, grouped_verdict),
-            (vec![35; length], long(Err(15))),
-            (repeated(&[1]), long(Err(15))),
-            ([vec![1; length - 1], vec![32]].concat(), long(Err(16))),
-            (repeated(&[32, 35]), long(Err(15))),
-            (repeated(&[32, 28]), long(Err(if length % 2 == 0 { 15 } else { 16 }))),
-            (vec![46; length], Err(14)),
+            (vec![OPEN; length], long(Err(15))),
+            (repeated(&[MINUS]), long(Err(15))),
+            ([vec![MINUS; length - 1], vec![NAME]].concat(), long(Err(16))),
+            (repeated(&[NAME, OPEN]), long(Err(15))),
+            (repeated(&[NAME, EQUALS]), long(Err(if length % 2 == 0 { 15 } else { 16 }))),
+            (vec![LAST_CODE + 1; length], Err(14)),
         ];
         for (list, verdict) in &lists {
-            for cells in [20_479, 20_480, 20_481] {
+            for cells in [MOST_CELLS - 1, MOST_CELLS, MOST_CELLS + 1] {
                 read(list, cells, verdict, &mut tally);
             }
         }

@@ -4,9 +4,10 @@
 use crate::clock::Clock;
 use crate::sets::{numbered, BARE, NAME, RANGE_TO};
 use crate::sides::{Prepared, Side};
-use oracle::forms::{operator::*, *};
-use oracle::generate::{call_of, planted, Dice, Draft, Stem, LONGEST_PATH, NESTS, NEXTS};
-use oracle::{accept, NodeTable};
+use model::forms::{operator::*, *};
+use model::generate::{call_of, planted, Dice, Draft, Stem, NESTS, NEXTS};
+use model::sizes::MOST_LEVELS;
+use model::{accept, NodeTable};
 
 const GROUP_OF: Stem = Stem::one(GROUP, 0, 0);
 const MINUS: Stem = Stem::one(UNARY, 0, 2);
@@ -105,7 +106,7 @@ pub fn search_slowest(folder: Option<&str>) {
         for first in LEVEL {
             for second in LEVEL {
                 for end in [NAME, BARE, Stem::leaf(RETURN, 0, 0)] {
-                    let turns = [first, second].into_iter().cycle().take(LONGEST_PATH - 3);
+                    let turns = [first, second].into_iter().cycle().take(MOST_LEVELS - 3);
                     let stems: Vec<Stem> = [above].into_iter().chain(turns).chain([end]).collect();
                     let tree = numbered(&planted(stems.iter().copied()));
                     if accept::refusal(&tree) != 0 {
@@ -180,7 +181,7 @@ fn climbed(seed: u64, mut stems: Vec<Stem>) -> (usize, Vec<Stem>) {
 
 fn write(folder: &str, name: &str, tree: &NodeTable) {
     let file = std::path::Path::new(folder).join(name);
-    std::fs::write(file, oracle::table::write(tree)).expect("a folder to write to");
+    std::fs::write(file, model::table::write(tree)).expect("a folder to write to");
 }
 
 /// A call with one nest for each argument, as often as there is room.

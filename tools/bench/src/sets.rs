@@ -1,11 +1,11 @@
 //! The trees that are timed.
 
-use oracle::forms::{operator::*, *};
-use oracle::generate::{
+use model::forms::{operator::*, *};
+use model::generate::{
     levels, planted, Dice, Draft, Family, Fill, Label, Order, Slot, Stem, LONGEST_NEST,
-    LONGEST_PATH,
 };
-use oracle::{accept, NodeTable};
+use model::sizes::{MOST_LEVELS, MOST_NODES};
+use model::{accept, NodeTable};
 
 /// A named set of trees.
 pub struct Set {
@@ -57,7 +57,6 @@ pub const SETS: [Set; 10] = [
 ];
 
 const SEED: u64 = 1;
-const LARGEST: u16 = 4_096;
 
 /// One that leans left, one that is loose, and one that takes no chains.
 const OPERATORS: [u16; 3] = [SUB, AND, EQ];
@@ -70,7 +69,9 @@ pub const RANGE_TO: Stem = Stem::new(RANGE, 0, 0, [Fill::Nothing, Fill::Hole]);
 fn largest(families: &[Family]) -> Vec<NodeTable> {
     let full = |family: &Family| {
         let family = *family;
-        (0..).map(move |index| family.tree(SEED, index)).filter(|tree| tree.count == LARGEST)
+        (0..)
+            .map(move |index| family.tree(SEED, index))
+            .filter(|tree| usize::from(tree.count) == MOST_NODES)
     };
     families.iter().flat_map(|family| full(family).take(12 / families.len())).collect()
 }
@@ -84,7 +85,7 @@ fn small(family: Family) -> Vec<NodeTable> {
 /// Stems by turns, each in the open place of the one before, and a name at the
 /// end of the longest path that is accepted.
 fn chain(stems: &[Stem]) -> NodeTable {
-    let above = stems.iter().copied().cycle().take(LONGEST_PATH - 1);
+    let above = stems.iter().copied().cycle().take(MOST_LEVELS - 1);
     numbered(&planted(above.chain([NAME])))
 }
 
@@ -103,7 +104,7 @@ fn call(form: u16, argument: &[Label]) -> NodeTable {
     let mut draft = Draft::new(Label::of(form));
     draft.put(Slot { owner: 0, place: 0 }, Label::of(PATH));
     let mut rest = Slot { owner: 0, place: 1 };
-    while draft.nodes.len() + 1 + argument.len() <= usize::from(LARGEST) {
+    while draft.nodes.len() + 1 + argument.len() <= MOST_NODES {
         let link = draft.put(rest, Label::of(LINK));
         let owner = draft.put(Slot { owner: link, place: 0 }, argument[0]);
         for (place, &leaf) in argument[1..].iter().enumerate() {

@@ -1,9 +1,12 @@
 //! What is timed.
 
+use model::forms::Class;
+use model::sizes::{ROW_CELLS, SCRATCH_CELLS};
+use model::{table, NodeTable};
 use oracle::direct::{context_of_root, Context};
-use oracle::forms::Class;
-use oracle::{table, BuiltTree, NodeTable, Row};
+use oracle::{BuiltTree, Row};
 use std::hint::black_box;
+use tezhukor::boundary;
 
 /// A tree with all that is made for it before the clock starts.
 pub struct Prepared {
@@ -36,7 +39,7 @@ impl Prepared {
         let nodes = usize::from(table.count);
         let built = BuiltTree::new(table.count, &table.cells);
         let context = context_of_root(table.context);
-        let (rows, scratch) = (vec![0; 5 * nodes], vec![0; 3 * nodes]);
+        let (rows, scratch) = (vec![0; ROW_CELLS * nodes], vec![0; SCRATCH_CELLS * nodes]);
         Prepared { table, rows, scratch, built, context }
     }
 
@@ -59,7 +62,7 @@ impl Prepared {
     pub fn ask(&mut self, side: Side) {
         match side {
             Side::Ours => {
-                black_box(self.decide(5));
+                black_box(self.decide(ROW_CELLS));
             }
             Side::OurChecks => {
                 black_box(self.decide(0));
@@ -75,19 +78,19 @@ impl Prepared {
     fn decide(&mut self, a_node: usize) -> u16 {
         let rows = &mut self.rows[..a_node * usize::from(self.table.count)];
         let NodeTable { context, count, cells } = &self.table;
-        ours::decide(*context, *count, cells, rows, &mut self.scratch)
+        boundary::decide(*context, *count, cells, rows, &mut self.scratch)
     }
 
     /// Stops unless both sides give the same rows.
     pub fn check(&mut self) {
         assert_eq!(self.decide(0), 12);
-        assert_eq!(self.decide(5), 0);
+        assert_eq!(self.decide(ROW_CELLS), 0);
         let theirs = self.built.printed(self.context).into_iter();
         let theirs: Vec<u16> = theirs.map(Option::unwrap_or_default).flat_map(cells).collect();
         assert!(self.rows == theirs, "other rows for {:?}", self.table);
     }
 }
 
-fn cells(row: Row) -> [u16; 5] {
+fn cells(row: Row) -> [u16; ROW_CELLS] {
     row.cells()
 }

@@ -1,8 +1,8 @@
 //! The contexts that fixup.rs makes, from every context and every argument.
 
-use ours::contexts;
+use model::forms::PATH;
 use oracle::direct::{context_of_root, rightmost_context, Context, Subject};
-use oracle::forms::PATH;
+use tezhukor::boundary::questions::{self, Maker};
 
 /// A function that makes contexts: how many of them, and how many differ.
 #[derive(Default)]
@@ -45,29 +45,27 @@ pub fn compare() -> u64 {
         "rightmost_subexpression_fixup",
     ];
     let mut counts: [Count; 7] = Default::default();
-    let mut add = |question: u16, from, ours, theirs| {
-        let at = usize::from(question);
+    let mut add = |maker: Maker, from, ours, theirs| {
+        let at = maker as usize;
         counts[at].add(NAMES[at], from, ours, theirs);
     };
-    for question in
-        [contexts::NONE, contexts::NEW_STMT, contexts::NEW_MATCH_ARM, contexts::NEW_CONDITION]
-    {
-        let ours = ours::context(question, [0; 3], [false; 2], 0);
-        add(question, [0; 3], ours, context_of_root(question));
+    for maker in [Maker::None, Maker::NewStmt, Maker::NewMatchArm, Maker::NewCondition] {
+        let ours = questions::context(maker, [0; 3], [false; 2], 0);
+        add(maker, [0; 3], ours, context_of_root(maker as u16));
     }
     // The contexts do not depend on the operand; this one is scanned quickly.
     let operand = Subject::new(&[PATH, 0, 0, 0, 0], 1, 1);
     for from in every_context() {
-        let ours = ours::context(contexts::WITH_DOT, from, [false; 2], 0);
-        add(contexts::WITH_DOT, from, ours, operand.leftmost_with_dot(from).1);
+        let ours = questions::context(Maker::LeftmostWithDot, from, [false; 2], 0);
+        add(Maker::LeftmostWithDot, from, ours, operand.leftmost_with_dot(from).1);
         for (booleans, precedence) in every_argument() {
             let [first, second] = booleans;
-            let ours = ours::context(contexts::WITH_OPERATOR, from, booleans, precedence);
+            let ours = questions::context(Maker::LeftmostWithOperator, from, booleans, precedence);
             let theirs = operand.leftmost_with_operator(from, first, second, precedence).1;
-            add(contexts::WITH_OPERATOR, from, ours, theirs);
-            let ours = ours::context(contexts::RIGHTMOST, from, booleans, precedence);
+            add(Maker::LeftmostWithOperator, from, ours, theirs);
+            let ours = questions::context(Maker::Rightmost, from, booleans, precedence);
             let theirs = rightmost_context(from, first, second, precedence);
-            add(contexts::RIGHTMOST, from, ours, theirs);
+            add(Maker::Rightmost, from, ours, theirs);
         }
     }
     let different = counts.iter().map(|count| count.different).sum();

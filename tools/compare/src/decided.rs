@@ -1,11 +1,11 @@
 //! The rows that tezhukor_decide writes, beside those that the crate gives while
 //! it prints.
 
-use oracle::{table, NodeTable, Row};
-
-/// Cells of one buffer, for each node of a tree.
-const ROW: usize = 5;
-const SCRATCH: usize = 3;
+use model::lent::pattern;
+use model::sizes::{ROW_CELLS, SCRATCH_CELLS};
+use model::{table, NodeTable};
+use oracle::Row;
+use tezhukor::boundary;
 
 /// What tezhukor_decide did to what it was lent.
 pub struct Decided {
@@ -19,8 +19,8 @@ impl Decided {
     /// have so many cells more than they need.
     pub fn new(context: u16, tree: &NodeTable, spare: usize) -> Self {
         let lent = |a_node| (0..a_node * usize::from(tree.count) + spare).map(pattern).collect();
-        let (mut rows, mut scratch): (Vec<u16>, Vec<u16>) = (lent(ROW), lent(SCRATCH));
-        let reply = ours::decide(context, tree.count, &tree.cells, &mut rows, &mut scratch);
+        let (mut rows, mut scratch): (Vec<u16>, Vec<u16>) = (lent(ROW_CELLS), lent(SCRATCH_CELLS));
+        let reply = boundary::decide(context, tree.count, &tree.cells, &mut rows, &mut scratch);
         Decided { reply, rows, scratch }
     }
 
@@ -33,21 +33,21 @@ impl Decided {
         if self.reply != 0 {
             differences.push(format!("reply {}, not 0", self.reply));
         }
-        let (rows, behind_rows) = self.rows.split_at(ROW * count);
-        for ((node, ours), theirs) in (1..).zip(rows.chunks_exact(ROW)).zip(theirs) {
+        let (rows, behind_rows) = self.rows.split_at(ROW_CELLS * count);
+        for ((node, ours), theirs) in (1..).zip(rows.chunks_exact(ROW_CELLS)).zip(theirs) {
             if ours != theirs.cells() {
                 let class = table::class(&tree.cells, node);
                 differences.push(format!("{ours:?}, not {theirs:?}, node {node}, {class:?}"));
             }
         }
-        let (scratch, behind_scratch) = self.scratch.split_at(SCRATCH * count);
+        let (scratch, behind_scratch) = self.scratch.split_at(SCRATCH_CELLS * count);
         if scratch.iter().any(|&cell| cell != 0) {
             differences.push(format!("scratch {scratch:?}, not zeros"));
         }
-        if !as_lent(behind_rows, ROW * count) {
+        if !as_lent(behind_rows, ROW_CELLS * count) {
             differences.push(format!("{behind_rows:?} behind the rows"));
         }
-        if !as_lent(behind_scratch, SCRATCH * count) {
+        if !as_lent(behind_scratch, SCRATCH_CELLS * count) {
             differences.push(format!("{behind_scratch:?} behind the scratch"));
         }
         differences
@@ -58,7 +58,8 @@ impl Decided {
 /// rows are decided in some contexts, each with the crate's rows.
 pub fn differences_of_file(tree: &NodeTable, theirs: &[(u16, Vec<Row>)]) -> Vec<String> {
     let mut cells = vec![0; tree.cells.len()];
-    match ours::load(&table::write(tree), &mut cells) {
+    let reply = boundary::load(&table::write(tree), &mut cells);
+    match boundary::done(reply).map(boundary::header) {
         Ok((context, count)) => {
             let loaded = NodeTable { context, count, cells };
             if loaded != *tree {
@@ -69,13 +70,8 @@ pub fn differences_of_file(tree: &NodeTable, theirs: &[(u16, Vec<Row>)]) -> Vec<
             };
             theirs.iter().flat_map(differences).collect()
         }
-        Err(refusal) => vec![format!("refused by {refusal}")],
+        Err(refusal) => vec![format!("refused by {}", refusal.number())],
     }
-}
-
-/// What a cell holds when it is lent; no row has such a number.
-fn pattern(at: usize) -> u16 {
-    0xA000 | (at & 0x0FFF) as u16
 }
 
 /// Whether the cells from a place on hold what they were lent with.

@@ -1,8 +1,8 @@
 //! Questions about an expression in a context.
 
-use ours::Place;
+use model::generate::Dice;
 use oracle::direct::{context_of_root, Context, Subject};
-use oracle::generate::Dice;
+use tezhukor::boundary::questions::{self, InContext, Place};
 
 /// What a question is put with. All but the context are for scan_right.
 #[derive(Copy, Clone, Debug)]
@@ -25,17 +25,17 @@ pub const QUESTIONS: [Question; 6] = [
     Question {
         name: "parenthesize",
         theirs: |subject, case| subject.parenthesize(case.context).into(),
-        ours: |place, case| ours::fixup_answer(ours::fixup::PARENTHESIZE, case.context, place),
+        ours: |place, case| questions::answer_in(InContext::Parenthesize, case.context, place),
     },
     Question {
         name: "FixupContext::precedence",
         theirs: |subject, case| subject.precedence(case.context),
-        ours: |place, case| ours::fixup_answer(ours::fixup::PRECEDENCE, case.context, place),
+        ours: |place, case| questions::answer_in(InContext::Precedence, case.context, place),
     },
     Question {
         name: "scan_left",
         theirs: |subject, case| subject.scan_left(case.context).into(),
-        ours: |place, case| ours::fixup_answer(ours::fixup::SCAN_LEFT, case.context, place),
+        ours: |place, case| questions::answer_in(InContext::ScanLeft, case.context, place),
     },
     Question {
         name: "scan_right",
@@ -45,22 +45,24 @@ pub const QUESTIONS: [Question; 6] = [
         },
         ours: |place, case| {
             let Case { context, precedence, fail_offset, bailout_offset } = *case;
-            ours::scan_right(context, precedence, fail_offset.into(), bailout_offset.into(), place)
+            questions::scan_right(
+                context,
+                precedence,
+                fail_offset.into(),
+                bailout_offset.into(),
+                place,
+            )
         },
     },
     Question {
         name: "leftmost_subexpression_precedence",
         theirs: |subject, case| subject.leftmost_precedence(case.context),
-        ours: |place, case| {
-            ours::fixup_answer(ours::fixup::LEFTMOST_PRECEDENCE, case.context, place)
-        },
+        ours: |place, case| questions::answer_in(InContext::LeftPrecedence, case.context, place),
     },
     Question {
         name: "rightmost_subexpression_precedence",
         theirs: |subject, case| subject.rightmost_precedence(case.context),
-        ours: |place, case| {
-            ours::fixup_answer(ours::fixup::RIGHTMOST_PRECEDENCE, case.context, place)
-        },
+        ours: |place, case| questions::answer_in(InContext::RightPrecedence, case.context, place),
     },
 ];
 

@@ -12,12 +12,13 @@ mod spines;
 
 use decided::Decided;
 use in_context::{any, Cases, QUESTIONS};
+use model::forms::Class;
+use model::generate::{Dice, Family, SmallTrees};
+use model::{accept, table, NodeTable};
 use oracle::direct::{context_of_root, each_expression, Context};
-use oracle::forms::Class;
-use oracle::generate::{Dice, Family, SmallTrees};
-use oracle::{accept, answers, table, NodeAnswers, NodeTable, Row};
-use ours::{Place, Question};
+use oracle::{answers, NodeAnswers, Row};
 use std::process::ExitCode;
+use tezhukor::boundary::questions::{self, Place, Question};
 
 /// What was asked about a set of trees, and how often the answers differed.
 #[derive(Default)]
@@ -81,7 +82,7 @@ impl Tally {
         for (node, answers) in (1..).zip(&theirs.nodes) {
             let place = Place { table: &tree.cells, count: tree.count, node };
             for (question, theirs) in theirs_of(answers) {
-                let ours = ours::answer(question, place);
+                let ours = questions::answer(question, place);
                 self.asked[question as usize] += 1;
                 if ours != theirs {
                     self.different += 1;

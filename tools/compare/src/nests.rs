@@ -3,9 +3,10 @@
 //! these beside the crate's own, where it comes to an end.
 
 use crate::spines::{compare_rows, described, Theirs, CONTEXTS};
+use model::generate::{Family, Spines, LONGEST_NEST, NESTS};
+use model::NodeTable;
 use oracle::direct::context_of_root;
-use oracle::generate::{Family, Spines, LONGEST_NEST, NESTS};
-use oracle::{keeping, NodeTable};
+use oracle::keeping;
 
 /// The crate's rows with the answers of scan_right kept.
 const KEPT: Theirs = |roots, count, cells| keeping(|| oracle::rows(roots, count, cells));

@@ -2,7 +2,8 @@
 //! and for each block of spines the digest of the crate's rows.
 
 use crate::spines::{compare, set};
-use oracle::generate::{Piece, Spines};
+use model::generate::{Piece, Spines};
+use model::sizes::NODE_CELLS;
 use std::path::PathBuf;
 
 /// The most nodes of a stem.
@@ -30,8 +31,8 @@ fn stems() -> Vec<u8> {
     let bytes = |piece: Piece| {
         let mut bytes = vec![piece.nodes() as u8];
         bytes.extend(piece.cells().iter().map(|&cell| cell as u8));
-        assert!(bytes.len() <= 1 + 5 * NODES, "a stem of many nodes");
-        bytes.resize(1 + 5 * NODES, 0);
+        assert!(bytes.len() <= 1 + NODE_CELLS * NODES, "a stem of many nodes");
+        bytes.resize(1 + NODE_CELLS * NODES, 0);
         bytes
     };
     nexts.chain(others).flat_map(bytes).collect()

@@ -7,15 +7,16 @@
 //! crate's is shown by `decided`: there tezhukor_decide puts the functions
 //! together, in the four contexts that a header can give.
 
+use model::forms::{Class, Side, ASSIGN, BINARY, CAST, RANGE};
+use model::{table, NodeTable};
 use oracle::direct::Context;
-use oracle::forms::{Class, ASSIGN, BINARY, CAST, RANGE};
-use oracle::{table, NodeTable, Row};
-use ours::{contexts, fixup, Handed, Place};
+use oracle::Row;
+use tezhukor::boundary::questions::{self, Handed, InContext, Maker, Place};
 
 /// The rows of an accepted tree, from node 1 on; zeros for types and links.
 pub fn rows(root: Context, tree: &NodeTable) -> Vec<Row> {
-    let none = ours::context(contexts::NONE, [0; 3], [false; 2], 0);
-    let at_root = Handed { context: root, side: ours::side::NEITHER, below: 0 };
+    let none = questions::context(Maker::None, [0; 3], [false; 2], 0);
+    let at_root = Handed { context: root, side: Side::Neither, below: 0 };
     let mut handed = vec![at_root; usize::from(tree.count)];
     // An owner has a smaller number than its operands, so it comes first.
     let row = |node| {
@@ -28,7 +29,7 @@ pub fn rows(root: Context, tree: &NodeTable) -> Vec<Row> {
         let own = if row.pair & 1 == 1 { none } else { from_owner.context };
         for (question, operand) in (0..).zip(table::node(&tree.cells, node).operands) {
             if operand != 0 {
-                handed[usize::from(operand) - 1] = ours::handed(question, own, place);
+                handed[usize::from(operand) - 1] = questions::handed(question, own, place);
             }
         }
         row
@@ -39,12 +40,13 @@ pub fn rows(root: Context, tree: &NodeTable) -> Vec<Row> {
 /// The row of an expression.
 fn row(handed: Handed, place: Place) -> Row {
     let Handed { context, side, below } = handed;
-    let precedence = match side {
-        ours::side::LEFT => ours::fixup_answer(fixup::LEFTMOST_PRECEDENCE, context, place),
-        ours::side::RIGHT => ours::fixup_answer(fixup::RIGHTMOST_PRECEDENCE, context, place),
-        _ => ours::fixup_answer(fixup::PRECEDENCE, context, place),
-    };
-    let parenthesize = ours::fixup_answer(fixup::PARENTHESIZE, context, place) == 1;
+    let answer = |question| questions::answer_in(question, context, place);
+    let precedence = answer(match side {
+        Side::Left => InContext::LeftPrecedence,
+        Side::Right => InContext::RightPrecedence,
+        Side::Neither => InContext::Precedence,
+    });
+    let parenthesize = answer(InContext::Parenthesize) == 1;
     let outer = precedence < below || parenthesize;
     let node = table::node(place.table, place.node);
     let inner = matches!(node.form, ASSIGN | BINARY | CAST | RANGE) && node.attributes != 0;

@@ -3,9 +3,10 @@
 
 use crate::decided::differences_of_file;
 use crate::digest::Digest;
+use model::generate::Spines;
+use model::NodeTable;
 use oracle::direct::{context_of_root, Context};
-use oracle::generate::Spines;
-use oracle::{NodeTable, Row};
+use oracle::Row;
 use std::thread;
 use std::time::Instant;
 

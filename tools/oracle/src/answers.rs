@@ -3,12 +3,12 @@
 use crate::classify;
 use crate::direct::Context;
 use crate::fixup::FixupContext;
-use crate::forms::{self, Side};
 use crate::precedence::Precedence;
 use crate::recorder::{Recorder, Row};
 use crate::stand_in::algorithm::Printer;
-use crate::table;
 use crate::tree::{self, Built};
+use model::forms::{self, Side};
+use model::table;
 use std::rc::Rc;
 use syn::{Expr, ExprCast, Type, TypeInfer};
 

@@ -3,9 +3,9 @@
 
 use crate::answers::{answers, Answers, NodeAnswers};
 use crate::direct::Subject;
-use crate::forms::Class;
-use crate::generate::{Dice, Family, SmallTrees};
-use crate::table::{self, NodeTable};
+use model::forms::Class;
+use model::generate::{Dice, Family, SmallTrees};
+use model::table::{self, NodeTable};
 
 /// How many trees are asked.
 #[derive(Copy, Clone, PartialEq, Eq, Debug)]

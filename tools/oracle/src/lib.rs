@@ -6,22 +6,17 @@
 //!   classify.rs and `Precedence::of` for each node, and the row of document 01
 //!   for each expression, recorded while the crate's `Printer::expr` prints.
 //! - [`direct`] asks single functions, the private ones of fixup.rs included.
-//! - [`generate`] makes accepted trees.
 //! - [`command`] ends a command that compares.
 //!
 //! `stand_in` and the path crates `syn` and `proc_macro2` stand in for what the
 //! four files lean on; `build.rs` takes the files and puts five recording lines
 //! into expr.rs.
 
-pub mod accept;
 mod answers;
 pub mod command;
 pub mod digest;
 pub mod direct;
-pub mod forms;
-pub mod generate;
 mod recorder;
-pub mod table;
 pub mod text;
 pub mod tree;
 
@@ -38,9 +33,7 @@ mod fixup;
 #[allow(dead_code, clippy::all)]
 mod precedence;
 
-pub use answers::{
-    answers, rows, Answers, BuiltTree, ExpressionAnswers, NodeAnswers, TypeAnswers,
-};
+pub use answers::{answers, rows, Answers, BuiltTree, ExpressionAnswers, NodeAnswers, TypeAnswers};
 pub use direct::{
     leftmost_precedence_of, parenthesize_of, precedence_of, rightmost_precedence_of, scan_left_of,
     scan_right_of,
@@ -48,4 +41,3 @@ pub use direct::{
 #[cfg(feature = "kept_scans")]
 pub use fixup::keeping;
 pub use recorder::Row;
-pub use table::NodeTable;

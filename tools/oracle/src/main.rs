@@ -1,8 +1,9 @@
 //! The oracle's command line.
 
+use model::generate::{Family, SmallTrees};
+use model::{accept, table, NodeTable};
 use oracle::digest::{digests, Extent};
-use oracle::generate::{Family, SmallTrees};
-use oracle::{accept, answers, table, text, Answers, NodeTable};
+use oracle::{answers, text, Answers};
 use std::io::{self, BufReader, BufWriter, Read, Write};
 use std::process::ExitCode;
 

@@ -5,6 +5,7 @@
 //! changes of a file are numbered from 0 in the order of rules and places. The
 //! build makes one of them (see build.rs); `mutants` makes one after the other.
 
+use model::precedence::NAMES;
 use std::path::{Path, PathBuf};
 
 /// The files that are compiled, without their ending.
@@ -67,8 +68,8 @@ pub fn mutants(file: &str, text: &str) -> Vec<Mutant> {
             }
         }
     }
-    for (at, precedence) in PRECEDENCES.iter().enumerate() {
-        let next = PRECEDENCES[if at == 15 { 14 } else { at + 1 }];
+    for (at, precedence) in NAMES.iter().enumerate() {
+        let next = NAMES[if at == 15 { 14 } else { at + 1 }];
         for start in places(&code, &format!("Precedence::{precedence}")) {
             let old = format!("Precedence::{precedence}");
             changes.push((start, old, format!("Precedence::{next}")));
@@ -88,25 +89,6 @@ pub fn mutants(file: &str, text: &str) -> Vec<Mutant> {
     };
     changes.into_iter().enumerate().map(mutant).collect()
 }
-
-const PRECEDENCES: [&str; 16] = [
-    "Jump",
-    "Assign",
-    "Range",
-    "Or",
-    "And",
-    "Let",
-    "Compare",
-    "BitOr",
-    "BitXor",
-    "BitAnd",
-    "Shift",
-    "Sum",
-    "Product",
-    "Cast",
-    "Prefix",
-    "Unambiguous",
-];
 
 /// What becomes what, and in which file; in all of them where none is named.
 const RULES: &[(&str, &str, &str)] = &[

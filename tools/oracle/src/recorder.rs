@@ -8,7 +8,7 @@
 //! Assign, Binary, Cast or Range is the inner pair.
 
 use crate::fixup::FixupContext;
-use crate::forms::Side;
+use model::forms::Side;
 use std::rc::Rc;
 use syn::Expr;
 

@@ -7,8 +7,8 @@
 //! Where document 01 speaks of the last segment, the last bound, the last token
 //! or of some outer attribute, another one of a different kind stands before it.
 
-use crate::forms::*;
-use crate::table::{node, Node};
+use model::forms::*;
+use model::table::{node, Node};
 use proc_macro2::{Delimiter, Group, TokenStream, TokenTree};
 use syn::token::{Any, Brace, Bracket, Paren};
 use syn::*;

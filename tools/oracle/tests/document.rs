@@ -1,7 +1,8 @@
 //! Document 01's listing and the cases that it marks for proof.
 
-use oracle::forms::{operator::*, *};
-use oracle::{answers, table, text};
+use model::forms::{operator::*, *};
+use model::table;
+use oracle::{answers, text};
 
 /// A Path without attributes.
 const NAME: [u16; 5] = [PATH, 0, 0, 0, 0];

@@ -1,10 +1,11 @@
 //! What holds of generated trees and of their answers.
 
+use model::forms::{self, *};
+use model::generate::{levels, Dice, Family, Order, SmallTrees, LONGEST_NEST};
+use model::table::{node, Node};
+use model::{accept, table, NodeTable};
 use oracle::direct::{context_of_root, precedence_of_operator, rightmost_context, Subject};
-use oracle::forms::{self, *};
-use oracle::generate::{levels, Dice, Family, Order, SmallTrees, LONGEST_NEST};
-use oracle::table::{node, Node};
-use oracle::{accept, answers, table, Answers, NodeAnswers, NodeTable};
+use oracle::{answers, Answers, NodeAnswers};
 
 fn answers_of(tree: &NodeTable) -> Answers {
     answers(tree.context, tree.count, &tree.cells)

@@ -1,6 +1,8 @@
 //! The trees that rustc prints with `-Zunpretty=ast-tree`.
 
-use oracle::forms::*;
+use model::forms::*;
+use model::sizes::NODE_CELLS;
+use model::table::FIRST;
 
 /// A value as it is printed: what stands before its bracket, and what is inside.
 #[derive(Debug)]
@@ -76,11 +78,11 @@ pub fn tables(text: &str) -> Vec<Result<Vec<u16>, String>> {
 /// A node at the end of the table, with its number.
 fn node(cells: &mut Vec<u16>, form: u16, detail: u16) -> usize {
     cells.extend([form, 0, detail, 0, 0]);
-    cells.len() / 5
+    cells.len() / NODE_CELLS
 }
 
 fn operand(cells: &mut [u16], node: usize, place: usize, operand: usize) {
-    cells[5 * (node - 1) + 3 + place] = operand as u16;
+    cells[NODE_CELLS * (node - 1) + FIRST + place] = operand as u16;
 }
 
 const BINARY_OPERATORS: [&str; 18] = [

@@ -1,13 +1,13 @@
 //! What the comparisons notice: each rule changed, one after the other.
 
-use crate::chart::Chart;
 use crate::lists;
 use crate::makers;
 use crate::ours::Ours;
-use crate::rules::{Change, Rules};
 use crate::trees::{self, Tally};
-use crate::verdict;
-use oracle::generate::Dice;
+use model::chart::Chart;
+use model::generate::Dice;
+use model::rules::{Change, Rules};
+use model::verdict;
 
 /// How many plain trees, and how many lists, tell that a rule is changed.
 fn noticed(change: Change) -> (u64, u64) {

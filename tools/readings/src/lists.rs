@@ -1,12 +1,14 @@
 //! Token lists: the verdict on each, and our reader's beside it.
 
-use crate::chart::Chart;
-use crate::codes::{text, CODES};
 use crate::makers;
-use crate::ours::{numbers, Ours};
-use crate::rules::Rules;
-use crate::verdict::{self, Verdict, MOST_NODES};
-use oracle::generate::Dice;
+use crate::ours::Ours;
+use model::chart::Chart;
+use model::codes::{text, CODES};
+use model::generate::Dice;
+use model::rules::Rules;
+use model::sizes::{MOST_CELLS, NODE_CELLS};
+use model::table::numbers;
+use model::verdict::{self, Verdict};
 use std::time::Instant;
 
 /// One code for each kind of behaviour: `-`, `*`, `&&`, `&`, `<<`, `==`, `<`, `>`,
@@ -58,7 +60,7 @@ impl Tally {
             Ok(table) => table.iter().for_each(|&cell| self.digested(cell)),
             Err(refusal) => self.digested(1_000 + refusal),
         }
-        let lent = 5 * MOST_NODES + self.lists as usize % 7;
+        let lent = MOST_CELLS + self.lists as usize % 7;
         if let Some(ours) = ours.read(tokens, lent) {
             if ours != verdict {
                 let reply = |verdict: &Verdict| verdict.as_ref().err().copied().unwrap_or(0);
@@ -214,7 +216,7 @@ fn short_tables(ours: &mut Ours) -> u64 {
         return 0;
     }
     let mut different = 0;
-    for lent in [0, 5, 5 * MOST_NODES - 1] {
+    for lent in [0, NODE_CELLS, MOST_CELLS - 1] {
         for list in [&[][..], &[32], &[32, 0, 32], &[0], &[46], &[36; 24_577]] {
             different += u64::from(ours.read(list, lent) != Some(Err(12)));
         }

@@ -2,18 +2,14 @@
 
 mod ast;
 mod changes;
-mod chart;
-mod codes;
 mod lists;
 mod long;
 mod makers;
 mod ours;
 mod plain;
 mod record;
-mod rules;
 mod rustc;
 mod trees;
-mod verdict;
 mod written;
 
 use ours::Ours;

@@ -1,13 +1,16 @@
 //! Makers of token lists: random ones, and ones whose verdict is known from how
 //! they are put together.
 
-use crate::codes::*;
 use crate::plain;
-use crate::verdict::{within_bounds, Verdict, LONGEST_PATH, MOST_NODES};
-use crate::written::{without_parens, written};
-use oracle::forms;
-use oracle::generate::{Dice, Family};
-use oracle::table::NodeTable;
+use crate::written::written;
+use model::codes::*;
+use model::forms;
+use model::generate::{Dice, Family};
+use model::sizes::{MOST_LEVELS, MOST_NODES, MOST_TOKENS, NODE_CELLS};
+use model::table::NodeTable;
+use model::table::{ATTRIBUTES, DETAIL, FIRST, FORM, SECOND};
+use model::verdict::{within_bounds, Verdict};
+use model::written::without_parens;
 
 /// A list with up to about so many tokens.
 pub fn random(dice: &mut Dice, seed: u64, most_tokens: usize) -> Vec<u16> {
@@ -48,7 +51,8 @@ fn edit(dice: &mut Dice, tokens: &mut Vec<u16>) {
     }
     let at = dice.below(length);
     let code = match dice.below(3) {
-        0 => dice.pick(&[LT, SHL, GT, OPEN, CLOSE, COMMA, NAME, DOT, AS, SUB, EQUALS]),
+        0 => dice
+            .pick(&[LESS, SHIFT_LEFT, GREATER, OPEN, CLOSE, COMMA, NAME, DOT, AS, MINUS, EQUALS]),
         _ => dice.below(CODES.into()) as u16,
     };
     match dice.below(8) {
@@ -101,7 +105,7 @@ fn walked(dice: &mut Dice, most_tokens: usize) -> Vec<u16> {
         }
         if operand {
             match dice.below(10) {
-                0 => tokens.push(dice.pick(&[SUB, MUL, NOT, BIT_AND, AND_MUT])),
+                0 => tokens.push(dice.pick(&[MINUS, STAR, NOT, AND, AND_MUT])),
                 1 => {
                     tokens.push(OPEN);
                     open.push(CLOSE);
@@ -126,7 +130,7 @@ fn walked(dice: &mut Dice, most_tokens: usize) -> Vec<u16> {
                 tokens.push(AS);
                 some_type(dice, &mut tokens, 3);
             }
-            5 => tokens.extend([DOT, dice.pick(&[NAME, NAME, NUMBERED, crate::codes::AWAIT])]),
+            5 => tokens.extend([DOT, dice.pick(&[NAME, NAME, MEMBER, model::codes::AWAIT])]),
             6 => tokens.push(QUESTION),
             7 => {
                 tokens.extend([OPEN, CLOSE]);
@@ -154,18 +158,18 @@ fn walked(dice: &mut Dice, most_tokens: usize) -> Vec<u16> {
 fn some_type(dice: &mut Dice, tokens: &mut Vec<u16>, depth: usize) {
     match dice.below(8) {
         0 if depth > 0 => {
-            tokens.push(dice.pick(&[BIT_AND, AND_MUT, POINTER_CONST, POINTER_MUT]));
+            tokens.push(dice.pick(&[AND, AND_MUT, STAR_CONST, STAR_MUT]));
             some_type(dice, tokens, depth - 1);
         }
         1 | 2 if depth > 0 => {
-            tokens.extend([NAME, LT]);
+            tokens.extend([NAME, LESS]);
             for item in 0..dice.below(3) {
                 if item > 0 {
                     tokens.push(COMMA);
                 }
                 some_type(dice, tokens, depth - 1);
             }
-            tokens.push(GT);
+            tokens.push(GREATER);
         }
         3 => tokens.push(dice.pick(&[UNDERSCORE, NOT])),
         _ => tokens.push(NAME),
@@ -179,28 +183,30 @@ pub fn table(dice: &mut Dice, seed: u64) -> NodeTable {
     }
     let mut tree = drawn(dice, seed, 60);
     for _ in 0..dice.below(3) {
-        let node = 5 * dice.below(tree.count.into());
+        let node = NODE_CELLS * dice.below(tree.count.into());
         match dice.below(12) {
             0 => tree.context = dice.below(5) as u16,
-            1 => tree.count = dice.pick(&[0, tree.count - 1, tree.count + 1, 4_097]),
-            2 => tree.cells[node] = dice.below(58) as u16,
-            3 => tree.cells[node + 1] = dice.below(4) as u16,
-            4..=7 => tree.cells[node + 2] = dice.below(30) as u16,
-            8 => tree.cells[node + 3] = dice.below(usize::from(tree.count) + 2) as u16,
-            9 => tree.cells[node + 4] = dice.below(usize::from(tree.count) + 2) as u16,
+            1 => {
+                tree.count = dice.pick(&[0, tree.count - 1, tree.count + 1, MOST_NODES as u16 + 1])
+            }
+            2 => tree.cells[node + FORM] = dice.below(58) as u16,
+            3 => tree.cells[node + ATTRIBUTES] = dice.below(4) as u16,
+            4..=7 => tree.cells[node + DETAIL] = dice.below(30) as u16,
+            8 => tree.cells[node + FIRST] = dice.below(usize::from(tree.count) + 2) as u16,
+            9 => tree.cells[node + SECOND] = dice.below(usize::from(tree.count) + 2) as u16,
             // A leaf or an operand's owner becomes another of its kind.
             _ => {
-                let leaf = tree.cells[node + 3..node + 5] == [0, 0];
+                let leaf = tree.cells[node + FIRST..=node + SECOND] == [0, 0];
                 let others: &[u16] = if leaf {
                     &[forms::PATH, forms::LIT, forms::BLOCK, forms::TYPE_TUPLE, forms::TYPE_INFER]
                 } else {
                     &[forms::GROUP, forms::RANGE, forms::LET, forms::RETURN, forms::PAREN]
                 };
-                tree.cells[node] = dice.pick(others);
-                tree.cells[node + 2] = 0;
+                tree.cells[node + FORM] = dice.pick(others);
+                tree.cells[node + DETAIL] = 0;
             }
         }
-        if tree.cells.len() < 5 * usize::from(tree.count) || tree.count == 0 {
+        if tree.cells.len() < NODE_CELLS * usize::from(tree.count) || tree.count == 0 {
             break;
         }
     }
@@ -225,11 +231,11 @@ const LINK_TO_PATH: [u16; 10] = [forms::LINK, 0, 0, 2, 0, forms::PATH, 0, 0, 0, 
 
 /// Nests of expressions, all written without parentheses.
 const NESTS: [Nest; 14] = [
-    Nest { before: &[SUB], behind: &[], node: (forms::UNARY, 2), other: None },
+    Nest { before: &[MINUS], behind: &[], node: (forms::UNARY, 2), other: None },
     Nest { before: &[AND_MUT], behind: &[], node: (forms::REFERENCE, 1), other: None },
     Nest { before: &[], behind: &[QUESTION], node: (forms::TRY, 0), other: None },
     Nest { before: &[], behind: &[DOT, NAME], node: (forms::FIELD, 0), other: None },
-    Nest { before: &[], behind: &[DOT, crate::codes::AWAIT], node: (forms::AWAIT, 0), other: None },
+    Nest { before: &[], behind: &[DOT, model::codes::AWAIT], node: (forms::AWAIT, 0), other: None },
     Nest { before: &[], behind: &[OPEN, CLOSE], node: (forms::CALL, 0), other: None },
     Nest {
         before: &[],
@@ -251,8 +257,8 @@ const NESTS: [Nest; 14] = [
     },
     Nest {
         before: &[],
-        behind: &[SUB, NAME],
-        node: (forms::BINARY, SUB),
+        behind: &[MINUS, NAME],
+        node: (forms::BINARY, MINUS),
         other: Some((1, &PATH_CELLS)),
     },
     Nest {
@@ -274,9 +280,9 @@ const NESTS: [Nest; 14] = [
         other: Some((1, &TYPE_CELLS)),
     },
     Nest {
-        before: &[NAME, SUB, OPEN],
+        before: &[NAME, MINUS, OPEN],
         behind: &[CLOSE],
-        node: (forms::BINARY, SUB),
+        node: (forms::BINARY, MINUS),
         other: Some((0, &PATH_CELLS)),
     },
 ];
@@ -286,8 +292,8 @@ fn shifted(cells: &[u16], by: usize) -> impl Iterator<Item = u16> + '_ {
     let operand = move |cell: u16| if cell == 0 { 0 } else { cell + by as u16 };
     cells
         .iter()
-        .zip((0..5).cycle())
-        .map(move |(&cell, at)| if at < 3 { cell } else { operand(cell) })
+        .zip((0..NODE_CELLS).cycle())
+        .map(move |(&cell, at)| if at < FIRST { cell } else { operand(cell) })
 }
 
 /// A node above the tree of a table, which stands in one of its places beside
@@ -297,14 +303,14 @@ fn above(cells: &[u16], (form, detail): (u16, u16), other: Option<(usize, &[u16]
     match other {
         None => table.extend(shifted(cells, 1)),
         Some((1, other)) => {
-            let nodes = 1 + cells.len() / 5;
-            table[4] = nodes as u16 + 1;
+            let nodes = 1 + cells.len() / NODE_CELLS;
+            table[SECOND] = nodes as u16 + 1;
             table.extend(shifted(cells, 1));
             table.extend(shifted(other, nodes));
         }
         Some((_, other)) => {
-            let nodes = 1 + other.len() / 5;
-            table[4] = nodes as u16 + 1;
+            let nodes = 1 + other.len() / NODE_CELLS;
+            table[SECOND] = nodes as u16 + 1;
             table.extend(shifted(other, 1));
             table.extend(shifted(cells, nodes));
         }
@@ -331,14 +337,14 @@ fn type_nest(path: usize, arguments: bool) -> Constructed {
     let mut table = TYPE_CELLS.to_vec();
     for _ in 2..path {
         if arguments {
-            tokens.splice(0..0, [NAME, LT]);
-            tokens.push(GT);
+            tokens.splice(0..0, [NAME, LESS]);
+            tokens.push(GREATER);
             let link = above(&table, (forms::LINK, 0), None);
             let mut node = above(&link, (forms::TYPE_PATH, 2), None);
-            node[3..5].copy_from_slice(&[0, 2]);
+            node[FIRST..=SECOND].copy_from_slice(&[0, 2]);
             table = node;
         } else {
-            tokens.insert(0, POINTER_MUT);
+            tokens.insert(0, STAR_MUT);
             table = above(&table, (forms::TYPE_PTR, 1), None);
         }
     }
@@ -349,7 +355,7 @@ fn type_nest(path: usize, arguments: bool) -> Constructed {
 /// The links of so many items.
 fn links(items: usize, item: &[u16]) -> Vec<u16> {
     let mut table = Vec::new();
-    let nodes = 1 + item.len() / 5;
+    let nodes = 1 + item.len() / NODE_CELLS;
     for at in 0..items {
         let by = nodes * at;
         let next = if at + 1 < items { by + nodes + 1 } else { 0 };
@@ -366,7 +372,7 @@ pub fn called(tree: &NodeTable, nodes: usize) -> Option<Constructed> {
     tokens.extend(written(tree).tokens);
     tokens.push(CLOSE);
     let mut table = without_parens(tree);
-    let has = |table: &[u16]| table.len() / 5;
+    let has = |table: &[u16]| table.len() / NODE_CELLS;
     if (nodes.checked_sub(has(&table) + 1)?) % 2 == 1 {
         tokens.push(QUESTION);
         table = above(&table, (forms::TRY, 0), None);
@@ -392,48 +398,50 @@ pub fn type_arguments(nodes: usize) -> Constructed {
     let mut tokens = vec![NAME, AS];
     let mut room = nodes - 3;
     if room % 2 == 1 {
-        tokens.push(BIT_AND);
+        tokens.push(AND);
         room -= 1;
     }
-    tokens.extend([NAME, LT]);
+    tokens.extend([NAME, LESS]);
     for argument in 0..room / 2 {
         if argument > 0 {
             tokens.push(COMMA);
         }
         tokens.push(UNDERSCORE);
     }
-    tokens.push(GT);
+    tokens.push(GREATER);
     let mut ty =
         above(&links(room / 2, &[forms::TYPE_INFER, 0, 0, 0, 0]), (forms::TYPE_PATH, 2), None);
-    ty[3..5].copy_from_slice(&[0, 2]);
-    if tokens[2] == BIT_AND {
+    ty[FIRST..=SECOND].copy_from_slice(&[0, 2]);
+    if tokens[2] == AND {
         ty = above(&ty, (forms::TYPE_REFERENCE, 0), None);
     }
     let table = above(&ty, (forms::CAST, 0), Some((0, &PATH_CELLS)));
-    assert_eq!(table.len() / 5, nodes);
+    assert_eq!(table.len() / NODE_CELLS, nodes);
     (tokens, within_bounds(table))
 }
+
+/// The most pairs round a name, with one token to spare.
+pub const MOST_PAIRS: usize = (MOST_TOKENS - 1) / 2;
 
 /// A name, or one with a prefix, in so many parentheses.
 pub fn grouped(pairs: usize, inner: &[u16]) -> Constructed {
     const NEGATED: [u16; 10] = [forms::UNARY, 0, 2, 2, 0, forms::PATH, 0, 0, 0, 0];
     let table = match inner {
         [NAME] => &PATH_CELLS[..],
-        [SUB, NAME] => &NEGATED[..],
+        [MINUS, NAME] => &NEGATED[..],
         _ => panic!("neither {inner:?}"),
     };
     let mut tokens = vec![OPEN; pairs];
     tokens.extend(inner);
     tokens.extend(vec![CLOSE; pairs]);
-    let verdict = if tokens.len() > MOST { Err(14) } else { within_bounds(table.to_vec()) };
+    let verdict = if tokens.len() > MOST_TOKENS { Err(14) } else { within_bounds(table.to_vec()) };
     (tokens, verdict)
 }
 
 /// Lists at the bounds of 14 and 16, and just below and above them.
 pub fn constructed(seed: u64) -> Vec<Constructed> {
     let mut lists = Vec::new();
-    for path in [2, LONGEST_PATH - 1, LONGEST_PATH, LONGEST_PATH + 1, LONGEST_PATH + 2, 600, 3_000]
-    {
+    for path in [2, MOST_LEVELS - 1, MOST_LEVELS, MOST_LEVELS + 1, MOST_LEVELS + 2, 600, 3_000] {
         lists.extend(NESTS.iter().map(|nest| nest.of(path)));
         lists.push(type_nest(path, false));
         lists.push(type_nest(path, true));
@@ -447,26 +455,26 @@ pub fn constructed(seed: u64) -> Vec<Constructed> {
         }
     }
     lists.push(type_arguments(10_001));
-    for pairs in [1, 127, 128, 129, 4_096, 12_286, 12_287, 12_288] {
+    for pairs in [1, 127, 128, 129, 4_096, MOST_PAIRS - 1, MOST_PAIRS, MOST_PAIRS + 1] {
         lists.push(grouped(pairs, &[NAME]));
-        lists.push(grouped(pairs, &[SUB, NAME]));
+        lists.push(grouped(pairs, &[MINUS, NAME]));
     }
-    for pairs in [1, 128, 4_096, 12_287] {
+    for pairs in [1, 128, 4_096, MOST_PAIRS] {
         let mut short = grouped(pairs, &[NAME]).0;
         short.pop();
         lists.push((short, Err(15)));
     }
     // What has no reading however long it is.
-    for length in [MOST - 1, MOST, MOST + 1] {
-        let verdict = if length > MOST { Err(14) } else { Err(15) };
-        for code in [NAME, SUB, OPEN, COMMA, GT] {
+    for length in [MOST_TOKENS - 1, MOST_TOKENS, MOST_TOKENS + 1] {
+        let verdict = if length > MOST_TOKENS { Err(14) } else { Err(15) };
+        for code in [NAME, MINUS, OPEN, COMMA, GREATER] {
             lists.push((vec![code; length], verdict.clone()));
         }
     }
-    for code in [CODES, 47, 127, 128, 255, 256, 16_384, 65_535] {
+    for code in [CODES, CODES + 1, 127, 128, 255, 256, 16_384, 65_535] {
         lists.push((vec![code], Err(14)));
-        lists.push((vec![NAME, SUB, code], Err(14)));
-        lists.push((vec![code, SUB, NAME], Err(14)));
+        lists.push((vec![NAME, MINUS, code], Err(14)));
+        lists.push((vec![code, MINUS, NAME], Err(14)));
         lists.push((vec![CLOSE, code], Err(14)));
     }
     lists.push((Vec::new(), Err(15)));

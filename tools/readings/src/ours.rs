@@ -7,8 +7,9 @@
 //! As functions they come from the static library of `answers`, with the feature
 //! `library`.
 
-use crate::verdict::Verdict;
-use oracle::table::{self, NodeTable};
+use model::sizes::NODE_CELLS;
+use model::table::{self, NodeTable};
+use model::verdict::Verdict;
 use std::io::{ErrorKind, Read, Write};
 use std::path::PathBuf;
 use std::process::{Command, Stdio};
@@ -22,7 +23,7 @@ pub enum Ours {
     Absent,
     Programs,
     #[cfg(feature = "library")]
-    Library(Box<library::Lent>),
+    Library(Box<library::Library>),
 }
 
 impl Ours {
@@ -31,7 +32,7 @@ impl Ours {
             "absent" => Some(Ours::Absent),
             "programs" => Some(Ours::Programs),
             #[cfg(feature = "library")]
-            "library" => Some(Ours::Library(Box::new(library::Lent::new()))),
+            "library" => Some(Ours::Library(Box::new(library::Library::new()))),
             _ => None,
         }
     }
@@ -42,7 +43,7 @@ impl Ours {
     }
 
     /// By how many tokens the lists are shorter of which each one is tried: a call of the
-    /// library clears a table for 24,576 tokens, which takes longer than a short list.
+    /// library clears a table for the longest list, which takes longer than a short list.
     pub fn shorter(&self) -> usize {
         match self {
             Ours::Absent => 0,
@@ -73,7 +74,7 @@ impl Ours {
     pub fn read(&mut self, tokens: &[u16], lent: usize) -> Option<Verdict> {
         match self {
             Ours::Absent => None,
-            Ours::Programs => Some(printed_table(&run("reading", &numbers(tokens)))),
+            Ours::Programs => Some(printed_table(&run("reading", &table::numbers(tokens)))),
             #[cfg(feature = "library")]
             Ours::Library(library) => Some(library.read(tokens, lent)),
         }
@@ -88,20 +89,6 @@ impl Ours {
     pub fn read_file(&mut self, file: &[u8]) -> Option<Verdict> {
         matches!(self, Ours::Programs).then(|| printed_table(&run("reading", file)))
     }
-}
-
-/// Numbers as a tree file holds them.
-pub fn numbers(numbers: &[u16]) -> Vec<u8> {
-    let mut bytes = Vec::with_capacity(numbers.len());
-    for &number in numbers {
-        let mut rest = number;
-        while rest > 0x7F {
-            bytes.push(rest as u8 | 0x80);
-            rest >>= 7;
-        }
-        bytes.push(rest as u8);
-    }
-    bytes
 }
 
 /// What a program prints for a file on its standard input.
@@ -148,7 +135,10 @@ fn printed_tokens(printed: &str) -> Result<Vec<u16>, u16> {
 
 fn printed_table(printed: &str) -> Verdict {
     let (count, lines) = answer(printed)?;
-    let numbered = lines.iter().zip(1..).all(|(line, number)| line.len() == 6 && line[0] == number);
+    let numbered = lines
+        .iter()
+        .zip(1..)
+        .all(|(line, number)| line.len() == 1 + NODE_CELLS && line[0] == number);
     if lines.len() != count || !numbered {
         return Err(SPOILT);
     }
@@ -158,98 +148,39 @@ fn printed_table(printed: &str) -> Verdict {
 #[cfg(feature = "library")]
 mod library {
     use super::SPOILT;
-    use crate::verdict::{Verdict, MOST_NODES};
-    use oracle::NodeTable;
-    use ours as _;
+    use model::lent::Lent;
+    use model::sizes::{MOST_NODES, NODE_CELLS, TOKENS_PER_NODE, TOKEN_CELLS};
+    use model::verdict::Verdict;
+    use model::NodeTable;
+    use tezhukor::boundary;
 
-    // An answer is the refusal times 65,536, or the count of what was written.
-    extern "C" {
-        fn tezhukor_write(
-            context: u16,
-            count: u16,
-            table: *const u16,
-            length: usize,
-            tokens: *mut u16,
-            tokens_length: usize,
-        ) -> u32;
+    /// A buffer that is lent again and again.
+    pub struct Library(Lent);
 
-        fn tezhukor_read(
-            tokens: *const u16,
-            length: usize,
-            table: *mut u16,
-            table_length: usize,
-        ) -> u32;
-    }
-
-    /// Cells that are looked at behind those of an answer.
-    const SPARE: usize = 64;
-
-    /// A buffer that is lent again and again, with a pattern in every cell.
-    pub struct Lent {
-        cells: Vec<u16>,
-        asked: u64,
-    }
-
-    /// What a cell holds when it is lent; no table and no token list has such a
-    /// number.
-    fn pattern(at: usize) -> u16 {
-        0xA000 | (at & 0x0FFF) as u16
-    }
-
-    impl Lent {
+    impl Library {
         pub fn new() -> Self {
-            let cells = (0..6 * (MOST_NODES + 1) + SPARE).map(pattern).collect();
-            Lent { cells, asked: 0 }
+            Library(Lent::new(TOKENS_PER_NODE * (MOST_NODES + 1)))
         }
 
         pub fn write(&mut self, tree: &NodeTable, lent: usize) -> Result<Vec<u16>, u16> {
-            let tokens = &mut self.cells[..lent];
-            // SAFETY: pointers and lengths are those of slices that don't overlap;
-            // the function demands nothing else of its arguments.
-            let answer = unsafe {
-                tezhukor_write(
-                    tree.context,
-                    tree.count,
-                    tree.cells.as_ptr(),
-                    tree.cells.len(),
-                    tokens.as_mut_ptr(),
-                    lent,
-                )
-            };
-            self.taken(answer, 1)
+            let NodeTable { context, count, cells } = tree;
+            let reply = boundary::write(*context, *count, cells, self.0.lend(lent));
+            self.taken(reply, TOKEN_CELLS)
         }
 
         pub fn read(&mut self, tokens: &[u16], lent: usize) -> Verdict {
-            let table = &mut self.cells[..lent];
-            // SAFETY: as above.
-            let answer =
-                unsafe { tezhukor_read(tokens.as_ptr(), tokens.len(), table.as_mut_ptr(), lent) };
-            self.taken(answer, 5)
+            let reply = boundary::read_here(tokens, self.0.lend(lent));
+            self.taken(reply, NODE_CELLS)
         }
 
-        /// Takes the answer out of the buffer. The cells near it are looked at each
-        /// time, all cells at every 4,096th.
-        fn taken(&mut self, answer: u32, each: usize) -> Result<Vec<u16>, u16> {
-            let (refusal, count) = ((answer >> 16) as u16, (answer & 0xFFFF) as usize);
-            let written = if refusal == 0 { each * count } else { 0 };
-            if written > self.cells.len() {
+        /// Takes the answer out of the buffer, with so many cells a count.
+        fn taken(&mut self, reply: u32, each: usize) -> Result<Vec<u16>, u16> {
+            let done = boundary::done(reply);
+            let Some(answer) = self.0.take(each * usize::from(done.unwrap_or(0))) else {
+                *self = Library::new();
                 return Err(SPOILT);
-            }
-            let taken = self.cells[..written].to_vec();
-            self.cells[..written].iter_mut().zip(0..).for_each(|(cell, at)| *cell = pattern(at));
-            self.asked += 1;
-            let near = (written + SPARE).min(self.cells.len());
-            let looked = if self.asked % 4_096 == 0 { self.cells.len() } else { near };
-            let kept = |at: usize| self.cells[at] == pattern(at);
-            if !(written..looked).all(kept) {
-                *self = Lent::new();
-                return Err(SPOILT);
-            }
-            if refusal == 0 {
-                Ok(taken)
-            } else {
-                Err(refusal)
-            }
+            };
+            done.map(|_| answer).map_err(|refusal| refusal.number())
         }
     }
 }

@@ -1,9 +1,10 @@
 //! Plain trees: all with a certain number of nodes over a set of labels, by
 //! number, and random ones.
 
-use oracle::forms::{self, *};
-use oracle::generate::{Dice, Family};
-use oracle::table::NodeTable;
+use model::forms::{self, *};
+use model::generate::{Dice, Family};
+use model::sizes::NODE_CELLS;
+use model::table::{NodeTable, FIRST};
 
 /// What stands in a place of a plain tree.
 #[derive(Copy, Clone, PartialEq, Eq, Debug)]
@@ -114,7 +115,7 @@ impl PlainTrees {
     /// The tree with so many nodes and a number from 0 on, its nodes numbered as
     /// written.
     pub fn tree(&self, nodes: usize, index: u128) -> NodeTable {
-        let mut cells = Vec::with_capacity(5 * nodes);
+        let mut cells = Vec::with_capacity(NODE_CELLS * nodes);
         self.plant(Expression, nodes, index, &mut cells);
         NodeTable { context: 0, count: nodes as u16, cells }
     }
@@ -141,7 +142,7 @@ impl PlainTrees {
         cells.extend([stem.form, 0, stem.detail, 0, 0]);
         let rest = nodes - 1;
         let mut put = |place: usize, part, nodes, index| {
-            cells[at + 3 + place] = (cells.len() / 5 + 1) as u16;
+            cells[at + FIRST + place] = (cells.len() / NODE_CELLS + 1) as u16;
             self.plant(part, nodes, index, cells);
         };
         match stem.operands {

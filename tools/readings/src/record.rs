@@ -15,17 +15,19 @@
 //! bytes of a tree file, and when not refused so many tokens as the count says, each
 //! a cell of u16.
 
-use crate::chart::Chart;
-use crate::codes::{CODES, MOST, NAME, SUB};
 use crate::lists;
 use crate::makers;
 use crate::plain::PlainTrees;
-use crate::rules::Rules;
 use crate::trees;
-use crate::verdict::{self, Verdict, MOST_NODES};
 use crate::written;
-use oracle::generate::{Dice, Family};
-use oracle::table::{self, NodeTable};
+use model::chart::Chart;
+use model::codes::{CODES, MINUS, NAME};
+use model::forms::operator::ADD;
+use model::generate::{Dice, Family};
+use model::rules::Rules;
+use model::sizes::{MOST_CELLS, MOST_NODES, MOST_TOKENS, NODE_CELLS, TOKENS_PER_NODE, TOKEN_CELLS};
+use model::table::{self, NodeTable};
+use model::verdict::{self, Verdict};
 use std::path::PathBuf;
 
 const SEED: u64 = 21;
@@ -73,8 +75,8 @@ impl Records {
 /// Records a list with a table of so many cells lent.
 fn add_list(records: &mut Records, lent: u16, tokens: &[u16], verdict: &Verdict) {
     let bytes: Vec<u8> = tokens.iter().flat_map(|code| code.to_le_bytes()).collect();
-    let short = usize::from(lent) < 5 * MOST_NODES;
-    records.add(lent, &bytes, if short { &Err(12) } else { verdict }, 5);
+    let short = usize::from(lent) < MOST_CELLS;
+    records.add(lent, &bytes, if short { &Err(12) } else { verdict }, NODE_CELLS);
 }
 
 /// Records a tree file with so many cells lent for tokens. Left out are tables that
@@ -84,7 +86,7 @@ fn add_tree(records: &mut Records, lent: u16, tree: &NodeTable) {
         return;
     }
     let reply = written::reply(tree, lent.into());
-    records.add(lent, &table::write(tree), &reply, 1);
+    records.add(lent, &table::write(tree), &reply, TOKEN_CELLS);
 }
 
 pub fn record() {
@@ -131,14 +133,16 @@ fn readings() -> Records {
         let (tokens, verdict) = makers::type_arguments(nodes);
         add_list(&mut records, LENT, &tokens, &verdict);
     }
-    // 24,576 tokens and one more.
-    for (pairs, inner) in [(12_287, &[SUB, NAME][..]), (12_288, &[NAME])] {
+    // As many tokens as there may be, and one more.
+    for (pairs, inner) in
+        [(makers::MOST_PAIRS, &[MINUS, NAME][..]), (makers::MOST_PAIRS + 1, &[NAME])]
+    {
         let (tokens, verdict) = makers::grouped(pairs, inner);
-        assert_eq!(tokens.len() > MOST, verdict == Err(14));
+        assert_eq!(tokens.len() > MOST_TOKENS, verdict == Err(14));
         add_list(&mut records, LENT, &tokens, &verdict);
     }
-    for lent in [0, 5, 20_479, 20_480] {
-        for list in [&[][..], &[32], &[32, 0, 32], &[0], &[46]] {
+    for lent in [0, NODE_CELLS, MOST_CELLS - 1, MOST_CELLS].map(|cells| cells as u16) {
+        for list in [&[][..], &[NAME], &[NAME, ADD, NAME], &[ADD], &[CODES]] {
             let verdict = verdict::of(&mut chart, list).expect("at most one reading");
             add_list(&mut records, lent, list, &verdict);
         }
@@ -169,18 +173,18 @@ fn tokens() -> Records {
     }
     for index in 0..60 {
         let tree = makers::drawn(&mut Dice::new(SEED + 1, index), SEED + 1, 60);
-        add_tree(&mut records, 6 * tree.count, &tree);
-        add_tree(&mut records, 6 * tree.count - 1, &tree);
+        add_tree(&mut records, TOKENS_PER_NODE as u16 * tree.count, &tree);
+        add_tree(&mut records, TOKENS_PER_NODE as u16 * tree.count - 1, &tree);
     }
     // The shorter buffer is met before the tree that is not plain.
     for index in 0..20 {
         let tree = Family::Scans.tree(SEED, index);
         if tree.count < 100 {
-            add_tree(&mut records, 6 * tree.count - 1, &tree);
+            add_tree(&mut records, TOKENS_PER_NODE as u16 * tree.count - 1, &tree);
         }
     }
     let most = (0..).map(|index| Family::Plain.tree(SEED, index));
-    for tree in most.filter(|tree| tree.count == 4_096).take(2) {
+    for tree in most.filter(|tree| usize::from(tree.count) == MOST_NODES).take(2) {
         add_tree(&mut records, LENT, &tree);
     }
     records

@@ -2,15 +2,16 @@
 //! an added pair is left out.
 
 use crate::ast;
-use crate::chart::Chart;
-use crate::codes::{self, text, CLOSE, COMMA, DOT, GT, LITERAL, NUMBERED, OPEN};
 use crate::makers;
-use crate::rules::Rules;
 use crate::trees;
-use crate::verdict;
-use crate::written::{without_parens, written};
-use oracle::generate::Dice;
-use oracle::table::NodeTable;
+use crate::written::written;
+use model::chart::Chart;
+use model::codes::{self, text, CLOSE, COMMA, DOT, GREATER, LITERAL, MEMBER, OPEN};
+use model::generate::Dice;
+use model::rules::Rules;
+use model::table::NodeTable;
+use model::verdict;
+use model::written::without_parens;
 use std::path::PathBuf;
 use std::process::{Command, Stdio};
 use std::time::Instant;
@@ -247,11 +248,11 @@ pub fn compare(trees: u64, pairs: u64, seed: u64) -> u64 {
 fn is_as_spelled(tokens: &[u16]) -> bool {
     let otherwise = |code: &u16| matches!(code, 5 | 11 | 16 | 27);
     let apart = |window: &[u16]| match window {
-        [COMMA, next] => matches!(*next, CLOSE | GT),
-        [before, NUMBERED] => *before != DOT,
+        [COMMA, next] => matches!(*next, CLOSE | GREATER),
+        [before, MEMBER] => *before != DOT,
         [before, LITERAL] => *before == DOT,
         _ => false,
     };
-    let first = tokens.first().is_none_or(|&code| code == NUMBERED);
+    let first = tokens.first().is_none_or(|&code| code == MEMBER);
     !(first || tokens.iter().any(otherwise) || tokens.windows(2).any(apart))
 }

@@ -1,16 +1,18 @@
 //! Plain trees: what is written for one has one reading, the tree without its own
 //! parentheses, and none that equals it with a pair left out.
 
-use crate::chart::Chart;
-use crate::codes::text;
 use crate::makers;
-use crate::ours::{numbers, Ours};
+use crate::ours::Ours;
 use crate::plain::{self, PlainTrees};
-use crate::rules::Rules;
-use crate::verdict::MOST_NODES;
-use crate::written::{self, without_parens, written};
-use oracle::generate::Dice;
-use oracle::table::{self, NodeTable};
+use crate::written::{self, written};
+use model::chart::Chart;
+use model::codes::text;
+use model::generate::Dice;
+use model::rules::Rules;
+use model::sizes::{MOST_CELLS, MOST_FILE_BYTES, TOKENS_PER_NODE};
+use model::table::numbers;
+use model::table::{self, NodeTable};
+use model::written::without_parens;
 use std::time::Instant;
 
 /// What came of a set of trees.
@@ -62,11 +64,11 @@ impl Tally {
                 self.differs("a needless pair", tokens);
             }
         }
-        let lent = 6 * usize::from(tree.count) + self.trees as usize % 3;
+        let lent = TOKENS_PER_NODE * usize::from(tree.count) + self.trees as usize % 3;
         if ours.write(tree, lent).is_some_and(|ours| ours.as_ref() != Ok(tokens)) {
             self.differs("we write otherwise", tokens);
         }
-        if ours.read(tokens, 5 * MOST_NODES).is_some_and(|ours| ours != Ok(meant)) {
+        if ours.read(tokens, MOST_CELLS).is_some_and(|ours| ours != Ok(meant)) {
             self.differs("we read otherwise", tokens);
         }
     }
@@ -149,7 +151,7 @@ fn replies(ours: &mut Ours, tables: u64, seed: u64) -> u64 {
         if !ours.is_lent() && !written::fits_a_file(&tree) {
             continue;
         }
-        let needed = 6 * usize::from(tree.count);
+        let needed = TOKENS_PER_NODE * usize::from(tree.count);
         let lent = if dice.percent(10) { needed.saturating_sub(1) } else { needed };
         let lent = if ours.is_lent() { lent } else { needed };
         let reply = written::reply(&tree, lent);
@@ -217,7 +219,7 @@ fn damaged_files(ours: &mut Ours, seed: u64) -> u64 {
                 5
             }
             _ => {
-                file.resize(65_537, 0);
+                file.resize(MOST_FILE_BYTES + 1, 0);
                 1
             }
         };

@@ -3,9 +3,9 @@
 //! again.
 
 use crate::nests::FINISHED;
-use oracle::forms::{operator::*, *};
-use oracle::generate::{call_of, planted, Dice, Draft, Fill, Label, Order, Spines, Stem, NESTS};
-use oracle::NodeTable;
+use model::forms::{operator::*, *};
+use model::generate::{call_of, planted, Dice, Draft, Fill, Label, Order, Spines, Stem, NESTS};
+use model::NodeTable;
 
 const NEXTS: [Option<Stem>; 6] = [
     None,

@@ -1,9 +1,10 @@
 //! Damage to tree files.
 
-use crate::files::groups;
-use oracle::forms::{self, BLOCK, CLOSURE, PAREN, TYPE_IMPL_TRAIT, TYPE_PATH, TYPE_TRAIT_OBJECT};
-use oracle::generate::Dice;
-use oracle::{table, NodeTable};
+use model::forms::{self, BLOCK, CLOSURE, TYPE_IMPL_TRAIT, TYPE_PATH, TYPE_TRAIT_OBJECT};
+use model::generate::Dice;
+use model::sizes::{MOST_FILE_BYTES, MOST_LEVELS, MOST_NODES, NODE_CELLS};
+use model::table::{self, groups, NodeTable, ATTRIBUTES, DETAIL, FIRST, FORM, SECOND};
+use model::verdict::longest_path;
 
 /// A file, and the reply that its damage is meant to give where that is certain.
 pub struct Damaged {
@@ -37,33 +38,34 @@ fn in_numbers(table: &NodeTable, dice: &mut Dice) -> Damaged {
 }
 
 fn change_header(table: &mut NodeTable, dice: &mut Dice) {
+    const MOST: u16 = MOST_NODES as u16;
     let count = table.count;
     if dice.percent(50) {
         table.context = dice.pick(&[0, 1, 2, 3, 4, 5, 127, 128, 65_535]);
     } else {
-        table.count = dice.pick(&[0, 1, count - 1, count + 1, 4_095, 4_096, 4_097, 65_535]);
+        table.count = dice.pick(&[0, 1, count - 1, count + 1, MOST - 1, MOST, MOST + 1, 65_535]);
     }
 }
 
 /// Exchanges the operands of a node, or those of two.
 fn exchange(table: &mut NodeTable, dice: &mut Dice) {
-    let nodes = table.cells.len() / 5;
-    let (one, other) = (5 * dice.below(nodes), 5 * dice.below(nodes));
+    let nodes = table.cells.len() / NODE_CELLS;
+    let (one, other) = (NODE_CELLS * dice.below(nodes), NODE_CELLS * dice.below(nodes));
     if dice.percent(50) {
-        table.cells.swap(one + 3, one + 4);
+        table.cells.swap(one + FIRST, one + SECOND);
     } else {
-        table.cells.swap(one + 3 + dice.below(2), other + 3 + dice.below(2));
+        table.cells.swap(one + FIRST + dice.below(2), other + FIRST + dice.below(2));
     }
 }
 
 fn change_cell(table: &mut NodeTable, dice: &mut Dice) {
-    let node = 5 * dice.below(table.cells.len() / 5);
-    let cell = node + dice.below(5);
+    let node = NODE_CELLS * dice.below(table.cells.len() / NODE_CELLS);
+    let cell = node + dice.below(NODE_CELLS);
     let old = table.cells[cell];
     let limit = match cell - node {
-        0 => 58,
-        1 => 4,
-        2 => forms::details(table.cells[node]).max(1) + 1,
+        FORM => 58,
+        ATTRIBUTES => 4,
+        DETAIL => forms::details(table.cells[node]).max(1) + 1,
         _ => table.count.saturating_add(2),
     };
     table.cells[cell] = match dice.below(10) {
@@ -82,17 +84,17 @@ fn in_detail(table: &NodeTable, dice: &mut Dice) -> Option<Damaged> {
     let fits = |node: &[u16]| match (refusal, node) {
         (9, [TYPE_PATH | TYPE_IMPL_TRAIT | TYPE_TRAIT_OBJECT, _, _, 0, 0]) => true,
         (10, [CLOSURE, _, _, body, _]) => {
-            table.cells[5 * (usize::from(*body) - 1)..][..3] != [BLOCK, 0, 0]
+            table.cells[NODE_CELLS * (usize::from(*body) - 1)..][..FIRST] != [BLOCK, 0, 0]
         }
         _ => false,
     };
-    let nodes: Vec<&[u16]> = table.cells.chunks(5).collect();
+    let nodes: Vec<&[u16]> = table.cells.chunks(NODE_CELLS).collect();
     let found: Vec<usize> = (0..nodes.len()).filter(|&node| fits(nodes[node])).collect();
     if found.is_empty() {
         return None;
     }
     let mut table = table.clone();
-    table.cells[5 * dice.pick(&found) + 2] = u16::from(refusal == 10);
+    table.cells[NODE_CELLS * dice.pick(&found) + DETAIL] = u16::from(refusal == 10);
     Some(Damaged { file: table::write(&table), meant: Some(refusal) })
 }
 
@@ -138,7 +140,7 @@ fn malformed(table: &NodeTable, dice: &mut Dice) -> Damaged {
         }
         file.extend(bytes);
     }
-    if file.len() > 65_536 {
+    if file.len() > MOST_FILE_BYTES {
         return Damaged { file, meant: Some(1) };
     }
     Damaged { file, meant: Some(if at < 2 { 2 } else { 5 }) }
@@ -155,53 +157,35 @@ fn at_end(table: &NodeTable, dice: &mut Dice) -> Damaged {
             file.truncate(left);
             return Damaged { file, meant: Some(if left < header { 2 } else { 5 }) };
         }
-        8 => 65_536 - file.len(),
-        9 => 65_537 - file.len(),
+        8 => MOST_FILE_BYTES - file.len(),
+        9 => MOST_FILE_BYTES + 1 - file.len(),
         10 => dice.between(65_530, 70_000) - file.len(),
         _ => dice.between(1, 12),
     };
     file.extend((0..more).map(|_| dice.pick(&[0, 0, 1, 0x7F, 0x80, 0xFF])));
     let meant = match file.len() {
-        0..=65_536 if more > 0 => 5,
-        0..=65_536 => 0,
+        0..=MOST_FILE_BYTES if more > 0 => 5,
+        0..=MOST_FILE_BYTES => 0,
         _ => 1,
     };
     Damaged { file, meant: Some(meant) }
 }
 
-/// Parens above the root, so that the longest path holds 127 to 130 nodes.
+/// Parens above the root, so that the longest path is about as long as it may be.
 fn deepened(table: &NodeTable, dice: &mut Dice) -> Damaged {
-    let depth = deepest(table);
-    let wanted = dice.pick(&[127, 128, 128, 129, 129, 130]).max(depth);
-    let parens = (wanted - depth) as u16;
-    let mut cells = Vec::new();
-    for number in 1..=parens {
-        cells.extend([PAREN, 0, 0, number + 1, 0]);
-    }
-    for node in table.cells.chunks(5) {
-        let shifted = |operand: u16| if operand == 0 { 0 } else { operand + parens };
-        cells.extend([node[0], node[1], node[2], shifted(node[3]), shifted(node[4])]);
-    }
-    let count = table.count + parens;
-    let file = table::write(&NodeTable { context: table.context, count, cells });
-    let meant = match (file.len(), count, wanted) {
-        (65_537.., _, _) => 1,
-        (_, 4_097.., _) => 4,
-        (_, _, 129..) => 11,
-        _ => 0,
+    const MOST: usize = MOST_LEVELS;
+    let depth = longest_path(&table.cells);
+    let wanted = dice.pick(&[MOST - 1, MOST, MOST, MOST + 1, MOST + 1, MOST + 2]).max(depth);
+    let table = table.in_parens((wanted - depth) as u16);
+    let file = table::write(&table);
+    let meant = if file.len() > MOST_FILE_BYTES {
+        1
+    } else if usize::from(table.count) > MOST_NODES {
+        4
+    } else if wanted > MOST {
+        11
+    } else {
+        0
     };
     Damaged { file, meant: Some(meant) }
-}
-
-/// How many nodes the longest path holds, links not counted.
-fn deepest(table: &NodeTable) -> usize {
-    let mut above = vec![0; usize::from(table.count) + 1];
-    let mut deepest = 0;
-    for (node, number) in table.cells.chunks(5).zip(1..) {
-        let depth: usize = above[number] + usize::from(node[0] != forms::LINK);
-        deepest = deepest.max(depth);
-        above[usize::from(node[3])] = depth;
-        above[usize::from(node[4])] = depth;
-    }
-    deepest
 }

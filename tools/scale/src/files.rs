@@ -1,11 +1,12 @@
 //! Which tree files document 01 accepts, stated over runs of bytes: a number is
 //! a run that its first byte without the high bit ends.
 
-use oracle::{accept, NodeTable};
+use model::sizes::{LAST_CONTEXT, MOST_FILE_BYTES, MOST_NODES, NODE_CELLS};
+use model::{accept, NodeTable};
 
 /// The table of an accepted file, or the first refusal that applies.
 pub fn read(file: &[u8]) -> Result<NodeTable, u16> {
-    if file.len() > 65_536 {
+    if file.len() > MOST_FILE_BYTES {
         return Err(1);
     }
     let runs = file.split_inclusive(|byte| byte & 0x80 == 0);
@@ -14,14 +15,14 @@ pub fn read(file: &[u8]) -> Result<NodeTable, u16> {
         return Err(2);
     };
     let (context, count) = (*context, *count);
-    if context > 3 {
+    if context > LAST_CONTEXT {
         return Err(3);
     }
-    if !(1..=4_096).contains(&count) {
+    if !(1..=MOST_NODES).contains(&count.into()) {
         return Err(4);
     }
     let cells: Vec<u16> = body.iter().copied().collect::<Option<_>>().ok_or(5u16)?;
-    if cells.len() != 5 * usize::from(count) {
+    if cells.len() != NODE_CELLS * usize::from(count) {
         return Err(5);
     }
     let table = NodeTable { context, count, cells };
@@ -41,15 +42,4 @@ fn number(run: &[u8]) -> Option<u16> {
     }
     let add = |value: u32, group: &u8| value.checked_mul(128)?.checked_add(u32::from(group & 0x7F));
     run.iter().rev().try_fold(0, add).and_then(|value| u16::try_from(value).ok())
-}
-
-/// The bytes of a number.
-pub fn groups(mut number: u32) -> Vec<u8> {
-    let mut bytes = Vec::new();
-    while number > 0x7F {
-        bytes.push(number as u8 | 0x80);
-        number >>= 7;
-    }
-    bytes.push(number as u8);
-    bytes
 }

@@ -1,7 +1,9 @@
 //! Nests of a table that double the crate's work.
 
-use oracle::generate::{self, Draft, Label, Slot};
-use oracle::{keeping, Answers, NodeTable};
+use model::generate::{self, Draft, Label, Slot};
+use model::sizes::NODE_CELLS;
+use model::table::{NodeTable, ATTRIBUTES, DETAIL, FIRST, FORM};
+use oracle::{keeping, Answers};
 
 /// So many doubling nodes of a right spine take the crate a tenth of a second.
 pub const FINISHED: u32 = 20;
@@ -19,13 +21,13 @@ pub fn answers(table: &NodeTable) -> Answers {
 
 /// The doubling nodes of a right spine of an accepted table, the most there are.
 fn levels(table: &NodeTable) -> u32 {
-    let nodes: Vec<&[u16]> = table.cells.chunks(5).collect();
-    let label = |at: usize| Label::new(nodes[at][0], nodes[at][1], nodes[at][2]);
+    let nodes: Vec<&[u16]> = table.cells.chunks(NODE_CELLS).collect();
+    let label = |at: usize| Label::new(nodes[at][FORM], nodes[at][ATTRIBUTES], nodes[at][DETAIL]);
     let mut slots = vec![None; nodes.len()];
     for (owner, node) in nodes.iter().enumerate() {
         for place in 0..2 {
-            if node[3 + place] != 0 {
-                slots[usize::from(node[3 + place]) - 1] = Some(Slot { owner, place });
+            if node[FIRST + place] != 0 {
+                slots[usize::from(node[FIRST + place]) - 1] = Some(Slot { owner, place });
             }
         }
     }

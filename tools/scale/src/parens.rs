@@ -2,8 +2,9 @@
 
 use crate::damage::damage;
 use crate::{files, nests};
-use oracle::generate::{Dice, Family, SmallTrees, Spines, NESTS};
-use oracle::{table, text, NodeTable};
+use model::generate::{Dice, Family, SmallTrees, Spines, NESTS};
+use model::{table, NodeTable};
+use oracle::text;
 use std::io::{ErrorKind, Read, Write};
 use std::path::PathBuf;
 use std::process::{Command, Stdio};

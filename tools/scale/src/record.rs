@@ -12,8 +12,9 @@
 
 use crate::damage::damage;
 use crate::{chosen, files, nests};
-use oracle::generate::{Dice, Family, SmallTrees};
-use oracle::{table, NodeTable};
+use model::generate::{Dice, Family, SmallTrees};
+use model::sizes::{MOST_NODES, ROW_CELLS};
+use model::{table, NodeTable};
 use std::path::PathBuf;
 
 const SEED: u64 = 11;
@@ -34,7 +35,7 @@ fn trees() -> Vec<NodeTable> {
         let many = (0..).map(|index| family.tree(SEED + 1, index));
         trees.extend(many.filter(|tree| (200..=900).contains(&tree.count)).take(20));
         let most = (0..).map(|index| family.tree(SEED + 2, index));
-        trees.extend(most.filter(|tree| tree.count == 4_096).take(1));
+        trees.extend(most.filter(|tree| usize::from(tree.count) == MOST_NODES).take(1));
     }
     for (context, tree) in (0..).zip(&mut trees) {
         if tree.count > 2 {
@@ -66,8 +67,9 @@ pub fn record() {
         }
     }
     for tree in trees.iter().step_by(37) {
-        records.add(5 * tree.count, &table::write(tree));
-        records.add(5 * tree.count - 1, &table::write(tree));
+        let needed = ROW_CELLS as u16 * tree.count;
+        records.add(needed, &table::write(tree));
+        records.add(needed - 1, &table::write(tree));
     }
     for tree in chosen::trees() {
         records.add(LENT, &table::write(&tree));
@@ -84,7 +86,7 @@ pub fn record() {
 impl Records {
     fn add(&mut self, lent: u16, file: &[u8]) {
         let decided = match files::read(file) {
-            Ok(tree) if lent < 5 * tree.count => Err(12),
+            Ok(tree) if usize::from(lent) < ROW_CELLS * usize::from(tree.count) => Err(12),
             found => found,
         };
         let (reply, context, count) = match &decided {

@@ -1,12 +1,9 @@
 //! Where a refused tree file is wrong. The refusal is the library's; this only looks
 //! for the place that it speaks of.
 
-#[allow(dead_code)]
-#[path = "../../../../tools/oracle/src/forms.rs"]
-mod places;
-
-use places::{Class, Place};
-use tezhukor::{forms, Node, Refusal};
+use tezhukor::forms::{self, Class, Place};
+use tezhukor::sizes::{MOST_LEVELS, NODE_CELLS};
+use tezhukor::{Node, Refusal};
 
 /// The place that a refusal of a file speaks of, in words.
 pub fn place(refusal: Refusal, file: &[u8]) -> String {
@@ -46,21 +43,17 @@ fn number(bytes: &[u8]) -> Option<(u16, usize)> {
 
 fn body(numbers: &[u16], malformed: usize) -> String {
     let count = numbers.get(1).copied().map_or(0, usize::from);
-    match numbers.len() < 2 + 5 * count {
-        true => format!(" at node {}, byte {malformed}", numbers.len().saturating_sub(2) / 5 + 1),
+    match numbers.len() < 2 + NODE_CELLS * count {
+        true => format!(
+            " at node {}, byte {malformed}",
+            numbers.len().saturating_sub(2) / NODE_CELLS + 1
+        ),
         false => " behind the last node".to_string(),
     }
 }
 
 fn nodes(numbers: &[u16]) -> Vec<Node> {
-    let node = |cells: &[u16]| Node {
-        form: cells[0],
-        attributes: cells[1],
-        detail: cells[2],
-        first: cells[3],
-        second: cells[4],
-    };
-    numbers.get(2..).unwrap_or(&[]).chunks_exact(5).map(node).collect()
+    numbers.get(2..).unwrap_or(&[]).chunks_exact(NODE_CELLS).map(Node::of_cells).collect()
 }
 
 /// The first node that a refusal from 6 to 11 speaks of.
@@ -79,9 +72,9 @@ pub fn node(refusal: Refusal, nodes: &[Node]) -> Option<usize> {
 }
 
 fn has_bad_label(node: &Node) -> bool {
-    places::class(node.form).is_none()
-        || node.attributes >= places::attributes(node.form)
-        || node.detail >= places::details(node.form)
+    forms::class(node.form).is_none()
+        || node.attributes >= forms::attributes(node.form)
+        || node.detail >= forms::details(node.form)
 }
 
 fn at(nodes: &[Node], number: u16) -> Option<&Node> {
@@ -89,11 +82,11 @@ fn at(nodes: &[Node], number: u16) -> Option<&Node> {
 }
 
 fn class(nodes: &[Node], number: u16) -> Option<Class> {
-    at(nodes, number).and_then(|node| places::class(node.form))
+    at(nodes, number).and_then(|node| forms::class(node.form))
 }
 
 fn has_bad_operand(nodes: &[Node], node: &Node) -> bool {
-    let [first, second] = places::places(node.form, node.detail);
+    let [first, second] = forms::places(node.form, node.detail);
     !fits(nodes, node, first, node.first) || !fits(nodes, node, second, node.second)
 }
 
@@ -145,12 +138,12 @@ fn has_bad_body(nodes: &[Node], node: &Node) -> bool {
     node.form == forms::CLOSURE && node.detail == 1 && !at(nodes, node.first).is_some_and(is_block)
 }
 
-/// The first node below more than 127 others, links not counted.
+/// The first node that is too deep, links not counted.
 fn too_deep(nodes: &[Node]) -> Option<usize> {
     let mut depths = vec![0; nodes.len() + 1];
     for (number, node) in (1..).zip(nodes) {
         let depth = depths[number] + usize::from(node.form != forms::LINK);
-        if depth > 128 {
+        if depth > MOST_LEVELS {
             return Some(number);
         }
         for operand in [node.first, node.second].map(usize::from) {
@@ -165,6 +158,7 @@ fn too_deep(nodes: &[Node]) -> Option<usize> {
 #[cfg(test)]
 mod tests {
     use super::*;
+    use model::recorded::{records, Record};
     use tezhukor::Tree;
 
     /// A node is found for each recorded file that is refused for one, and none in a
@@ -172,12 +166,12 @@ mod tests {
     #[test]
     fn refused_nodes_are_found() {
         let (mut found, mut accepted) = (0, 0);
-        for file in crate::recorded::files("files", 5) {
+        for Record { bytes: file, .. } in records("files", NODE_CELLS) {
             let nodes = nodes(&numbers(&file).0);
             match Tree::load(&file) {
                 Ok(_) => {
                     let blamed = Refusal::ALL.map(|refusal| node(refusal, &nodes));
-                    assert_eq!(blamed, [None; 16]);
+                    assert!(blamed.iter().all(Option::is_none));
                     accepted += 1;
                 }
                 Err(refusal) if (6..=11).contains(&refusal.number()) => {

@@ -6,10 +6,11 @@ use crate::{blame, lexer, locate, show, why, USAGE};
 use std::ffi::{OsStr, OsString};
 use std::fmt::Write;
 use std::io::{IsTerminal, Read};
+use tezhukor::sizes::MOST_FILE_BYTES;
 use tezhukor::{codes, forms, Refusal, Tree};
 
-/// A tree file may have 65,536 bytes; one more shows that it is too long.
-const FILE_BYTES: u64 = 65_537;
+/// One byte more than a tree file may have shows that it is too long.
+const FILE_BYTES: u64 = MOST_FILE_BYTES as u64 + 1;
 
 /// An expression as text may have so many bytes.
 const TEXT_BYTES: u64 = 1 << 20;

@@ -7,8 +7,6 @@ mod lexer;
 mod locate;
 mod names;
 mod open;
-#[cfg(test)]
-mod recorded;
 mod show;
 mod why;
 mod words;

@@ -271,10 +271,13 @@ impl Writer<'_> {
 mod tests {
     use super::*;
     use crate::lexer;
+    use model::recorded::records;
+    use tezhukor::codes::{CLOSE, MINUS, NAME, OPEN};
+    use tezhukor::sizes::TOKEN_CELLS;
 
     #[test]
     fn added_pairs_are_coloured() {
-        let tree = Tree::read(&[32, 1, 35, 32, 1, 32, 36]).expect("a tree");
+        let tree = Tree::read(&[NAME, MINUS, OPEN, NAME, MINUS, NAME, CLOSE]).expect("a tree");
         let text = shown(&tree, Names::default()).text(true);
         assert_eq!(text, "a - \x1b[1;33m(\x1b[0mb - c\x1b[1;33m)\x1b[0m");
     }
@@ -283,8 +286,8 @@ mod tests {
     #[test]
     fn text_is_the_tokens() {
         let mut trees = 0;
-        for file in crate::recorded::files("tokens", 1) {
-            let Ok(tree) = Tree::load(&file) else {
+        for record in records("tokens", TOKEN_CELLS) {
+            let Ok(tree) = Tree::load(&record.bytes) else {
                 continue;
             };
             let Ok(tokens) = tree.tokens() else {

@@ -3,8 +3,8 @@
 use crate::names::Names;
 use crate::show::{self, Shown};
 use crate::words;
-use tezhukor::boundary::questions::{self, Context, Handed, Place, Question};
-use tezhukor::forms::*;
+use tezhukor::boundary::questions::{self, Context, Handed, InContext, Place};
+use tezhukor::forms::{Side, *};
 use tezhukor::{Node, Row, Tree};
 
 /// The flag of a context that says: the next operator can begin generic arguments.
@@ -129,15 +129,15 @@ impl Operand<'_> {
     /// The precedence in another context, by the function for the operand's side.
     fn precedence(&self, context: Context) -> u16 {
         let question = match self.handed.map(|handed| handed.side) {
-            Some(0) => Question::LeftPrecedence,
-            Some(1) => Question::RightPrecedence,
-            _ => Question::Precedence,
+            Some(Side::Left) => InContext::LeftPrecedence,
+            Some(Side::Right) => InContext::RightPrecedence,
+            _ => InContext::Precedence,
         };
-        questions::answer(question, context, self.place())
+        questions::answer_in(question, context, self.place())
     }
 
     fn asks(&self, context: Context) -> bool {
-        questions::answer(Question::Parenthesize, context, self.place()) == 1
+        questions::answer_in(InContext::Parenthesize, context, self.place()) == 1
     }
 
     /// Whether only the generics flag asks for the pair.
@@ -161,9 +161,9 @@ impl Operand<'_> {
     /// The owner's precedence: that of the operator on the operand's inner side.
     fn owners_precedence(&self) -> Option<u16> {
         match self.handed?.side {
-            0 => Some(self.row.next_operator),
-            1 => Some(self.row.previous_operator),
-            _ => None,
+            Side::Left => Some(self.row.next_operator),
+            Side::Right => Some(self.row.previous_operator),
+            Side::Neither => None,
         }
     }
 
@@ -201,8 +201,8 @@ impl Operand<'_> {
         };
         let owner = self.tree.node(self.named_owner).unwrap_or_default();
         let operand = match (self.handed.map(|handed| handed.side), place) {
-            (Some(0), _) => "left operand",
-            (Some(1), _) => "right operand",
+            (Some(Side::Left), _) => "left operand",
+            (Some(Side::Right), _) => "right operand",
             _ => "operand",
         };
         format!("{operand} of node {}, {}", self.named_owner, words::form(owner))
@@ -242,14 +242,16 @@ fn inner_line(operand: &Operand, shown: &Shown) -> String {
 #[cfg(test)]
 mod tests {
     use super::*;
+    use model::recorded::records;
+    use tezhukor::sizes::ROW_CELLS;
 
     /// Each recorded tree: a pair is there just where the owner's test or a part of
     /// parenthesize asks for it, and each that is there has its reason.
     #[test]
     fn reasons_are_the_rows() {
         let (mut pairs, mut others) = (0, 0);
-        for file in crate::recorded::files("rows", 5) {
-            let Ok(tree) = Tree::load(&file) else {
+        for record in records("rows", ROW_CELLS) {
+            let Ok(tree) = Tree::load(&record.bytes) else {
                 continue;
             };
             let (rows, owners) = (tree.rows(), owners(&tree));

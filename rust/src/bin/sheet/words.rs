@@ -1,30 +1,12 @@
 //! Precedences and nodes in words.
 
+use model::precedence::NAMES;
 use tezhukor::codes::SPELLED;
 use tezhukor::{forms, Node};
 
-const PRECEDENCES: [&str; 16] = [
-    "Jump",
-    "Assign",
-    "Range",
-    "Or",
-    "And",
-    "Let",
-    "Compare",
-    "BitOr",
-    "BitXor",
-    "BitAnd",
-    "Shift",
-    "Sum",
-    "Product",
-    "Cast",
-    "Prefix",
-    "Unambiguous",
-];
-
 /// A precedence by name and number.
 pub fn precedence(rank: u16) -> String {
-    let name = PRECEDENCES.get(usize::from(rank)).copied().unwrap_or("none");
+    let name = NAMES.get(usize::from(rank)).copied().unwrap_or("none");
     format!("{name} ({rank})")
 }
 

@@ -5,7 +5,7 @@
 //! Prints for some kinds of nests and numbers of doubling nodes how many
 //! milliseconds all answers about the tree take.
 
-use oracle::generate::{levels, Dice, Nest, Order, NESTS};
+use model::generate::{levels, Dice, Nest, Order, NESTS};
 use std::time::Instant;
 
 const DOUBLING: [u32; 4] = [12, 16, 20, 24];

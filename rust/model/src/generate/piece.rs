@@ -2,10 +2,8 @@
 
 use super::draft::{Draft, DraftNode};
 use super::stem::Stem;
-use crate::table::NodeTable;
-
-/// Five numbers a node, as in a node table.
-const NODE: usize = 5;
+use crate::sizes::NODE_CELLS;
+use crate::table::{NodeTable, FIRST};
 
 /// Stands for the number of the node that comes below a piece.
 pub const BELOW: u16 = 255;
@@ -40,19 +38,19 @@ impl Piece {
 
     /// How many nodes there are.
     pub fn nodes(&self) -> usize {
-        self.cells.len() / NODE
+        self.cells.len() / NODE_CELLS
     }
 
-    /// Five numbers a node.
+    /// The cells of its nodes.
     pub fn cells(&self) -> &[u16] {
         &self.cells
     }
 
     /// Puts the nodes behind those of a table.
     fn lay(&self, cells: &mut Vec<u16>) {
-        let before = (cells.len() / NODE) as u16;
-        for node in self.cells.chunks_exact(NODE) {
-            let (label, operands) = node.split_at(3);
+        let before = (cells.len() / NODE_CELLS) as u16;
+        for node in self.cells.chunks_exact(NODE_CELLS) {
+            let (label, operands) = node.split_at(FIRST);
             cells.extend(label);
             cells.extend(operands.iter().map(|&operand| match operand {
                 0 => 0,
@@ -66,6 +64,6 @@ impl Piece {
     pub fn table(context: u16, pieces: &[&Piece]) -> NodeTable {
         let mut cells = Vec::with_capacity(pieces.iter().map(|piece| piece.cells.len()).sum());
         pieces.iter().for_each(|piece| piece.lay(&mut cells));
-        NodeTable { context, count: (cells.len() / NODE) as u16, cells }
+        NodeTable { context, count: (cells.len() / NODE_CELLS) as u16, cells }
     }
 }

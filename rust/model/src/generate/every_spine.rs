@@ -3,12 +3,12 @@
 
 use super::dice::Dice;
 use super::draft::{Label, Order};
-use super::nests::LONGEST_PATH;
 use super::piece::Piece;
 use super::small::every_stem;
 use super::spines::{ENDS, NEXTS};
 use super::stem::{planted, Fill, Stem, NAME, TYPE};
 use crate::forms::{self, operator::*, *};
+use crate::sizes::MOST_LEVELS;
 use crate::table::NodeTable;
 
 /// All spines over sets of next operators, forms and ends, by number.
@@ -102,7 +102,7 @@ impl Spines {
     /// The spine with a number, its forms by turns as often as a path may hold them.
     pub fn nest(&self, context: u16, index: u64) -> NodeTable {
         let (next, forms, end) = self.parts(index);
-        let levels = LONGEST_PATH - next.iter().count() - end.depth();
+        let levels = MOST_LEVELS - next.iter().count() - end.depth();
         let turns = forms.into_iter().cycle().take(levels);
         numbered(context, next.into_iter().chain(turns).chain([end]))
     }

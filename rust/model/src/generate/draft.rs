@@ -2,6 +2,7 @@
 
 use super::dice::Dice;
 use crate::forms::*;
+use crate::sizes::NODE_CELLS;
 use crate::table::NodeTable;
 
 /// Form, attributes and detail of a node.
@@ -102,7 +103,7 @@ impl Draft {
             };
             waiting.extend(operands.into_iter().flatten());
         }
-        let mut cells = Vec::with_capacity(5 * met.len());
+        let mut cells = Vec::with_capacity(NODE_CELLS * met.len());
         for &at in &met {
             let DraftNode { label, operands } = self.nodes[at];
             cells.extend([label.form, label.attributes, label.detail]);

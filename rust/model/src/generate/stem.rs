@@ -2,10 +2,8 @@
 
 use super::draft::{Draft, Label, Slot};
 use crate::forms::*;
+use crate::sizes::MOST_NODES;
 use std::iter::Peekable;
-
-/// The most nodes that a tree file may have.
-const MOST_NODES: usize = 4_096;
 
 /// What stands in a place of a stem's node.
 #[derive(Copy, Clone, PartialEq, Eq, Debug)]

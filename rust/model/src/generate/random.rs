@@ -4,6 +4,7 @@ use super::curb::curb;
 use super::dice::Dice;
 use super::draft::{Draft, Label, Slot};
 use crate::forms::{self, *};
+use crate::sizes::{MOST_LEVELS, MOST_NODES};
 
 /// Which labels a random tree has, and how often.
 #[derive(Copy, Clone, PartialEq, Eq, Debug)]
@@ -15,9 +16,6 @@ pub enum Profile {
     /// The forms of plain trees.
     Plain,
 }
-
-/// Longest path from the root, list links not counted.
-const DEEPEST: u32 = 128;
 
 const ALL_INNER: [u16; 20] = [
     ASSIGN,
@@ -129,8 +127,8 @@ const PLAIN_TYPES_LEAVES: [u16; 4] = [TYPE_PATH, TYPE_PATH, TYPE_INFER, TYPE_NEV
 /// A tree of 1 to 60 nodes, seldom of up to 4,096, with paths of up to 128.
 pub fn random(dice: &mut Dice, profile: Profile) -> Draft {
     let size = match dice.below(400) {
-        0 => dice.between(60, 4_096),
-        1 => 4_096,
+        0 => dice.between(60, MOST_NODES),
+        1 => MOST_NODES,
         2..=9 => dice.between(60, 300),
         10..=99 => dice.between(1, 60),
         100..=199 => dice.between(1, 25),
@@ -148,7 +146,7 @@ struct Opening {
     slot: Slot,
     place: Place,
     /// How many nodes the path to the owner holds.
-    depth: u32,
+    depth: usize,
 }
 
 /// A tree that grows, place by place. A place that must be filled counts as a
@@ -186,7 +184,7 @@ impl<'a> Growth<'a> {
     }
 
     /// Opens the places of a node.
-    fn open(&mut self, owner: usize, depth: u32) {
+    fn open(&mut self, owner: usize, depth: usize) {
         let label = self.draft.nodes[owner].label;
         if label.form == CLOSURE && label.detail == 1 {
             self.total += 1;
@@ -210,7 +208,7 @@ impl<'a> Growth<'a> {
             let is_list = matches!(place, Place::ExpressionList | Place::TypeList);
             let only = self.openings.is_empty();
             if self.room() < 1 + usize::from(is_list)
-                || depth == DEEPEST
+                || depth == MOST_LEVELS
                 || !only && self.dice.percent(30)
             {
                 return;
@@ -227,11 +225,11 @@ impl<'a> Growth<'a> {
             }
         }
         let label = match depth + 1 {
-            DEEPEST => self.leaf(class),
+            MOST_LEVELS => self.leaf(class),
             _ => self.label(class, self.room()),
         };
         let node = self.draft.put(slot, label);
-        if depth + 1 < DEEPEST {
+        if depth + 1 < MOST_LEVELS {
             self.open(node, depth + 1);
         }
     }

@@ -6,10 +6,8 @@ use super::dice::Dice;
 use super::draft::{Draft, Order};
 use super::stem::{planted, Fill, Stem};
 use crate::forms::{operator::*, *};
+use crate::sizes::MOST_LEVELS;
 use crate::table::NodeTable;
-
-/// The most nodes that a path may hold.
-pub const LONGEST_PATH: usize = 128;
 
 /// What stands above a nest, what its levels are by turns, and its end.
 pub struct Nest {
@@ -75,7 +73,7 @@ impl Nest {
 
     /// The nest with as many levels as a path may hold.
     pub fn longest(&self, context: u16) -> NodeTable {
-        self.tree(context, LONGEST_PATH - 1 - self.end.depth())
+        self.tree(context, MOST_LEVELS - 1 - self.end.depth())
     }
 
     /// The nest with each number of levels that doubles the crate's work at most so

@@ -1,22 +1,78 @@
-//! The forms of document 01: their numbers, labels and places for operands.
+//! The forms of document 01, by number (expressions 1 to 40, types 41 to 55, and list
+//! links): their names, labels and places for operands.
 
-/// The number of each form.
+/// Defines the forms: constant, name and number.
 macro_rules! forms {
-    ($($name:ident = $number:literal,)*) => {$(pub const $name: u16 = $number;)*};
+    ($($constant:ident $name:literal $number:literal,)*) => {
+        $(#[doc = $name] pub const $constant: u16 = $number;)*
+
+        /// The name of a form, if there is such a form.
+        pub fn name(form: u16) -> Option<&'static str> {
+            match form {
+                $($number => Some($name),)*
+                _ => None,
+            }
+        }
+    };
 }
 
 forms! {
-    ARRAY = 1, ASSIGN = 2, ASYNC = 3, AWAIT = 4, BINARY = 5, BLOCK = 6, BREAK = 7, CALL = 8,
-    CAST = 9, CLOSURE = 10, CONST = 11, CONTINUE = 12, FIELD = 13, FOR_LOOP = 14, GROUP = 15,
-    IF = 16, INDEX = 17, INFER = 18, LET = 19, LIT = 20, LOOP = 21, MACRO = 22, MATCH = 23,
-    METHOD_CALL = 24, PAREN = 25, PATH = 26, RANGE = 27, RAW_ADDR = 28, REFERENCE = 29,
-    REPEAT = 30, RETURN = 31, STRUCT = 32, TRY = 33, TRY_BLOCK = 34, TUPLE = 35, UNARY = 36,
-    UNSAFE = 37, VERBATIM = 38, WHILE = 39, YIELD = 40,
-    TYPE_ARRAY = 41, TYPE_FN_PTR = 42, TYPE_GROUP = 43, TYPE_IMPL_TRAIT = 44, TYPE_INFER = 45,
-    TYPE_MACRO = 46, TYPE_NEVER = 47, TYPE_PAREN = 48, TYPE_PATH = 49, TYPE_PTR = 50,
-    TYPE_REFERENCE = 51, TYPE_SLICE = 52, TYPE_TRAIT_OBJECT = 53, TYPE_TUPLE = 54,
-    TYPE_VERBATIM = 55,
-    LINK = 56,
+    ARRAY "Array" 1,
+    ASSIGN "Assign" 2,
+    ASYNC "Async" 3,
+    AWAIT "Await" 4,
+    BINARY "Binary" 5,
+    BLOCK "Block" 6,
+    BREAK "Break" 7,
+    CALL "Call" 8,
+    CAST "Cast" 9,
+    CLOSURE "Closure" 10,
+    CONST "Const" 11,
+    CONTINUE "Continue" 12,
+    FIELD "Field" 13,
+    FOR_LOOP "ForLoop" 14,
+    GROUP "Group" 15,
+    IF "If" 16,
+    INDEX "Index" 17,
+    INFER "Infer" 18,
+    LET "Let" 19,
+    LIT "Lit" 20,
+    LOOP "Loop" 21,
+    MACRO "Macro" 22,
+    MATCH "Match" 23,
+    METHOD_CALL "MethodCall" 24,
+    PAREN "Paren" 25,
+    PATH "Path" 26,
+    RANGE "Range" 27,
+    RAW_ADDR "RawAddr" 28,
+    REFERENCE "Reference" 29,
+    REPEAT "Repeat" 30,
+    RETURN "Return" 31,
+    STRUCT "Struct" 32,
+    TRY "Try" 33,
+    TRY_BLOCK "TryBlock" 34,
+    TUPLE "Tuple" 35,
+    UNARY "Unary" 36,
+    UNSAFE "Unsafe" 37,
+    VERBATIM "Verbatim" 38,
+    WHILE "While" 39,
+    YIELD "Yield" 40,
+    TYPE_ARRAY "array type" 41,
+    TYPE_FN_PTR "function pointer type" 42,
+    TYPE_GROUP "group type" 43,
+    TYPE_IMPL_TRAIT "impl type" 44,
+    TYPE_INFER "inferred type" 45,
+    TYPE_MACRO "macro type" 46,
+    TYPE_NEVER "never type" 47,
+    TYPE_PAREN "parenthesised type" 48,
+    TYPE_PATH "path type" 49,
+    TYPE_PTR "pointer type" 50,
+    TYPE_REFERENCE "reference type" 51,
+    TYPE_SLICE "slice type" 52,
+    TYPE_TRAIT_OBJECT "dyn type" 53,
+    TYPE_TUPLE "tuple type" 54,
+    TYPE_VERBATIM "verbatim type" 55,
+    LINK "list link" 56,
 }
 
 /// Details of Binary that are named somewhere.

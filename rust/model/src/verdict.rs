@@ -1,13 +1,9 @@
 //! What document 01 says of reading a token list.
 
 use crate::chart::Chart;
-use crate::codes::{CODES, MOST};
-use oracle::forms;
-
-/// The most nodes of a reading, links included, and the most of a path, links not
-/// counted.
-pub const MOST_NODES: usize = 4_096;
-pub const LONGEST_PATH: usize = 128;
+use crate::forms;
+use crate::sizes::{LAST_CODE, MOST_CELLS, MOST_LEVELS, MOST_TOKENS, NODE_CELLS};
+use crate::table::{FIRST, FORM, SECOND};
 
 /// The table of the reading, or the number of the refusal.
 pub type Verdict = Result<Vec<u16>, u16>;
@@ -27,7 +23,7 @@ pub fn verdict(chart: &Chart) -> Result<Verdict, Vec<Vec<u16>>> {
 
 /// A reading, or 16.
 pub fn within_bounds(table: Vec<u16>) -> Verdict {
-    if table.len() > 5 * MOST_NODES || longest_path(&table) > LONGEST_PATH {
+    if table.len() > MOST_CELLS || longest_path(&table) > MOST_LEVELS {
         Err(16)
     } else {
         Ok(table)
@@ -36,7 +32,7 @@ pub fn within_bounds(table: Vec<u16>) -> Verdict {
 
 /// Of any list; what 14 speaks of comes first.
 pub fn of(chart: &mut Chart, tokens: &[u16]) -> Result<Verdict, Vec<Vec<u16>>> {
-    if tokens.len() > MOST || tokens.iter().any(|&code| code >= CODES) {
+    if tokens.len() > MOST_TOKENS || tokens.iter().any(|&code| code > LAST_CODE) {
         return Ok(Err(14));
     }
     chart.read(tokens);
@@ -46,13 +42,13 @@ pub fn of(chart: &mut Chart, tokens: &[u16]) -> Result<Verdict, Vec<Vec<u16>>> {
 /// How many nodes the longest path of a table holds, links not counted. Owners
 /// come before their operands.
 pub fn longest_path(table: &[u16]) -> usize {
-    let mut above = vec![0; table.len() / 5 + 1];
+    let mut above = vec![0; table.len() / NODE_CELLS + 1];
     let mut longest = 0;
-    for (node, number) in table.chunks(5).zip(1..) {
-        let path = above[number] + usize::from(node[0] != forms::LINK);
+    for (node, number) in table.chunks(NODE_CELLS).zip(1..) {
+        let path = above[number] + usize::from(node[FORM] != forms::LINK);
         longest = longest.max(path);
-        above[usize::from(node[3])] = path;
-        above[usize::from(node[4])] = path;
+        above[usize::from(node[FIRST])] = path;
+        above[usize::from(node[SECOND])] = path;
     }
     longest
 }

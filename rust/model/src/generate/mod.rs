@@ -18,7 +18,7 @@ pub use curb::{levels, LONGEST_NEST};
 pub use dice::Dice;
 pub use draft::{Draft, Label, Order, Slot};
 pub use every_spine::Spines;
-pub use nests::{Nest, LONGEST_PATH, NESTS};
+pub use nests::{Nest, NESTS};
 pub use piece::Piece;
 pub use random::{random, Profile};
 pub use small::SmallTrees;

@@ -9,8 +9,10 @@
 //! that fit are kept, and those that give equal trees are one.
 
 use crate::codes::*;
+use crate::forms::{self, LINK};
 use crate::rules::*;
-use oracle::forms::{self, LINK};
+use crate::sizes::NODE_CELLS;
+use crate::table::FIRST;
 
 /// A node of a tree; operands are positions in the chart's nodes.
 #[derive(Copy, Clone, PartialEq, Eq, Debug)]
@@ -197,7 +199,7 @@ impl Chart {
         if matches!(before, Some(OPEN | COMMA)) {
             self.lists(Class::Expression, Class::ExpressionList, from, to, starts);
         }
-        if matches!(before, Some(LT | COMMA)) {
+        if matches!(before, Some(LESS | COMMA)) {
             self.lists(Class::Type, Class::TypeList, from, to, starts);
         }
         for (class, start) in starts.into_iter().enumerate() {
@@ -232,7 +234,7 @@ impl Chart {
                 }
             }
         }
-        if first == 5 && self.rules.has(Change::AndIsTwoReferences) {
+        if first == AND_AND && self.rules.has(Change::AndIsTwoReferences) {
             for index in self.of(Expression, from + 1, to) {
                 let operand = self.at(Expression, index);
                 if operand.level >= PREFIX {
@@ -307,7 +309,7 @@ impl Chart {
             DOT if cut + 2 == to => {
                 let (node, end) = match self.tokens[cut + 1] {
                     NAME => (one(forms::FIELD, 0), End::DotName),
-                    NUMBERED => (one(forms::FIELD, 1), End::Other),
+                    MEMBER => (one(forms::FIELD, 1), End::Other),
                     AWAIT => (one(forms::AWAIT, 0), End::Other),
                     _ => return,
                 };
@@ -322,7 +324,7 @@ impl Chart {
                 let barred = match left.end {
                     End::DotName => !self.rules.has(Change::FieldIsCalled),
                     _ => {
-                        self.tokens[cut - 1] == NUMBERED
+                        self.tokens[cut - 1] == MEMBER
                             && self.rules.has(Change::NumberedIsNotCalled)
                     }
                 };
@@ -379,7 +381,7 @@ impl Chart {
                 self.add(Type, start, node, TIGHTEST, operand.end);
             }
         }
-        if to - from >= 3 && (first, self.tokens[from + 1], last) == (NAME, LT, GT) {
+        if to - from >= 3 && (first, self.tokens[from + 1], last) == (NAME, LESS, GREATER) {
             let end = match self.rules.has(Change::NoLessAfterTypeArguments) {
                 true => End::TypeName,
                 false => End::Other,
@@ -463,12 +465,12 @@ impl Chart {
             let node = self.nodes[tree as usize];
             let start = cells.len();
             if let Some(place) = owner {
-                cells[place] = (start / 5 + 1) as u16;
+                cells[place] = (start / NODE_CELLS + 1) as u16;
             }
             cells.extend([node.form, 0, node.detail, 0, 0]);
             for place in [1, 0] {
                 if let Some(operand) = node.operands[place] {
-                    waiting.push((operand, Some(start + 3 + place)));
+                    waiting.push((operand, Some(start + FIRST + place)));
                 }
             }
         }
@@ -489,7 +491,7 @@ mod tests {
         chart.read(&tokens);
         let readings = chart.readings();
         assert!(readings.len() < 2, "{text}");
-        readings.first().map(|table| table.chunks(5).map(|node| node[0]).collect())
+        readings.first().map(|table| table.chunks(NODE_CELLS).map(|node| node[0]).collect())
     }
 
     fn code(word: &str) -> u16 {

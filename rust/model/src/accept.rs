@@ -1,9 +1,10 @@
 //! Which node tables document 01 accepts: refusals 3, 4 and 6 to 11.
 //!
-//! The oracle takes accepted trees only. This check guards the command line and
-//! says in tests that the generators make nothing else.
+//! The library is held against this. The oracle takes accepted trees only: there it
+//! guards the command line, and says in tests that the generators make nothing else.
 
 use crate::forms::{self, Class, Place};
+use crate::sizes::{LAST_CONTEXT, MOST_LEVELS, MOST_NODES, NODE_CELLS};
 use crate::table::{node, Node, NodeTable};
 
 /// Whether a refusal applies to the nodes of a table.
@@ -11,14 +12,14 @@ type Test = fn(&[Node]) -> bool;
 
 /// The first refusal that applies to a node table, 0 if none does.
 pub fn refusal(table: &NodeTable) -> u16 {
-    if table.context > 3 {
+    if table.context > LAST_CONTEXT {
         return 3;
     }
-    let count = table.count;
-    if count == 0 || count > 4_096 || table.cells.len() < 5 * count as usize {
+    let count = usize::from(table.count);
+    if !(1..=MOST_NODES).contains(&count) || table.cells.len() < NODE_CELLS * count {
         return 4;
     }
-    let nodes: Vec<Node> = (1..=count).map(|number| node(&table.cells, number)).collect();
+    let nodes: Vec<Node> = (1..=table.count).map(|number| node(&table.cells, number)).collect();
     let refusals: [(u16, Test); 6] = [
         (6, label_is_not_allowed),
         (7, operand_is_misplaced),
@@ -106,14 +107,14 @@ fn body_of_closure_is_no_plain_block(nodes: &[Node]) -> bool {
 
 fn path_is_too_long(nodes: &[Node]) -> bool {
     // An owner's number is below its operands', so one pass meets owners first.
-    let mut depths = vec![0u32; nodes.len() + 1];
+    let mut depths = vec![0; nodes.len() + 1];
     for (at, node) in nodes.iter().enumerate() {
-        depths[at + 1] += u32::from(node.form != forms::LINK);
+        depths[at + 1] += usize::from(node.form != forms::LINK);
         for operand in node.operands {
             if operand != 0 {
                 depths[operand as usize] = depths[at + 1];
             }
         }
     }
-    depths.iter().any(|&depth| depth > 128)
+    depths.iter().any(|&depth| depth > MOST_LEVELS)
 }

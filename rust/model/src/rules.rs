@@ -2,14 +2,14 @@
 //! be changed to see who notices.
 
 use crate::codes::*;
-use oracle::forms;
+use crate::forms;
 
 /// How tightly an expression holds together, loosest first.
 pub type Level = u8;
 
 pub const ASSIGNMENT: Level = 0;
-pub const OR: Level = 1;
-pub const AND: Level = 2;
+pub const OR_LEVEL: Level = 1;
+pub const AND_LEVEL: Level = 2;
 pub const COMPARISON: Level = 3;
 pub const BIT_OR_LEVEL: Level = 4;
 pub const BIT_XOR_LEVEL: Level = 5;
@@ -119,8 +119,8 @@ impl Rules {
         let level = match code {
             0 | 1 => SUM,
             2..=4 => PRODUCT,
-            5 => AND,
-            6 => OR,
+            5 => AND_LEVEL,
+            6 => OR_LEVEL,
             7 => BIT_XOR_LEVEL,
             8 => BIT_AND_LEVEL,
             9 => BIT_OR_LEVEL,
@@ -147,9 +147,9 @@ impl Rules {
     /// Whether a code straight after a type name is no operator.
     pub fn not_after_type_name(&self, code: u16) -> bool {
         match code {
-            LT => !self.has(Change::LessAfterTypeName),
-            SHL => !self.has(Change::ShiftAfterTypeName),
-            14 => self.has(Change::NoLessOrEqualAfterTypeName),
+            LESS => !self.has(Change::LessAfterTypeName),
+            SHIFT_LEFT => !self.has(Change::ShiftAfterTypeName),
+            LESS_OR_EQUAL => self.has(Change::NoLessOrEqualAfterTypeName),
             _ => false,
         }
     }
@@ -162,10 +162,10 @@ impl Rules {
     /// The form and the detail of a prefix.
     pub fn prefix(&self, code: u16) -> Option<(u16, u16)> {
         match code {
-            MUL => Some((forms::UNARY, 0)),
+            STAR => Some((forms::UNARY, 0)),
             NOT => Some((forms::UNARY, 1)),
-            SUB => Some((forms::UNARY, 2)),
-            BIT_AND => Some((forms::REFERENCE, 0)),
+            MINUS => Some((forms::UNARY, 2)),
+            AND => Some((forms::REFERENCE, 0)),
             AND_MUT => Some((forms::REFERENCE, 1)),
             _ => None,
         }
@@ -174,9 +174,9 @@ impl Rules {
     /// The form and the detail of what stands before a type and makes one.
     pub fn type_prefix(&self, code: u16) -> Option<(u16, u16)> {
         match code {
-            POINTER_CONST => Some((forms::TYPE_PTR, 0)),
-            POINTER_MUT => Some((forms::TYPE_PTR, 1)),
-            BIT_AND => Some((forms::TYPE_REFERENCE, 0)),
+            STAR_CONST => Some((forms::TYPE_PTR, 0)),
+            STAR_MUT => Some((forms::TYPE_PTR, 1)),
+            AND => Some((forms::TYPE_REFERENCE, 0)),
             AND_MUT => Some((forms::TYPE_REFERENCE, 1)),
             _ => None,
         }

@@ -1,0 +1,29 @@
+//! Document 01 in Rust, stated without the library: what tests and tools hold the
+//! library against, and what they make trees with.
+//!
+//! Nothing here links the library or asks it anything, and nothing here comes from
+//! prettyplease's files.
+//!
+//! - [`sizes`], [`forms`], [`codes`] and [`precedence`] are tables; the crate
+//!   `tezhukor` takes them from here.
+//! - [`table`] and [`accept`] are node tables, tree files and their refusals.
+//! - [`rules`], [`chart`] and [`verdict`] are the plain grammar: all readings of a
+//!   token list, found by cutting it. [`written`] says what is written for a tree.
+//! - [`generate`] makes accepted trees, [`recorded`] reads recorded answers, and
+//!   [`lent`] makes buffers that show what was written to them.
+
+pub mod accept;
+pub mod chart;
+pub mod codes;
+pub mod forms;
+pub mod generate;
+pub mod lent;
+pub mod precedence;
+pub mod recorded;
+pub mod rules;
+pub mod sizes;
+pub mod table;
+pub mod verdict;
+pub mod written;
+
+pub use table::NodeTable;

@@ -1,0 +1,46 @@
+//! The numbers of tables, token lists and files, each by its name, once.
+
+/// Cells of a node in a node table: form, attributes, detail, first, second.
+pub const NODE_CELLS: usize = 5;
+
+/// Cells of a row: pair, precedence, previous operator, next operator, flags.
+pub const ROW_CELLS: usize = 5;
+
+/// Cells of scratch that deciding takes for a node.
+pub const SCRATCH_CELLS: usize = 3;
+
+/// Cells of a token in a token list.
+pub const TOKEN_CELLS: usize = 1;
+
+/// The most tokens that are written for a node.
+pub const TOKENS_PER_NODE: usize = 6;
+
+/// The most nodes of a table, list links included.
+pub const MOST_NODES: usize = 4_096;
+
+/// The most tokens of a list.
+pub const MOST_TOKENS: usize = 24_576;
+
+/// The most nodes of a path from the root, list links not counted.
+pub const MOST_LEVELS: usize = 128;
+
+/// The most bytes of a tree file.
+pub const MOST_FILE_BYTES: usize = 65_536;
+
+/// The largest code of a token.
+pub const LAST_CODE: u16 = 45;
+
+/// The last of the contexts that a header can name.
+pub const LAST_CONTEXT: u16 = 3;
+
+/// The last refusal.
+pub const LAST_REFUSAL: u16 = 16;
+
+/// A reply of one number is the refusal times this, or without one what was done.
+pub const REFUSAL_UNIT: u32 = 65_536;
+
+/// The reply to a file that is loaded is its context times this, and the count.
+pub const CONTEXT_UNIT: u16 = 8_192;
+
+/// Cells of the largest table.
+pub const MOST_CELLS: usize = NODE_CELLS * MOST_NODES;

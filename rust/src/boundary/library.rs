@@ -1,0 +1,93 @@
+//! The exports of the static libraries: of `answers` the first four, of `asked` the
+//! others. They are declared here only.
+
+extern "C" {
+    pub fn tezhukor_load(
+        file: *const u8,
+        file_length: usize,
+        table: *mut u16,
+        table_length: usize,
+    ) -> u32;
+
+    pub fn tezhukor_decide(
+        context: u16,
+        count: u16,
+        table: *const u16,
+        table_length: usize,
+        rows: *mut u16,
+        rows_length: usize,
+        scratch: *mut u16,
+        scratch_length: usize,
+    ) -> u16;
+
+    pub fn tezhukor_write(
+        context: u16,
+        count: u16,
+        table: *const u16,
+        table_length: usize,
+        tokens: *mut u16,
+        tokens_length: usize,
+    ) -> u32;
+
+    pub fn tezhukor_read(
+        tokens: *const u16,
+        tokens_length: usize,
+        table: *mut u16,
+        table_length: usize,
+    ) -> u32;
+
+    pub fn tezhukor_answer(
+        question: u16,
+        table: *const u16,
+        table_length: usize,
+        count: u16,
+        node: u16,
+    ) -> u16;
+
+    pub fn tezhukor_fixup_answer(
+        question: u16,
+        previous: u16,
+        next: u16,
+        flags: u16,
+        table: *const u16,
+        table_length: usize,
+        count: u16,
+        node: u16,
+    ) -> u16;
+
+    pub fn tezhukor_scan_right(
+        previous: u16,
+        next: u16,
+        flags: u16,
+        precedence: u16,
+        fail_offset: u16,
+        bailout_offset: u16,
+        table: *const u16,
+        table_length: usize,
+        count: u16,
+        node: u16,
+    ) -> u16;
+
+    pub fn tezhukor_context(
+        question: u16,
+        cell: u16,
+        previous: u16,
+        next: u16,
+        flags: u16,
+        first: u16,
+        second: u16,
+        precedence: u16,
+    ) -> u16;
+
+    pub fn tezhukor_handed(
+        question: u16,
+        cell: u16,
+        previous: u16,
+        next: u16,
+        flags: u16,
+        table: *const u16,
+        table_length: usize,
+        count: u16,
+        node: u16,
+    ) -> u16;
+}
