@@ -176,18 +176,20 @@ fn compare(
 
 const USAGE: &str = "usage:
   compare [SEED]           all questions and rows, on random and on small trees
+  compare short            the same on each 23rd of these trees, for the gate
   compare spines [FORMS]   rows of right spines of one to five forms, or of so many
   compare record FORMS     the same of one, two or three forms, and writes crates/spines/data
   compare nests            rows of nests of 128 levels, with the crate's scans kept";
 
 fn main() -> ExitCode {
     oracle::command::run(USAGE, |words| match *words {
-        [] => Some(compare_all(1)),
+        [] => Some(contexts::compare() + compare_trees(1, 1)),
+        ["short"] => Some(compare_trees(1, 23)),
         ["spines"] => Some((1..=spines::LONGEST).map(|forms| spines::compare(forms).0).sum()),
         ["spines", forms] => number(forms, spines::LONGEST).map(|forms| spines::compare(forms).0),
         ["record", forms] => number(forms, 3).map(record::record),
         ["nests"] => Some(nests::compare()),
-        [seed] => seed.parse().ok().map(compare_all),
+        [seed] => seed.parse().ok().map(|seed| contexts::compare() + compare_trees(seed, 1)),
         _ => None,
     })
 }
@@ -197,9 +199,10 @@ fn number(text: &str, largest: u32) -> Option<u32> {
     text.parse().ok().filter(|number| (1..=largest).contains(number))
 }
 
-/// All questions and rows, on the trees of a seed and on all small ones.
-fn compare_all(seed: u64) -> u64 {
-    let mut different = contexts::compare();
+/// All questions and rows, on each so many-th of the trees of a seed and of all small
+/// ones.
+fn compare_trees(seed: u64, step: usize) -> u64 {
+    let mut different = 0;
     let cases = &mut Cases::new();
     for (family, trees) in [
         (Family::Random, 200_000),
@@ -208,7 +211,7 @@ fn compare_all(seed: u64) -> u64 {
         (Family::Plain, 100_000),
     ] {
         let name = format!("{}, seed {seed}", family.name());
-        let tables = (0..trees).map(|at| family.tree(seed, at));
+        let tables = (0..trees).step_by(step).map(|at| family.tree(seed, at));
         different += compare(&name, seed, Roots::Own, tables, cases);
     }
     for (name, trees) in [
@@ -217,7 +220,7 @@ fn compare_all(seed: u64) -> u64 {
         ("narrow trees of up to 6 nodes", SmallTrees::narrow(6)),
     ] {
         // Each tree in the context that its number gives.
-        let tables = (0..trees.len()).map(|at| trees.tree((at % 4) as u16, at));
+        let tables = (0..trees.len()).step_by(step).map(|at| trees.tree((at % 4) as u16, at));
         different += compare(name, seed, Roots::All, tables, cases);
     }
     println!("contexts met {} of {}", cases.met(), 1 << 18);

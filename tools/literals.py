@@ -1,0 +1,169 @@
+#!/usr/bin/env python3
+"""Count the digits in the Rattle crates that should have names.
+
+    python3 tools/literals.py              a table by crate and kind, and the total
+    python3 tools/literals.py --list [KIND]    each place that counts
+    python3 tools/literals.py --allowed [KIND] each place that does not, with the reason
+
+Looks at src/, specs/ and proofs/ of each crate, comments left out. KINDS says what is
+looked for, ALLOWED which of it may stay as digits, and why. Fails if more than LIMIT
+are left.
+"""
+
+import re
+import sys
+from collections import Counter
+from fnmatch import fnmatch
+from pathlib import Path
+
+CRATES = Path(__file__).resolve().parent.parent / 'crates'
+
+# The most that may be left.
+LIMIT = 1201
+
+
+def number(*values):
+    """A number as it stands in .rt and .antt, and not as a part of a name or a projection."""
+    digits = '|'.join(re.sub(r'(?<=\d)(?=(\d{3})+$)', '_?', str(value)) for value in values)
+    return rf"(?<![\w.'′₀-])(?:{digits})(?![\w'′-]|\.\d)"
+
+
+def of(value):
+    """A number that multiplies or divides, or that a list is cut by or repeated with."""
+    n = number(value)
+    return rf'{n} \*|\* {n}|[/%] {n}|\+ {n}|\b(?:take|drop|times|splitAt|below-take \d+) {n}'
+
+
+def last(names, before, values):
+    """The last argument of a function, behind so many others: in antt and in Rattle."""
+    argument = r'(?:[\w.·′₀]+|\((?:[^()]|\([^()]*\))*\))'
+    antt = rf'\b(?:{names})' + rf' {argument}' * before + f' ({number(*values)})'
+    rattle = rf'\b(?:{names})\((?:[^()]|\([^()]*\))*, ({number(*values)})\)'
+    return f'{antt}|{rattle}'
+
+
+ANYWHERE = '*'
+TOKENS = 'token_*/* follow/*'
+
+# The kind, what its digits stand for, in which crates, and how they are found.
+KINDS = [
+    ('cells', 'cells of a node, cells of a row', ANYWHERE, of(5)),
+    ('scratch', 'cells of scratch for a node', ANYWHERE, f'{number(3)} \\*|\\btimes {number(3)}'),
+    ('a node', 'tokens that are written for a node', ANYWHERE, f'{number(6)} \\*|\\btimes {number(6)}'),
+    ('nodes', 'the most nodes of a table', ANYWHERE, number(4096, 4097)),
+    ('tokens', 'the most tokens of a list, and cells of the nodes that they make', ANYWHERE, number(24576, 24577, 122880)),
+    ('table', 'cells of the largest table', ANYWHERE, number(20480)),
+    ('levels', 'the most levels of a tree', ANYWHERE, number(128, 129)),
+    ('bytes', 'the most bytes of a file', ANYWHERE, number(65536, 65537)),
+    ('last', 'the last code, and the end of a list', ANYWHERE, number(45, 46, 47)),
+    (
+        'place',
+        'where a cell stands in a node',
+        ANYWHERE,
+        '|'.join([
+            last('cellAt', 2, range(5)),
+            last('operandAt', 3, [3, 4]),
+            last('cell|operand_at|operand_number', 9, range(5)),
+            rf'\[\w+ \+ {number(1, 2, 3, 4)}\]',
+            rf'\(?k ≡ {number(3, 4)}\)',
+        ]),
+    ),
+    ('code', 'codes of tokens and levels, where tokens are read and written', TOKENS, number(*range(13, 45))),
+    ('code', 'codes that a match in the code tells apart', 'token_*/src/* follow/src/*', rf'^\s*{number(*range(13))}(?:\.\.=\d+)?(?: \| \d+)* =>'),
+]
+
+# The kind, the files, the text that the digits stand in (the whole line if none is given), and why they stay.
+ALLOWED = [
+    ('*', '*', r'^\s*(pub )?const \w+: \w+ = [\d_]+;', 'the definition of the name, in the code'),
+    ('*', '*/specs/*', r'^(nodeCells|rowCells|scratchCells|tokenCells|tokensPerNode|most\w+|lastCode|\w*[eE]nd\w*) = \d+', 'the definition of the name, in the specs'),
+    ('*', '*/specs/Cases.antt', '', 'an example'),
+    ('last', '*/specs/Forms.antt', r'^Type\w+ = \d+', 'the table of forms'),
+    ('last', '*/specs/Tokens.antt', r'^code \w+ = \d+', 'the table of codes'),
+    ('*', '*/proofs/*', r'^(expressions|types) = [\d ∷]+', 'forms, in the proof of a table over them'),
+    ('last', '*/proofs/*', r'eqb f 10\)\) \(\d+ ∷|suits f d.* \(\d+ ∷', 'forms, in the proof of a table over them'),
+    ('code', '*', r'[Rr]efuse[ds]?[ (]\d+', 'the number of a refusal'),
+    ('code', '*/proofs/*', r'pick(-true|-false)? (\(refusal.*\) )?1[23] |\) 13 0', 'the number of a refusal'),
+    ('code', '*/proofs/*', r'_ \d+ tt', 'the place of a row in its table'),
+    ('code', '*/src/*', r'1 \| 3 => true', 'the pairs of a row, which are no codes'),
+    ('levels', 'numbers/*', '', 'the base of the groups of seven bits'),
+    ('place', 'numbers/*', '', 'a byte of a number'),
+    ('levels', 'one_pass/*', r'row / 128 % 8', 'a part of a number that holds a row of the table of forms'),
+    ('levels', 'pack/*', '', 'the weight of a flag'),
+    ('a node', 'text/* tokens/*', '', 'the most bytes of a number with its space'),
+    ('bytes', '*/proofs/*', r'65536 - ', 'what a loop counts down from: all numbers of two bytes'),
+    ('bytes', 'answers/*', r'65536 \*', 'a refusal as a part of one number'),
+    ('bytes', 'recorded/src/* spines/src/*', '', 'the weight of a byte'),
+]
+
+
+def code(path):
+    """The lines of a file without comments."""
+    sign = '//' if path.suffix == '.rt' else '--'
+    for at, line in enumerate(path.read_text().splitlines(), 1):
+        yield at, re.sub(rf'(^|\s){sign}.*', '', line)
+
+
+def places():
+    """Each digit that is looked for: crate, kind, file, line, text, and the reason if it is allowed."""
+    files = sorted(p for end in ('rt', 'antt') for p in CRATES.glob(f'*/*/**/*.{end}'))
+    for path in files:
+        name = str(path.relative_to(CRATES))
+        crate, part = name.split('/')[:2]
+        if part not in ('src', 'specs', 'proofs'):
+            continue
+        kinds = [kind for kind in KINDS if is_in(name, kind[2])]
+        for at, line in code(path):
+            for kind, _, _, pattern in kinds:
+                for match in re.finditer(pattern, line):
+                    yield crate, kind, name, at, line.strip(), reason(kind, name, line, match)
+
+
+def is_in(name, files):
+    """Whether a file is one of some, given by their patterns."""
+    return any(fnmatch(name, pattern) for pattern in files.split())
+
+
+def reason(kind, name, line, match):
+    """Why digits of a kind may stand there, if they may."""
+    for allowed, files, text, why in ALLOWED:
+        if allowed in ('*', kind) and is_in(name, files):
+            around = re.finditer(text or '.*', line)
+            if any(found.start() < match.end() and match.start() < found.end() for found in around):
+                return why
+    return None
+
+
+def table(left):
+    """A line for each crate, a column for each kind."""
+    kinds = list(dict.fromkeys(kind for kind, *_ in KINDS))
+    counts = Counter((crate, kind) for crate, kind, *_ in left)
+    crates = sorted({crate for crate, _ in counts})
+    row = '{:15}' + ' {:>7}' * (len(kinds) + 1)
+    print(row.format('crate', *kinds, 'all'))
+    for crate in crates:
+        numbers = [counts[crate, kind] for kind in kinds]
+        print(row.format(crate, *(n or '' for n in numbers), sum(numbers)))
+    sums = [sum(counts[crate, kind] for crate in crates) for kind in kinds]
+    print(row.format('all', *sums, sum(sums)))
+
+
+def main(arguments):
+    found = list(places())
+    left = [place for place in found if place[-1] is None]
+    if arguments[:1] in (['--list'], ['--allowed']):
+        for crate, kind, name, at, line, why in found:
+            if (why is None) == (arguments[0] == '--list') and arguments[1:2] in ([], [kind]):
+                print(f'{kind}: {name}:{at}: {line[:150]}' + (f'   [{why}]' if why else ''))
+        return 0
+    table(left)
+    allowed = Counter(place[-1] for place in found if place[-1])
+    print('\nallowed:')
+    for why, times in allowed.most_common():
+        print(f'{times:5}  {why}')
+    print('\nkinds: ' + '; '.join(f'{kind}, {what}' for kind, what, *_ in KINDS))
+    print(f'{len(left)} digits without a name, at most {LIMIT}')
+    return int(len(left) > LIMIT)
+
+
+if __name__ == '__main__':
+    sys.exit(main(sys.argv[1:]))
