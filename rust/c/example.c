@@ -9,26 +9,34 @@
 static const uint8_t file[] = {0, 5, 5, 0, 1, 2, 3, 26, 0, 0, 0, 0, 5, 0, 1, 4, 5,
                                26, 0, 0, 0, 0, 26, 0, 0, 0, 0};
 
-static uint16_t table[5 * TEZHUKOR_MOST_NODES];
-static uint16_t again[5 * TEZHUKOR_MOST_NODES];
+enum {
+    NODES = 5, /* of the file */
+    CELLS = TEZHUKOR_NODE_CELLS * TEZHUKOR_MOST_NODES,
+    ROWS = TEZHUKOR_ROW_CELLS * NODES,
+    SCRATCH = TEZHUKOR_SCRATCH_CELLS * NODES,
+    TOKENS = TEZHUKOR_TOKENS_PER_NODE * NODES
+};
+
+static uint16_t table[CELLS];
+static uint16_t again[CELLS];
 
 int main(void) {
-    uint16_t rows[25], scratch[15], tokens[30];
-    uint32_t loaded = tezhukor_load(file, sizeof file, table, 5 * TEZHUKOR_MOST_NODES);
+    uint16_t rows[ROWS], scratch[SCRATCH], tokens[TOKENS];
+    uint32_t loaded = tezhukor_load(file, sizeof file, table, CELLS);
     if (TEZHUKOR_REFUSAL(loaded) != 0) {
         printf("refused %u\n", (unsigned)TEZHUKOR_REFUSAL(loaded));
         return 1;
     }
     uint16_t context = TEZHUKOR_CONTEXT(loaded), count = TEZHUKOR_COUNT(loaded);
-    size_t cells = 5 * (size_t)count;
-    if (tezhukor_decide(context, count, table, cells, rows, 25, scratch, 15) != 0) return 1;
+    size_t cells = TEZHUKOR_NODE_CELLS * (size_t)count;
+    if (tezhukor_decide(context, count, table, cells, rows, ROWS, scratch, SCRATCH) != 0) return 1;
     for (unsigned node = 1; node <= count; node++)
-        if (rows[5 * (node - 1)] & 1) printf("node %u needs a pair\n", node);
-    uint32_t written = tezhukor_write(context, count, table, cells, tokens, 30);
+        if (rows[TEZHUKOR_ROW_CELLS * (node - 1)] & 1) printf("node %u needs a pair\n", node);
+    uint32_t written = tezhukor_write(context, count, table, cells, tokens, TOKENS);
     printf("tokens");
     for (uint32_t at = 0; at < written; at++) printf(" %u", (unsigned)tokens[at]);
     printf("\n");
-    uint32_t nodes = tezhukor_read(tokens, written, again, 5 * TEZHUKOR_MOST_NODES);
+    uint32_t nodes = tezhukor_read(tokens, written, again, CELLS);
     int same = nodes == count && memcmp(table, again, 2 * cells) == 0;
     printf("read back %s\n", same ? "the same" : "another");
     /* Without a buffer: told, and nothing followed. */

@@ -37,6 +37,11 @@
 extern "C" {
 #endif
 
+/* Cells that a node takes in a table, in rows and in scratch, and tokens at the most. */
+#define TEZHUKOR_NODE_CELLS 5
+#define TEZHUKOR_ROW_CELLS 5
+#define TEZHUKOR_SCRATCH_CELLS 3
+#define TEZHUKOR_TOKENS_PER_NODE 6
 #define TEZHUKOR_MOST_NODES 4096
 #define TEZHUKOR_MOST_TOKENS 24576
 
@@ -65,8 +70,8 @@ uint16_t tezhukor_decide(uint16_t context, uint16_t count, const uint16_t *table
 uint32_t tezhukor_write(uint16_t context, uint16_t count, const uint16_t *table,
                         size_t table_length, uint16_t *tokens, size_t tokens_length);
 
-/* Reads a token list into a table of at least 20,480 cells. Replies the refusal times
- * 65,536 (12, 14 to 16), or the number of nodes.
+/* Reads a token list into a table with room for the most nodes. Replies the refusal
+ * times 65,536 (12, 14 to 16), or the number of nodes.
  * It was measured to take up to 4.0 MiB of stack, for the longest lists (docs/PERFORMANCE.md). */
 uint32_t tezhukor_read(const uint16_t *tokens, size_t tokens_length, uint16_t *table,
                        size_t table_length);

@@ -1,0 +1,133 @@
+//! The numbers of `sizes`, held against whatever else states them: the C header, the
+//! sentences of refusals, and definitions of the same names in `crates/`.
+
+use std::collections::HashMap;
+use std::path::{Path, PathBuf};
+use tezhukor::sizes::*;
+use tezhukor::{codes, Refusal};
+
+/// The numbers by name.
+const SIZES: [(&str, usize); 11] = [
+    ("NODE_CELLS", NODE_CELLS),
+    ("ROW_CELLS", ROW_CELLS),
+    ("SCRATCH_CELLS", SCRATCH_CELLS),
+    ("TOKEN_CELLS", TOKEN_CELLS),
+    ("TOKENS_PER_NODE", TOKENS_PER_NODE),
+    ("MOST_NODES", MOST_NODES),
+    ("MOST_TOKENS", MOST_TOKENS),
+    ("MOST_LEVELS", MOST_LEVELS),
+    ("MOST_FILE_BYTES", MOST_FILE_BYTES),
+    ("LAST_CODE", LAST_CODE as usize),
+    ("MOST_CELLS", MOST_CELLS),
+];
+
+fn root() -> PathBuf {
+    Path::new(env!("CARGO_MANIFEST_DIR")).join("..")
+}
+
+/// A number as it is written in Rust, Rattle, antt and C.
+fn number(text: &str) -> Option<usize> {
+    text.trim_end_matches(';').replace('_', "").parse().ok()
+}
+
+/// A name as specs spell it: NODE_CELLS is nodeCells.
+fn in_specs(name: &str) -> String {
+    let words = name.split('_').enumerate().map(|(at, word)| {
+        let small = word.to_lowercase();
+        if at == 0 {
+            small
+        } else {
+            word[..1].to_string() + &small[1..]
+        }
+    });
+    words.collect()
+}
+
+/// The name and the number that a line defines: `NAME = NUMBER` in specs, `const NAME:
+/// TYPE = NUMBER;` in code.
+fn defined(line: &str) -> Option<(&str, usize)> {
+    let words: Vec<&str> = line.split_whitespace().filter(|word| *word != "pub").collect();
+    match words[..] {
+        [name, "=", value] | ["const", name, _, "=", value] => {
+            Some((name.trim_end_matches(':'), number(value)?))
+        }
+        _ => None,
+    }
+}
+
+/// All files below a folder with that ending.
+fn files(folder: &Path, ending: &str) -> Vec<PathBuf> {
+    let entries = std::fs::read_dir(folder).into_iter().flatten().flatten();
+    let found = entries.flat_map(|entry| match entry.path() {
+        path if path.is_dir() => files(&path, ending),
+        path if path.extension().is_some_and(|found| found == ending) => vec![path],
+        _ => vec![],
+    });
+    found.collect()
+}
+
+/// Where `crates/` defines one of the names, it is that number, and it does so once.
+#[test]
+fn crates_agree() {
+    for (part, ending) in [("specs", "antt"), ("src", "rt")] {
+        let mut times: HashMap<&str, usize> = HashMap::new();
+        for path in files(&root().join("crates"), ending) {
+            if !path.components().any(|folder| folder.as_os_str() == part) {
+                continue;
+            }
+            let text = std::fs::read_to_string(&path).expect("a readable file");
+            for (found, value) in text.lines().filter_map(defined) {
+                let same = |(name, _): &&(&str, usize)| *name == found || in_specs(name) == found;
+                if let Some((name, size)) = SIZES.iter().find(same) {
+                    assert_eq!(value, *size, "{found} in {}", path.display());
+                    *times.entry(name).or_default() += 1;
+                    assert_eq!(times[name], 1, "{found} again in {}", path.display());
+                }
+            }
+        }
+        println!("{part} define {} of {} numbers", times.len(), SIZES.len());
+    }
+}
+
+#[test]
+fn the_header_agrees() {
+    let path = root().join("rust/include/tezhukor.h");
+    let text = std::fs::read_to_string(path).expect("the header");
+    let mut defined: Vec<(&str, usize)> = text
+        .lines()
+        .filter_map(|line| {
+            let (name, value) = line.strip_prefix("#define TEZHUKOR_")?.split_once(' ')?;
+            Some((name, number(value)?))
+        })
+        .collect();
+    defined.sort();
+    let meant = ["MOST_NODES", "MOST_TOKENS", "NODE_CELLS", "ROW_CELLS", "SCRATCH_CELLS"];
+    let names: Vec<&str> = defined.iter().map(|found| found.0).collect();
+    assert_eq!(names, [&meant[..], &["TOKENS_PER_NODE"]].concat());
+    assert!(defined.iter().all(|found| SIZES.contains(found)), "{defined:?}");
+}
+
+/// The sentences name the numbers, with commas between thousands.
+#[test]
+fn sentences_agree() {
+    let spelled = |number: usize| match number {
+        0..=999 => number.to_string(),
+        _ => format!("{},{:03}", number / 1_000, number % 1_000),
+    };
+    for (refusal, number) in [
+        (Refusal::FileTooLong, MOST_FILE_BYTES),
+        (Refusal::Context, LAST_CONTEXT.into()),
+        (Refusal::Count, MOST_NODES),
+        (Refusal::Depth, MOST_LEVELS),
+        (Refusal::Tokens, MOST_TOKENS),
+        (Refusal::Tokens, LAST_CODE.into()),
+        (Refusal::ReadingTooLarge, MOST_NODES),
+        (Refusal::ReadingTooLarge, MOST_LEVELS),
+    ] {
+        assert!(refusal.sentence().contains(&spelled(number)), "{number}: {refusal}");
+    }
+    assert_eq!(MOST_TOKENS, TOKENS_PER_NODE * MOST_NODES);
+    assert_eq!(codes::SPELLED.len(), usize::from(LAST_CODE) + 1);
+    assert_eq!(Refusal::numbered(LAST_REFUSAL), Some(Refusal::ReadingTooLarge));
+    assert_eq!(Refusal::numbered(LAST_REFUSAL + 1), None);
+}
