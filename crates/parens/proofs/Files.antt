@@ -7,7 +7,7 @@ use lib.ListN.{length, take, replicate, length-replicate}
 use Rattle.rules.specs.Refusals.{refusal}
 use Rattle.tree_file.specs.declared.Loaded.the-variants.{Refused, Accepted}
 use Rattle.tree_file.specs.Files.{loaded, loadedTable}
-use Rattle.tree_file.proofs.Loading.{stored-cells}
+use Rattle.tree_file.proofs.Loading.{count-most, stored-room, stored-cells, not-refused}
 use Rattle.walk.specs.Walk.{rootHanded, rowsAfter}
 use Rattle.walk.proofs.Replies.{done}
 use Rattle.text.specs.Numbers.{headed}
@@ -23,11 +23,28 @@ rows-placed context count cells rows scratch after ok most zeros long e =
 
 -- ---- the answers of the loader
 
-module _ (file table : List ℕ) (room : length table ≡ 20480) where
-  pub printed-refusal : (n : ℕ) → Refused n ≡ loaded file (length table) → headed 110 111 n ≡ printed file
+-- the table as it is lent
+abbrev zeros : List ℕ
+zeros = replicate 20480 0
+
+room : length zeros ≡ 20480
+room = length-replicate {A = ℕ} 20480 0
+
+module _ (file after : List ℕ) (stores : after ≡ loadedTable file zeros) where
+  pub printed-refusal : (n : ℕ) → Refused n ≡ loaded file (length zeros) → headed 110 111 n ≡ printed file
   unfolding printed answered
   printed-refusal n e = rw (← room, ← e)
 
-  pub printed-rows : (context count : ℕ) → Accepted context count ≡ loaded file (length table) → acceptedText context count (take (5 * count) (loadedTable file table)) ≡ printed file
-  unfolding printed answered
-  printed-rows context count e = rw (stored-cells file table context count e (omega arith), ← room, ← e)
+  module _ (context count : ℕ) (e : Accepted context count ≡ loaded file (length zeros)) where
+    -- the file's numbers are within the table
+    pub cells-within : 5 * count ≤ length after
+    cells-within = rw stores (stored-room file zeros context count e (omega (arith, room)))
+
+    -- and are what `put_rows` requires
+    pub cells-accepted : (refusal context count (take (5 * count) after) ≡ 0) × (count ≤ 4096)
+    cells-accepted =
+        (rw stores (not-refused file zeros context count e (omega (arith, room))), count-most file zeros context count e (omega (arith, room)))
+
+    pub printed-rows : acceptedText context count (take (5 * count) after) ≡ printed file
+    unfolding printed answered
+    printed-rows = rw (stores, stored-cells file zeros context count e (omega (arith, room)), ← room, ← e)

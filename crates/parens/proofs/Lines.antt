@@ -1,15 +1,19 @@
--- Laws of lines, a step at a time. Assumes nothing.
+-- Laws of the lines of nodes. Assumes nothing.
 use mathlib.Core.Path.{_≡_}
-use mathlib.Core.List.{List, [], _++_}
-use Prim.Native.Nat.{ℕ, suc, _+_}
+use mathlib.Core.Bool.{Bool, true, false}
+use mathlib.Core.List.{List, []}
+use Prim.Native.Nat.{ℕ, _≤_}
 use native.Mathlib.Omega.{arith}
+use lib.Dec.{eqb}
+use lib.ListN.{length, getD}
 use borrow.Author.Tests.{eq-eqb, ne-eqb}
+use Rattle.laws.specs.Choice.{pick}
 use Rattle.laws.proofs.Choice.{pick-true, pick-false}
 use Rattle.tree.specs.Forms.{anExpression, classOf}
 use Rattle.tree.specs.Operands.{formIn}
-use Rattle.text.specs.Growth.{Added}
-use Rattle.text.proofs.Growing.{added-more}
-use Rattle.parens.specs.Text.{lineOf, nodeText, linesOf}
+use Rattle.text.specs.Numbers.{rowLine}
+use Rattle.text.proofs.Rows.{row-most}
+use Rattle.parens.specs.Text.{nodeText}
 
 module _ (count : ℕ) (cells rows : List ℕ) where
   module _ (i class : ℕ) (is : class ≡ classOf (formIn cells count i)) where
@@ -17,14 +21,15 @@ module _ (count : ℕ) (cells rows : List ℕ) where
     unfolding nodeText
     no-line h = rw (← is) (pick-false _ _ (ne-eqb class anExpression h))
 
-    pub a-line : class ≡ anExpression → nodeText count cells rows i ≡ lineOf rows i
+    pub a-line : class ≡ anExpression → nodeText count cells rows i ≡ rowLine 5 rows i
     unfolding nodeText
     a-line h = rw (← is) (pick-true _ _ (eq-eqb class anExpression h))
 
-  lines-next : (n : ℕ) → linesOf count cells rows (n + 1) ≡ linesOf count cells rows n ++ nodeText count cells rows (n + 1)
-  unfolding linesOf
-  lines-next n = let e : n + 1 ≡ suc n = omega arith in rw e
-
-  -- a text that has grown by the lines of n nodes grows by the next one's
-  pub lines-more : (n : ℕ) {before after last : List ℕ} {end mid r : ℕ} → Added before end (linesOf count cells rows n) after mid → Added after mid (nodeText count cells rows (n + 1)) last r → Added before end (linesOf count cells rows (n + 1)) last r
-  lines-more n a b = rw (lines-next n) (added-more a b)
+  -- of no more bytes than a row
+  pub node-most : ((i : ℕ) → getD rows i 0 ≤ 65535) → (i : ℕ) → i ≤ 65535 → length (nodeText count cells rows i) ≤ 36
+  unfolding nodeText pick
+  node-most fit i h = go (eqb (classOf (formIn cells count i)) anExpression)
+    where
+      go : (b : Bool) → length (pick b (rowLine 5 rows i) []) ≤ 36
+      go true = row-most rows fit i h
+      go false = omega arith

@@ -4,16 +4,16 @@ use labels::form::class_of;
 use libc::STDIN_FILENO;
 use libc::STDOUT_FILENO;
 use text::put_head;
-use text::put_line;
+use text::put_row;
 use tree::table::form_at;
 use tree_file::Loaded;
 ghost use mathlib.Core.Path.{_≡_};
-ghost use Prim.Native.Nat.{_+_, _*_, _≤_};
+ghost use Prim.Native.Nat.{_≤_};
 ghost use lib.ListN.{length, take};
 ghost use Rattle.io.specs.Counts.{Counts};
 ghost use Rattle.rules.specs.Refusals.{refusal};
-ghost use Rattle.text.specs.Growth.{Added};
-ghost use Rattle.parens.specs.Text.{lineOf, nodeText, linesOf, acceptedText, printed};
+ghost use Rattle.text.specs.Growth.{Grown, Added};
+ghost use Rattle.parens.specs.Text.{nodeText, linesOf, allLines, acceptedText, printed};
 
 // One byte more than the longest file, so that a longer one shows.
 const FILE: usize = 65_537;
@@ -28,33 +28,18 @@ const TEXT: usize = 147_465;
 
 // ---- lines
 
-// The line of a node: its number, and the five cells of its row.
-fn put_row(out: &mut [u8], end: usize, rows: &[u16], node: u16) -> usize
-    requires { ⌜ (1 ≤ node) × (5 * node ≤ length (now rows)) × (end + 36 ≤ length (now out)) ⌝ }
-    ensures { λ r. ⌜ Added (now (out .entry)) end (lineOf (now (rows .entry)) node) (now (out .exit)) r ⌝ }
-    ensures { λ r. ⌜ r ≤ end + 36 ⌝ }
-{
-    let from = 5 * ((node - 1) as usize);
-    let to = from + 5;
-    put_line(out, end, node, &rows[from..to])
-}
-
-// The line of an expression; nothing for another node.
+// The line of an expression, its number and the five cells of its row; nothing for another node.
 fn put_node(out: &mut [u8], end: usize, count: u16, table: &[u16], rows: &[u16], node: u16) -> usize
-    requires { ⌜ (1 ≤ node) × (5 * node ≤ length (now rows)) × (end + 36 ≤ length (now out)) ⌝ }
-    ensures { λ r. ⌜ Added (now (out .entry)) end (nodeText count (now (table .entry)) (now (rows .entry)) node) (now (out .exit)) r ⌝ }
-    ensures { λ r. ⌜ r ≤ end + 36 ⌝ }
+    ensures { λ r. ⌜ Grown (now (out .entry)) end (nodeText count (now (table .entry)) (now (rows .entry)) node) (now (out .exit)) r ⌝ }
 {
     if class_of(form_at(table, count, node)) != 1 {
         return end;
     }
-    put_row(out, end, rows, node)
+    put_row(out, end, node, 5, rows)
 }
 
 fn put_lines(out: &mut [u8], end: usize, count: u16, table: &[u16], rows: &[u16]) -> usize
-    requires { ⌜ (5 * count ≤ length (now rows)) × (end + 36 * count ≤ length (now out)) ⌝ }
-    ensures { λ r. ⌜ Added (now (out .entry)) end (linesOf count (now (table .entry)) (now (rows .entry)) count) (now (out .exit)) r ⌝ }
-    ensures { λ r. ⌜ r ≤ end + 36 * count ⌝ }
+    ensures { λ r. ⌜ Grown (now (out .entry)) end (linesOf count (now (table .entry)) (now (rows .entry)) count) (now (out .exit)) r ⌝ }
 {
     let mut at = end;
     let mut node = 0;
@@ -65,19 +50,26 @@ fn put_lines(out: &mut [u8], end: usize, count: u16, table: &[u16], rows: &[u16]
     at
 }
 
+// The first line, and the lines of all nodes.
+fn put_all(out: &mut [u8], count: u16, table: &[u16], rows: &[u16]) -> usize
+    requires { ⌜ (count ≤ 4096) × (147465 ≤ length (now out)) ⌝ }
+    ensures { λ r. ⌜ Added (now (out .entry)) 0 (allLines count (now (table .entry)) (now (rows .entry))) (now (out .exit)) r ⌝ }
+{
+    let end = put_head(out, b'o', b'k', count);
+    put_lines(out, end, count, table, rows)
+}
+
 // ---- files
 
 // What is printed for an accepted table. It is not refused again: the walk's reply is 0.
 fn put_rows(out: &mut [u8], context: u16, count: u16, table: &[u16]) -> usize
     requires { ⌜ (refusal context count (now table) ≡ 0) × (count ≤ 4096) × (147465 ≤ length (now out)) ⌝ }
     ensures { λ r. ⌜ Added (now (out .entry)) 0 (acceptedText context count (now (table .entry))) (now (out .exit)) r ⌝ }
-    ensures { λ r. ⌜ r ≤ 147465 ⌝ }
 {
     let mut rows = [0u16; CELLS];
     let mut scratch = [0u16; SCRATCH];
     walk::decide(context, count, table, &mut rows, &mut scratch);
-    let end = put_head(out, b'o', b'k', count);
-    put_lines(out, end, count, table, &rows)
+    put_all(out, count, table, &rows)
 }
 
 // What is printed for a file, at the start of `out`.

@@ -1,21 +1,16 @@
 -- What `reading` prints for a file of codes, as ASCII codes.
 use mathlib.Core.Path.{_≡_}
-use mathlib.Core.List.{List, [], _++_}
-use Prim.Native.Nat.{ℕ, zero, suc, _*_, _-_}
-use lib.ListN.{take, drop, replicate}
+use mathlib.Core.List.{List, _++_}
+use Prim.Native.Nat.{ℕ}
+use lib.ListN.{replicate}
 use Rattle.token_reader.specs.declared.Reply.{Reply}
 use Rattle.token_reader.specs.declared.Reply.the-variants.{Refused, Nodes}
 use Rattle.token_reader.specs.Reading.{Answers}
-use Rattle.text.specs.Numbers.{line, headed}
+use Rattle.text.specs.Numbers.{rowLine, joined, headed}
 
--- the number of node i and its five numbers, which stand in `cells`
-unfoldable pub nodeText : List ℕ → ℕ → List ℕ
-nodeText cells i = line i (take 5 (drop (5 * (i - 1)) cells))
-
--- the lines of nodes 1 to n
-unfoldable pub nodesText : List ℕ → ℕ → List ℕ
-nodesText cells zero = []
-nodesText cells (suc n) = nodesText cells n ++ nodeText cells (suc n)
+-- the lines of nodes 1 to n: of each its number and its five numbers, which stand in `cells`
+abbrev pub nodesText : List ℕ → ℕ → List ℕ
+nodesText cells n = joined (rowLine 5 cells) n
 
 -- "ok" and the number of nodes, then their lines; 111 107 spell `ok`
 unfoldable pub tableText : List ℕ → ℕ → List ℕ

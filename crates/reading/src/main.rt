@@ -6,15 +6,15 @@
 use libc::STDIN_FILENO;
 use libc::STDOUT_FILENO;
 use text::put_head;
-use text::put_line;
+use text::put_row;
 use token_reader::Reply;
 ghost use mathlib.Core.Path.{_≡_};
-ghost use Prim.Native.Nat.{_*_, _≤_};
+ghost use Prim.Native.Nat.{_≤_};
 ghost use lib.ListN.{length, take};
 ghost use Rattle.io.specs.Counts.{Counts};
 ghost use Rattle.laws.specs.Lists.{over};
 ghost use Rattle.text.specs.Growth.{Grown, Added};
-ghost use Rattle.reading.specs.Text.{nodeText, nodesText, tableText, Printed};
+ghost use Rattle.reading.specs.Text.{nodesText, tableText, Printed};
 
 // One byte more than the longest token list, so that a longer one shows: the reader refuses it by 14.
 const FILE: usize = 24_577;
@@ -37,35 +37,23 @@ fn widen(file: &[u8], codes: &mut [u16])
     }
 }
 
-// The line of a node: its number, and its five numbers.
-fn put_node(out: &mut [u8], end: usize, table: &[u16], node: u16) -> usize
-    requires { ⌜ (1 ≤ node) × (5 * node ≤ length (now table)) ⌝ }
-    ensures { λ r. ⌜ Grown (now (out .entry)) end (nodeText (now (table .entry)) node) (now (out .exit)) r ⌝ }
-{
-    let from = 5 * ((node - 1) as usize);
-    let to = from + 5;
-    put_line(out, end, node, &table[from..to])
-}
-
-// The lines of all nodes.
+// The lines of all nodes: of each its number, and its five numbers.
 fn put_nodes(out: &mut [u8], end: usize, count: u16, table: &[u16]) -> usize
-    requires { ⌜ 5 * count ≤ length (now table) ⌝ }
     ensures { λ r. ⌜ Grown (now (out .entry)) end (nodesText (now (table .entry)) count) (now (out .exit)) r ⌝ }
 {
     let mut at = end;
     let mut node = 0;
     while node < count {
         node += 1;
-        at = put_node(out, at, table, node);
+        at = put_row(out, at, node, 5, table);
     }
     at
 }
 
 // What is printed for a reading, whose nodes stand in the table.
 fn put_table(out: &mut [u8], count: u16, table: &[u16]) -> usize
-    requires { ⌜ (count ≤ 4096) × (20480 ≤ length (now table)) × (147465 ≤ length (now out)) ⌝ }
+    requires { ⌜ (count ≤ 4096) × (147465 ≤ length (now out)) ⌝ }
     ensures { λ r. ⌜ Added (now (out .entry)) 0 (tableText (now (table .entry)) count) (now (out .exit)) r ⌝ }
-    ensures { λ r. ⌜ r ≤ 147465 ⌝ }
 {
     let end = put_head(out, b'o', b'k', count);
     put_nodes(out, end, count, table)

@@ -14,7 +14,7 @@ fn pattern(i: usize) -> u16 {
 }
 
 // Fills a buffer with the pattern.
-pub fn fill(table: &mut [u16; TABLE]) {
+pub(crate) fn fill(table: &mut [u16; TABLE]) {
     let mut i = 0;
     while i < TABLE {
         table[i] = pattern(i);
@@ -23,7 +23,7 @@ pub fn fill(table: &mut [u16; TABLE]) {
 }
 
 // Whether all cells from `from` on keep the pattern.
-pub fn keeps(table: &[u16; TABLE], from: usize) -> bool {
+pub(crate) fn keeps(table: &[u16; TABLE], from: usize) -> bool {
     let mut i = from;
     while i < TABLE {
         if table[i] != pattern(i) {

@@ -5,6 +5,7 @@ use crate::lists;
 use crate::record;
 use crate::record::FILE;
 use crate::record::Header;
+use crate::record::Sizes;
 use crate::record::Start;
 use crate::trees;
 ghost use Prim.Native.Nat.{_≤_};
@@ -43,25 +44,15 @@ fn cells_of(kind: Kind, reply: u16, count: usize) -> usize
     }
 }
 
-// Whether the answer to a record is the recorded one, `n` cells being written.
-fn agrees(
-    kind: Kind,
-    file: &[u8; FILE],
-    size: usize,
-    lent: usize,
-    h: Header,
-    cells: &[u8; BYTES],
-    n: usize,
-) -> bool
-    requires { ⌜ size ≤ 70_000 ⌝ }
-    requires { ⌜ lent ≤ 65_535 ⌝ }
-    requires { ⌜ n ≤ 20_480 ⌝ }
+// Whether the answer to a record is the recorded one.
+fn agrees(kind: Kind, file: &[u8; FILE], h: Header, cells: &[u8; BYTES], s: Sizes) -> bool
+    requires { ⌜ (s .file ≤ 70_000) × (s .lent ≤ 65_535) × (s .written ≤ 20_480) ⌝ }
 {
     match kind {
-        Kind::Files => trees::loads(file, size, lent, h, cells, n),
-        Kind::Rows => trees::decides(file, size, lent, h.reply, cells, n),
-        Kind::Readings => lists::reads(file, size, lent, h, cells, n),
-        Kind::Tokens => trees::writes(file, size, lent, h, cells, n),
+        Kind::Files => trees::loads(file, h, cells, s),
+        Kind::Rows => trees::decides(file, h.reply, cells, s),
+        Kind::Readings => lists::reads(file, h, cells, s),
+        Kind::Tokens => trees::writes(file, h, cells, s),
     }
 }
 
@@ -82,7 +73,12 @@ fn replay(fd: i32, h: Header, kind: Kind) -> Step {
     if !record::part(fd, &mut cells, 2 * n) {
         return Step::Damaged;
     }
-    if agrees(kind, &file, size, lent, h, &cells, n) {
+    let s = Sizes {
+        file: size,
+        lent: lent,
+        written: n,
+    };
+    if agrees(kind, &file, h, &cells, s) {
         Step::Agrees(reply)
     } else {
         Step::Differs(reply)
@@ -90,7 +86,7 @@ fn replay(fd: i32, h: Header, kind: Kind) -> Step {
 }
 
 // Goes through the next record.
-pub fn next(fd: i32, kind: Kind) -> Step {
+pub(crate) fn next(fd: i32, kind: Kind) -> Step {
     match record::begin(fd) {
         Start::Record(h) => replay(fd, h, kind),
         Start::End => Step::End,

@@ -5,6 +5,7 @@ use crate::cells::TABLE;
 use crate::record;
 use crate::record::FILE;
 use crate::record::Header;
+use crate::record::Sizes;
 use token_reader::Reply;
 ghost use Prim.Native.Nat.{_≤_};
 ghost use lib.ListN.{length};
@@ -51,21 +52,12 @@ fn found(answer: Reply, h: Header) -> bool {
     }
 }
 
-// Whether a token list reads as recorded, `n` cells of the table being written.
-pub(crate) fn reads(
-    file: &[u8; FILE],
-    size: usize,
-    lent: usize,
-    h: Header,
-    cells: &[u8; BYTES],
-    n: usize,
-) -> bool
-    requires { ⌜ size ≤ 70_000 ⌝ }
-    requires { ⌜ lent ≤ 65_535 ⌝ }
-    requires { ⌜ n ≤ 20_480 ⌝ }
+// Whether a token list reads as recorded.
+pub(crate) fn reads(file: &[u8; FILE], h: Header, cells: &[u8; BYTES], s: Sizes) -> bool
+    requires { ⌜ (s .file ≤ 70_000) × (s .lent ≤ 65_535) × (s .written ≤ 20_480) ⌝ }
 {
     let mut table = [0u16; TABLE];
     cells::fill(&mut table);
-    let answer = read(file, size, &mut table, lent);
-    found(answer, h) && cells::written(&table, cells, n)
+    let answer = read(file, s.file, &mut table, s.lent);
+    found(answer, h) && cells::written(&table, cells, s.written)
 }

@@ -13,13 +13,20 @@ pub struct Header {
     pub count: u16,
 }
 
+// How many bytes a record's file has, how many cells are lent, and how many of them the recorded reply writes.
+pub struct Sizes {
+    pub file: usize,
+    pub lent: usize,
+    pub written: usize,
+}
+
 // Whether a refusal is the recorded reply.
-pub fn refuses(h: Header, why: u16) -> bool {
+pub(crate) fn refuses(h: Header, why: u16) -> bool {
     why != 0 && why == h.reply
 }
 
 // Whether a count is the recorded one, of a record that is not refused.
-pub fn counts(h: Header, count: u16) -> bool {
+pub(crate) fn counts(h: Header, count: u16) -> bool {
     h.reply == 0 && count == h.count
 }
 
@@ -31,12 +38,12 @@ pub enum Start {
 }
 
 // The number of two bytes, the low one first.
-pub fn pair(low: u8, high: u8) -> u16 {
+pub(crate) fn pair(low: u8, high: u8) -> u16 {
     low as u16 + 256 * (high as u16)
 }
 
 // A number of 16 bits as one to count with.
-pub fn wide(x: u16) -> usize
+pub(crate) fn wide(x: u16) -> usize
     ensures { λ r. ⌜ r ≤ 65_535 ⌝ }
 {
     x as usize
@@ -59,7 +66,7 @@ fn parsed(b: &[u8; 12]) -> Header {
 }
 
 // Reads a header, or tells that the data ends before it or in it.
-pub fn begin(fd: i32) -> Start {
+pub(crate) fn begin(fd: i32) -> Start {
     let mut bytes = [0u8; 12];
     let n = io::read_full(fd, &mut bytes);
     if n == 0 {
@@ -72,7 +79,7 @@ pub fn begin(fd: i32) -> Start {
 }
 
 // Reads `n` bytes to the start of `buf`, and answers whether there is room and all of them came.
-pub fn part(fd: i32, buf: &mut [u8], n: usize) -> bool {
+pub(crate) fn part(fd: i32, buf: &mut [u8], n: usize) -> bool {
     if n <= buf.len() {
         io::read_full(fd, &mut buf[0..n]) == n
     } else {

@@ -1,23 +1,15 @@
 // What the program prints.
+use io::print_decimal;
+use io::write_all;
 use libc::STDOUT_FILENO;
-
-// Writes a text.
-fn text(words: &[u8]) {
-    io::write_all(STDOUT_FILENO, words);
-}
-
-// Writes a number.
-fn number(n: u64) {
-    io::print_decimal(STDOUT_FILENO, n);
-}
 
 // The line of one number of refusal.
 fn refused(reply: u64, agreed: u64) {
-    text(b"refused ");
-    number(reply);
-    text(b": ");
-    number(agreed);
-    text(b"\n");
+    write_all(STDOUT_FILENO, b"refused ");
+    print_decimal(STDOUT_FILENO, reply);
+    write_all(STDOUT_FILENO, b": ");
+    print_decimal(STDOUT_FILENO, agreed);
+    write_all(STDOUT_FILENO, b"\n");
 }
 
 // The lines of the numbers of refusal that occurred.
@@ -32,25 +24,25 @@ fn refusals(met: &[u64; 17], agreed: &[u64; 17]) {
 }
 
 // All lines, for `files` records of which `different` differ.
-pub fn all(met: &[u64; 17], agreed: &[u64; 17], files: u64, different: u64) {
-    text(b"accepted ");
-    number(agreed[0]);
-    text(b"\n");
+pub(crate) fn all(met: &[u64; 17], agreed: &[u64; 17], files: u64, different: u64) {
+    write_all(STDOUT_FILENO, b"accepted ");
+    print_decimal(STDOUT_FILENO, agreed[0]);
+    write_all(STDOUT_FILENO, b"\n");
     refusals(met, agreed);
-    text(b"files ");
-    number(files);
-    text(b", different ");
-    number(different);
-    text(b"\n");
+    write_all(STDOUT_FILENO, b"files ");
+    print_decimal(STDOUT_FILENO, files);
+    write_all(STDOUT_FILENO, b", different ");
+    print_decimal(STDOUT_FILENO, different);
+    write_all(STDOUT_FILENO, b"\n");
 }
 
 // The line between two files of records.
-pub fn title(name: &[u8]) {
-    text(name);
-    text(b"\n");
+pub(crate) fn title(name: &[u8]) {
+    write_all(STDOUT_FILENO, name);
+    write_all(STDOUT_FILENO, b"\n");
 }
 
 // The line for data that is no run of records.
-pub fn damaged() {
-    text(b"damaged data\n");
+pub(crate) fn damaged() {
+    write_all(STDOUT_FILENO, b"damaged data\n");
 }

@@ -6,6 +6,7 @@ use crate::cells::TABLE;
 use crate::record;
 use crate::record::FILE;
 use crate::record::Header;
+use crate::record::Sizes;
 use token_writer::Written;
 use tree_file::Loaded;
 ghost use Prim.Native.Nat.{_≤_};
@@ -37,23 +38,14 @@ fn loaded(answer: Loaded, h: Header) -> bool {
     }
 }
 
-// Whether a file loads as recorded, `n` cells of the table being written.
-pub(crate) fn loads(
-    file: &[u8; FILE],
-    size: usize,
-    lent: usize,
-    h: Header,
-    cells: &[u8; BYTES],
-    n: usize,
-) -> bool
-    requires { ⌜ size ≤ 70_000 ⌝ }
-    requires { ⌜ lent ≤ 65_535 ⌝ }
-    requires { ⌜ n ≤ 20_480 ⌝ }
+// Whether a file loads as recorded.
+pub(crate) fn loads(file: &[u8; FILE], h: Header, cells: &[u8; BYTES], s: Sizes) -> bool
+    requires { ⌜ (s .file ≤ 70_000) × (s .lent ≤ 65_535) × (s .written ≤ 20_480) ⌝ }
 {
     let mut table = [0u16; TABLE];
     cells::fill(&mut table);
-    let answer = load(file, size, &mut table, lent);
-    loaded(answer, h) && cells::written(&table, cells, n)
+    let answer = load(file, s.file, &mut table, s.lent);
+    loaded(answer, h) && cells::written(&table, cells, s.written)
 }
 
 // ---- rows
@@ -99,29 +91,19 @@ fn decide(
     decide_loaded(loaded, &table, rows, scratch, lent)
 }
 
-// Whether the rows of a file are as recorded, `n` cells of the rows being written, and three of the scratch for
-// each five.
-pub(crate) fn decides(
-    file: &[u8; FILE],
-    size: usize,
-    lent: usize,
-    reply: u16,
-    cells: &[u8; BYTES],
-    n: usize,
-) -> bool
-    requires { ⌜ size ≤ 70_000 ⌝ }
-    requires { ⌜ lent ≤ 65_535 ⌝ }
-    requires { ⌜ n ≤ 20_480 ⌝ }
+// Whether the rows of a file are as recorded, three cells of the scratch being written for each five of the rows.
+pub(crate) fn decides(file: &[u8; FILE], reply: u16, cells: &[u8; BYTES], s: Sizes) -> bool
+    requires { ⌜ (s .file ≤ 70_000) × (s .lent ≤ 65_535) × (s .written ≤ 20_480) ⌝ }
 {
     let mut rows = [0u16; TABLE];
     cells::fill(&mut rows);
     let mut scratch = [0u16; TABLE];
     cells::fill(&mut scratch);
-    if decide(file, size, &mut rows, &mut scratch, lent) != reply {
+    if decide(file, s.file, &mut rows, &mut scratch, s.lent) != reply {
         return false;
     }
-    let cleared = 3 * (n / 5);
-    cells::written(&rows, cells, n)
+    let cleared = 3 * (s.written / 5);
+    cells::written(&rows, cells, s.written)
         && cells::zeros(&scratch, cleared)
         && cells::keeps(&scratch, cleared)
 }
@@ -158,21 +140,12 @@ fn wrote(answer: Written, h: Header) -> bool {
     }
 }
 
-// Whether the tokens of a file are as recorded, `n` being written.
-pub(crate) fn writes(
-    file: &[u8; FILE],
-    size: usize,
-    lent: usize,
-    h: Header,
-    cells: &[u8; BYTES],
-    n: usize,
-) -> bool
-    requires { ⌜ size ≤ 70_000 ⌝ }
-    requires { ⌜ lent ≤ 65_535 ⌝ }
-    requires { ⌜ n ≤ 20_480 ⌝ }
+// Whether the tokens of a file are as recorded.
+pub(crate) fn writes(file: &[u8; FILE], h: Header, cells: &[u8; BYTES], s: Sizes) -> bool
+    requires { ⌜ (s .file ≤ 70_000) × (s .lent ≤ 65_535) × (s .written ≤ 20_480) ⌝ }
 {
     let mut tokens = [0u16; TABLE];
     cells::fill(&mut tokens);
-    let answer = write(file, size, &mut tokens, lent);
-    wrote(answer, h) && cells::written(&tokens, cells, n)
+    let answer = write(file, s.file, &mut tokens, s.lent);
+    wrote(answer, h) && cells::written(&tokens, cells, s.written)
 }

@@ -75,41 +75,9 @@ fn differs(stems: &[u8; BYTES], forms: Forms, digest: u64) -> u64
     }
 }
 
-// Goes through the blocks of so many forms out of `size` from `from` on, and prints what came of them.
+// Goes through the blocks of so many forms out of `size` from `from` on, whose digests are in a file, and prints what came
+// of them.
 fn run(
-    fd: i32,
-    stems: &[u8; BYTES],
-    length: usize,
-    from: usize,
-    size: usize,
-    blocks: usize,
-    step: usize,
-)
-    requires { ⌜ 1 ≤ step ⌝ }
-    requires { ⌜ 1 ≤ size ⌝ }
-    requires { ⌜ from ≤ 500 ⌝ }
-    requires { ⌜ size ≤ 500 ⌝ }
-{
-    let mut done: u64 = 0;
-    let mut different: u64 = 0;
-    let mut block = 0;
-    while block < blocks {
-        let mut bytes = [0u8; DIGEST];
-        if io::read_full(fd, &mut bytes) != DIGEST {
-            report::damaged();
-            return;
-        }
-        if block % step == 0 {
-            different += differs(stems, forms_of(length, block, from, size), number(&bytes));
-            done += 1;
-        }
-        block += 1;
-    }
-    report::all(length as u64, done, different);
-}
-
-// The same with the digests in a file.
-fn open(
     name: &[u8],
     stems: &[u8; BYTES],
     length: usize,
@@ -128,7 +96,23 @@ fn open(
         os::fail(name);
         return;
     }
-    run(fd, stems, length, from, size, blocks, step);
+    let mut done: u64 = 0;
+    let mut different: u64 = 0;
+    let mut block = 0;
+    while block < blocks {
+        let mut bytes = [0u8; DIGEST];
+        if io::read_full(fd, &mut bytes) != DIGEST {
+            report::damaged();
+            libc::close(fd);
+            return;
+        }
+        if block % step == 0 {
+            different += differs(stems, forms_of(length, block, from, size), number(&bytes));
+            done += 1;
+        }
+        block += 1;
+    }
+    report::all(length as u64, done, different);
     libc::close(fd);
 }
 
@@ -136,8 +120,8 @@ fn open(
 fn run_all(stems: &[u8; BYTES], step: usize)
     requires { ⌜ 1 ≤ step ⌝ }
 {
-    open(b"digests1", stems, 1, NEXTS + ENDS, FORMS, FORMS, 1);
-    open(
+    run(b"digests1", stems, 1, NEXTS + ENDS, FORMS, FORMS, 1);
+    run(
         b"digests2",
         stems,
         2,
@@ -146,7 +130,7 @@ fn run_all(stems: &[u8; BYTES], step: usize)
         FORMS * FORMS,
         step,
     );
-    open(
+    run(
         b"digests3",
         stems,
         3,

@@ -1,28 +1,20 @@
 // What the program prints.
+use io::print_decimal;
+use io::write_all;
 use libc::STDOUT_FILENO;
 
-// Writes a text.
-fn text(words: &[u8]) {
-    io::write_all(STDOUT_FILENO, words);
-}
-
-// Writes a number.
-fn number(n: u64) {
-    io::print_decimal(STDOUT_FILENO, n);
-}
-
 // The line for spines of so many forms.
-pub fn all(forms: u64, blocks: u64, different: u64) {
-    text(b"forms ");
-    number(forms);
-    text(b": blocks ");
-    number(blocks);
-    text(b", different ");
-    number(different);
-    text(b"\n");
+pub(crate) fn all(forms: u64, blocks: u64, different: u64) {
+    write_all(STDOUT_FILENO, b"forms ");
+    print_decimal(STDOUT_FILENO, forms);
+    write_all(STDOUT_FILENO, b": blocks ");
+    print_decimal(STDOUT_FILENO, blocks);
+    write_all(STDOUT_FILENO, b", different ");
+    print_decimal(STDOUT_FILENO, different);
+    write_all(STDOUT_FILENO, b"\n");
 }
 
 // The line for data that is cut off.
-pub fn damaged() {
-    text(b"damaged data\n");
+pub(crate) fn damaged() {
+    write_all(STDOUT_FILENO, b"damaged data\n");
 }

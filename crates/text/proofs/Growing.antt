@@ -1,10 +1,10 @@
 -- Laws of a text that grows. Assumes nothing.
 use mathlib.Core.Path.{_≡_, refl, sym, ap, _∙_}
-use mathlib.Core.List.{List, [], _∷_, _++_, append-assoc, append-nil}
+use mathlib.Core.List.{List, [], _∷_, _++_}
 use Prim.Native.Nat.{ℕ, suc, _+_, _≤_, _<_, max}
 use native.Mathlib.Omega.{arith}
 use native.Mathlib.Decide.{decLe}
-use lib.ListN.{length, take, drop, set, length-append, length-set}
+use lib.ListN.{length, take, drop, set, length-append, length-set, length-take}
 use lib.Seq.{sets, length-sets, sets-eq, set-out, take-at, length-take-le}
 use Rattle.laws.proofs.Lists.{sets-append}
 use Rattle.text.specs.Growth.{Grown, Added}
@@ -72,11 +72,8 @@ fits {before} {after} {more} {end} {r} h g =
       room = g .room;
     }
 
--- by nothing
-pub added-none : (before : List ℕ) (end : ℕ) → Added before end [] before end
-added-none before end = record { text = sym (append-nil (take end before)); ends = omega arith; room = refl }
-
--- and then by more
-pub added-more : {before after last : List ℕ} {end mid r : ℕ} {first second : List ℕ} → Added before end first after mid → Added after mid second last r → Added before end (first ++ second) last r
-added-more {before} {after} {last} {end} {mid} {r} {first} {second} a b =
-    record { text = b .text ∙ rw (a .text, append-assoc); ends = rw length-append (omega (arith, a .ends, b .ends)); room = b .room ∙ a .room }
+-- a text from the start of the buffer on: it is what stands there up to r
+pub whole : {before after more : List ℕ} {r : ℕ} → Added before 0 more after r → ((r ≤ length after) × (r ≡ length (take r after))) × (take r after ≡ more)
+whole {before} {after} {more} {r} a =
+    let long : length (take r after) ≡ r = rw (a .text) (omega (arith, a .ends)) in
+    ((omega (arith, length-take r after), sym long), a .text)

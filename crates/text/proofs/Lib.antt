@@ -1,3 +1,4 @@
 pub mod Digits
 pub mod Growing
+pub mod Rows
 pub mod Spaces

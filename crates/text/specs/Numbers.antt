@@ -1,7 +1,8 @@
 -- Numbers as they are printed: ASCII codes.
 use mathlib.Core.List.{List, [], _∷_, _++_}
-use Prim.Native.Nat.{ℕ, zero, suc, _+_, _/_, _%_}
+use Prim.Native.Nat.{ℕ, zero, suc, _+_, _*_, _-_, _/_, _%_}
 use lib.Dec.{ltb}
+use lib.ListN.{take, drop}
 use Rattle.laws.specs.Choice.{pick}
 
 abbrev pub space : ℕ
@@ -27,6 +28,15 @@ spaced (n ∷ ns) = space ∷ decimal n ++ spaced ns
 -- a line: a number, and more with a space before each
 unfoldable pub line : ℕ → List ℕ → List ℕ
 line n ns = decimal n ++ (spaced ns ++ (newline ∷ []))
+
+-- the line of row n, counted from 1, of a table that has so many cells in each row: the number and the cells
+unfoldable pub rowLine : ℕ → List ℕ → ℕ → List ℕ
+rowLine width cells n = line n (take width (drop (width * (n - 1)) cells))
+
+-- the texts of 1 to n, one behind the other
+unfoldable pub joined : (ℕ → List ℕ) → ℕ → List ℕ
+joined f zero = []
+joined f (suc n) = joined f n ++ f (suc n)
 
 -- a first line: two letters and a number
 unfoldable pub headed : ℕ → ℕ → ℕ → List ℕ

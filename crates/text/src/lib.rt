@@ -2,9 +2,10 @@
 // then ends; bytes for which there is no room are left out.
 ghost use mathlib.Core.List.{[], _∷_};
 ghost use mathlib.Core.Path.{_≡_};
-ghost use Prim.Native.Nat.{_+_, _<_};
+ghost use Prim.Native.Nat.{_+_, _-_, _<_};
+ghost use lib.ListN.{take, drop};
 ghost use Rattle.text.specs.Growth.{Grown};
-ghost use Rattle.text.specs.Numbers.{decimal, spaced, line, headed};
+ghost use Rattle.text.specs.Numbers.{decimal, spaced, line, rowLine, headed};
 
 pub fn put_byte(out: &mut [u8], end: usize, byte: u8) -> usize
     ensures { λ r. ⌜ Grown (now (out .entry)) end (byte ∷ []) (now (out .exit)) r ⌝ }
@@ -54,6 +55,38 @@ pub fn put_line(out: &mut [u8], end: usize, n: u16, numbers: &[u16]) -> usize
     let first = put_number(out, end, n);
     let last = put_spaced(out, first, numbers);
     put_byte(out, last, b'\n')
+}
+
+// At most so many numbers from a place on.
+fn part(numbers: &[u16], from: usize, most: usize) -> &[u16]
+    ensures { λ r. ⌜ now r ≡ take most (drop from (now (numbers .entry))) ⌝ }
+{
+    if numbers.len() < from {
+        return &numbers[..0];
+    }
+    let rest = &numbers[from..];
+    if rest.len() < most {
+        return rest;
+    }
+    &rest[..most]
+}
+
+fn one_less(n: u16) -> u16
+    ensures { λ r. ⌜ r ≡ n - 1 ⌝ }
+{
+    if n == 0 {
+        return 0;
+    }
+    n - 1
+}
+
+// The line of a row: its number, counted from 1, and its cells, of which each row of the table has so many.
+pub fn put_row(out: &mut [u8], end: usize, n: u16, width: u16, table: &[u16]) -> usize
+    ensures { λ r. ⌜ Grown (now (out .entry)) end (rowLine width (now (table .entry)) n) (now (out .exit)) r ⌝ }
+{
+    let cells = width as usize;
+    let from = cells * (one_less(n) as usize);
+    put_line(out, end, n, part(table, from, cells))
 }
 
 // Two letters and a number, as a first line.

@@ -5,7 +5,7 @@ use mathlib.Core.List.{List}
 use Prim.Native.Nat.{ℕ, _*_, _≤_}
 use native.Mathlib.Omega.{arith}
 use lib.Dec.{eqb}
-use lib.ListN.{length, take}
+use lib.ListN.{length, take, replicate, length-replicate}
 use lib.Seq.{take-at}
 use borrow.Author.Tests.{eq-eqb, eqb-true}
 use Rattle.laws.specs.Choice.{pick}
@@ -14,7 +14,7 @@ use Rattle.laws.proofs.Choice.{pick-true}
 use Rattle.laws.proofs.Lists.{length-over}
 use Rattle.tree_file.specs.declared.Loaded.the-variants as loader
 use Rattle.tree_file.specs.Files.{loaded, loadedTable}
-use Rattle.tree_file.proofs.Loading.{stored-cells}
+use Rattle.tree_file.proofs.Loading.{stored-room, stored-cells}
 use Rattle.grammar.specs.Tokens.{codesOf}
 use Rattle.token_writer.specs.declared.Written.the-variants.{Refused, Tokens}
 use Rattle.token_writer.specs.Writes.{written, writeRefusal, answered, tokensAfter}
@@ -62,11 +62,23 @@ module _ (context count : ℕ) (cells tokens : List ℕ) (room : length tokens �
 
 -- ---- the answers of the loader
 
-module _ (file table : List ℕ) (room : length table ≡ 20480) where
-  pub refused-file : (n : ℕ) → loader.Refused n ≡ loaded file (length table) → refused n ≡ printed file
+-- the table as it is lent
+abbrev zeros : List ℕ
+zeros = replicate 20480 0
+
+room : length zeros ≡ 20480
+room = length-replicate {A = ℕ} 20480 0
+
+module _ (file after : List ℕ) (stores : after ≡ loadedTable file zeros) where
+  pub refused-file : (n : ℕ) → loader.Refused n ≡ loaded file (length zeros) → refused n ≡ printed file
   unfolding printed loadedText
   refused-file n e = rw (← room, ← e)
 
-  pub accepted-file : (context count : ℕ) → loader.Accepted context count ≡ loaded file (length table) → tableText context count (take (5 * count) (loadedTable file table)) ≡ printed file
-  unfolding printed loadedText
-  accepted-file context count e = rw (stored-cells file table context count e (omega arith), ← room, ← e)
+  module _ (context count : ℕ) (e : loader.Accepted context count ≡ loaded file (length zeros)) where
+    -- the file's numbers are within the table
+    pub cells-within : 5 * count ≤ length after
+    cells-within = rw stores (stored-room file zeros context count e (omega (arith, room)))
+
+    pub accepted-file : tableText context count (take (5 * count) after) ≡ printed file
+    unfolding printed loadedText
+    accepted-file = rw (stores, stored-cells file zeros context count e (omega (arith, room)), ← room, ← e)

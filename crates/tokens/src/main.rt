@@ -41,7 +41,6 @@ fn put_parted(out: &mut [u8], end: usize, numbers: &[u16]) -> usize
 fn put_tokens(out: &mut [u8], codes: &[u16]) -> usize
     requires { ⌜ (length (now codes) ≤ 24576) × (147466 ≤ length (now out)) ⌝ }
     ensures { λ r. ⌜ Added (now (out .entry)) 0 (listed (now (codes .entry))) (now (out .exit)) r ⌝ }
-    ensures { λ r. ⌜ r ≤ 147466 ⌝ }
 {
     let head = put_head(out, b'o', b'k', codes.len() as u16);
     let end = put_parted(out, head, codes);
@@ -52,7 +51,6 @@ fn put_tokens(out: &mut [u8], codes: &[u16]) -> usize
 fn put_table(out: &mut [u8], context: u16, count: u16, table: &[u16]) -> usize
     requires { ⌜ 147466 ≤ length (now out) ⌝ }
     ensures { λ r. ⌜ Added (now (out .entry)) 0 (tableText context count (now (table .entry))) (now (out .exit)) r ⌝ }
-    ensures { λ r. ⌜ r ≤ 147466 ⌝ }
 {
     let mut tokens = [0u16; TOKENS];
     match token_writer::write(context, count, table, &mut tokens) {

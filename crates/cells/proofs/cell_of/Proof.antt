@@ -6,15 +6,6 @@ use borrow.Author.Needs.{needs}
 use Rattle.cells.proofs.cell_of.Statement.{statement}
 use Rattle.cells.proofs.cell_of.Tie as tie
 
-rank-requires : tie.Need-rank-requires
-rank-requires c κs = search needs
-
-rank-requires-2 : tie.Need-rank-requires-2
-rank-requires-2 c κs = search needs
-
-flags-requires : tie.Need-flags-requires
-flags-requires c κs = search needs
-
 returns : tie.Need-returns
 unfolding cellOf cells
 returns c = c .rank .ensures ∙ sym (arm (cells (c .before .before .args .fixup)) 65535 _ 0 tt (c .before .match .keys1))
@@ -34,4 +25,5 @@ returns-4 c = sym (rest (cells (c .before .args .fixup)) 65535 _ (c .match .rest
 pub cell-of-spec : {M : Type 1} → statement M
 cell-of-spec =
     tie.close
-    (tie.spec rank-requires rank-requires-2 flags-requires returns returns-2 returns-3 returns-4)
+    (tie.spec (λ c κs. search needs) (λ c κs. search needs) (λ c κs. search needs) returns returns-2 returns-3
+    returns-4)

@@ -6,48 +6,6 @@ use borrow.Author.Needs.{needs}
 use Rattle.cells.proofs.context_answer.Statement.{statement}
 use Rattle.cells.proofs.context_answer.Tie as tie
 
-none-requires : tie.Need-none-requires
-none-requires c κs = search needs
-
-cell-of-requires : tie.Need-cell-of-requires
-cell-of-requires c κs = search needs
-
-new-stmt-requires : tie.Need-new-stmt-requires
-new-stmt-requires c κs = search needs
-
-cell-of-requires-2 : tie.Need-cell-of-requires-2
-cell-of-requires-2 c κs = search needs
-
-new-match-arm-requires : tie.Need-new-match-arm-requires
-new-match-arm-requires c κs = search needs
-
-cell-of-requires-3 : tie.Need-cell-of-requires-3
-cell-of-requires-3 c κs = search needs
-
-new-condition-requires : tie.Need-new-condition-requires
-new-condition-requires c κs = search needs
-
-cell-of-requires-4 : tie.Need-cell-of-requires-4
-cell-of-requires-4 c κs = search needs
-
-leftmost-fixup-with-operator-requires : tie.Need-leftmost-fixup-with-operator-requires
-leftmost-fixup-with-operator-requires c κs = search needs
-
-cell-of-requires-5 : tie.Need-cell-of-requires-5
-cell-of-requires-5 c κs = search needs
-
-leftmost-fixup-with-dot-requires : tie.Need-leftmost-fixup-with-dot-requires
-leftmost-fixup-with-dot-requires c κs = search needs
-
-cell-of-requires-6 : tie.Need-cell-of-requires-6
-cell-of-requires-6 c κs = search needs
-
-rightmost-subexpression-fixup-requires : tie.Need-rightmost-subexpression-fixup-requires
-rightmost-subexpression-fixup-requires c κs = search needs
-
-cell-of-requires-7 : tie.Need-cell-of-requires-7
-cell-of-requires-7 c κs = search needs
-
 returns : tie.Need-returns
 unfolding contextAnswered contextQuestions
 returns c = c .cell-of .ensures ∙ ap (cellOf (c .before .before .before .args .cell)) (c .before .none .ensures) ∙ sym (arm (contextQuestions (c .before .before .before .args .cell) (c .before .before .before .args .fixup) (c .before .before .before .args .first) (c .before .before .before .args .second) (c .before .before .before .args .precedence)) 65535 _ 0 tt (c .before .before .match .keys1))
@@ -83,26 +41,8 @@ returns-8 c = sym (rest (contextQuestions (c .before .args .cell) (c .before .ar
 pub context-answer-spec : {M : Type 1} → statement M
 context-answer-spec =
     tie.close
-    (tie.spec
-    none-requires
-    cell-of-requires
-    new-stmt-requires
-    cell-of-requires-2
-    new-match-arm-requires
-    cell-of-requires-3
-    new-condition-requires
-    cell-of-requires-4
-    leftmost-fixup-with-operator-requires
-    cell-of-requires-5
-    leftmost-fixup-with-dot-requires
-    cell-of-requires-6
-    rightmost-subexpression-fixup-requires
-    cell-of-requires-7
-    returns
-    returns-2
-    returns-3
-    returns-4
-    returns-5
-    returns-6
-    returns-7
+    (tie.spec (λ c κs. search needs) (λ c κs. search needs) (λ c κs. search needs) (λ c κs. search needs)
+    (λ c κs. search needs) (λ c κs. search needs) (λ c κs. search needs) (λ c κs. search needs)
+    (λ c κs. search needs) (λ c κs. search needs) (λ c κs. search needs) (λ c κs. search needs)
+    (λ c κs. search needs) (λ c κs. search needs) returns returns-2 returns-3 returns-4 returns-5 returns-6 returns-7
     returns-8)

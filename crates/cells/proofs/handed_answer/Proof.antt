@@ -6,18 +6,6 @@ use borrow.Author.Needs.{needs}
 use Rattle.cells.proofs.handed_answer.Statement.{statement}
 use Rattle.cells.proofs.handed_answer.Tie as tie
 
-first-operand-requires : tie.Need-first-operand-requires
-first-operand-requires c κs = search needs
-
-handed-cell-requires : tie.Need-handed-cell-requires
-handed-cell-requires c κs = search needs
-
-second-operand-requires : tie.Need-second-operand-requires
-second-operand-requires c κs = search needs
-
-handed-cell-requires-2 : tie.Need-handed-cell-requires-2
-handed-cell-requires-2 c κs = search needs
-
 returns : tie.Need-returns
 unfolding handedAnswered handedQuestions
 returns c = c .handed-cell .ensures ∙ ap (handedCell (c .before .before .before .before .args .cell)) (c .before .first-operand .ensures) ∙ sym (arm (handedQuestions _ _ _) 65535 _ 0 tt (c .before .before .match .keys1))
@@ -33,11 +21,5 @@ returns-3 c = sym (rest (handedQuestions _ _ _) 65535 _ (c .match .rest))
 pub handed-answer-spec : {M : Type 1} → statement M
 handed-answer-spec =
     tie.close
-    (tie.spec
-    first-operand-requires
-    handed-cell-requires
-    second-operand-requires
-    handed-cell-requires-2
-    returns
-    returns-2
-    returns-3)
+    (tie.spec (λ c κs. search needs) (λ c κs. search needs) (λ c κs. search needs) (λ c κs. search needs) returns
+    returns-2 returns-3)

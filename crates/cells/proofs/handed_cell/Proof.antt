@@ -6,12 +6,6 @@ use borrow.Author.Needs.{needs}
 use Rattle.cells.proofs.handed_cell.Statement.{statement}
 use Rattle.cells.proofs.handed_cell.Tie as tie
 
-side-number-requires : tie.Need-side-number-requires
-side-number-requires c κs = search needs
-
-cell-of-requires : tie.Need-cell-of-requires
-cell-of-requires c κs = search needs
-
 returns : tie.Need-returns
 unfolding handedCell handedCells
 returns c = c .side-number .ensures ∙ sym (arm (handedCells (c .before .before .before .args .handed)) _ _ 0 tt (c .before .match .keys1))
@@ -26,4 +20,4 @@ returns-3 c = c .cell-of .ensures ∙ sym (rest (handedCells (c .before .before 
 
 pub handed-cell-spec : {M : Type 1} → statement M
 handed-cell-spec =
-    tie.close (tie.spec side-number-requires cell-of-requires returns returns-2 returns-3)
+    tie.close (tie.spec (λ c κs. search needs) (λ c κs. search needs) returns returns-2 returns-3)

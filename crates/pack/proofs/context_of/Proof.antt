@@ -8,12 +8,6 @@ use Rattle.pack.specs.FromCells.{bitAt, contextOf}
 use Rattle.pack.proofs.context_of.Statement.{statement}
 use Rattle.pack.proofs.context_of.Tie as tie
 
-precedence-of-requires : tie.Need-precedence-of-requires
-precedence-of-requires c κs = search needs
-
-precedence-of-requires-2 : tie.Need-precedence-of-requires-2
-precedence-of-requires-2 c κs = search needs
-
 first-bit : (flags : ℕ) → eqb (flags % 2) 1 ≡ bitAt 0 flags
 first-bit flags = rw (div-one flags)
 
@@ -35,4 +29,4 @@ returns c = λ i. record {
 }
 
 pub context-of-spec : {M : Type 1} → statement M
-context-of-spec = tie.close (tie.spec precedence-of-requires precedence-of-requires-2 returns)
+context-of-spec = tie.close (tie.spec (λ c κs. search needs) (λ c κs. search needs) returns)

@@ -1,56 +1,41 @@
 -- `parens::put_lines` meets its contract. Assumes nothing.
 use mathlib.Core.Path.{_≡_}
-use Prim.Native.Nat.{_+_, _*_, _-_, _≤_}
+use Prim.Native.Nat.{_-_, _≤_}
 use native.Mathlib.Omega.{arith}
+use borrow.Author.Needs.{needs}
 use Rattle.parens.specs.Text.{linesOf}
-use Rattle.text.specs.Growth.{Added}
-use Rattle.text.proofs.Growing.{added-none}
-use Rattle.parens.proofs.Lines.{lines-more}
+use Rattle.text.specs.Numbers.{joined}
+use Rattle.text.specs.Growth.{Grown}
+use Rattle.text.proofs.Growing.{grown-none}
+use Rattle.text.proofs.Rows.{grown-next}
 use Rattle.parens.proofs.put_lines.Statement.{statement}
 use Rattle.parens.proofs.put_lines.Tie as tie
 
 abbrev Inv-loop : tie.InvT-loop
-Inv-loop out₀ end count table rows at₀ node₀ out at node = (node ≤ count) × (at ≤ end + 36 * node) × Added out₀ end (linesOf count table rows node) out at
+Inv-loop out₀ end count table rows at₀ node₀ out at node = (node ≤ count) × Grown out₀ end (linesOf count table rows node) out at
 
 abbrev μ-loop : tie.MeasureT-loop
 μ-loop out₀ end count table rows at₀ node₀ out at node = count - node
 
 loop-holds : tie.Need-loop-holds Inv-loop μ-loop
-unfolding linesOf
-loop-holds c = (omega arith, omega arith, added-none _ _)
-
-add-node : tie.Need-add-node Inv-loop μ-loop
-add-node c = omega arith
-
-put-node-requires : tie.Need-put-node-requires Inv-loop μ-loop
-put-node-requires c κs = (omega arith, omega arith, omega arith)
-
-loop-less : tie.Need-loop-less Inv-loop μ-loop
-loop-less c = omega arith
+unfolding joined
+loop-holds c = (omega arith, grown-none _ _)
 
 loop-again : tie.Need-loop-again Inv-loop μ-loop
 loop-again c =
-    (omega arith, omega arith, lines-more _ _ _ _ (c .before .before .before .before .before .loop .inv .2) (c .before .before .put-node .ensures .0))
+    (omega arith, grown-next _ _ (c .before .before .before .before .before .loop .inv .1) (c .before .before .put-node .ensures))
 
 same-length : tie.Need-same-length Inv-loop μ-loop
-same-length c = c .before .loop .inv .2 .room
+same-length c = c .before .loop .inv .1 .room
 
 returns : tie.Need-returns Inv-loop μ-loop
 returns c =
     let l = c .before .loop in
     let e : l .node ≡ c .before .before .before .before .before .args .count = omega arith in
-    (rw e at (l .inv .2), omega arith)
+    rw e at (l .inv .1)
 
 pub put-lines-spec : {M : Type 1} → statement M
 put-lines-spec =
     tie.close
-    (tie.spec
-    Inv-loop
-    μ-loop
-    loop-holds
-    add-node
-    put-node-requires
-    loop-less
-    loop-again
-    same-length
-    returns)
+    (tie.spec Inv-loop μ-loop loop-holds (λ c. omega arith) (λ c κs. search needs) (λ c. omega arith) loop-again
+    same-length returns)

@@ -8,48 +8,6 @@ use borrow.Author.Needs.{needs}
 use Rattle.questions.proofs.answer.Statement.{statement}
 use Rattle.questions.proofs.answer.Tie as tie
 
-of-requires : tie.Need-of-requires
-of-requires c κs = search needs
-
-rank-requires : tie.Need-rank-requires
-rank-requires c κs = search needs
-
-requires-semi-to-be-stmt-requires : tie.Need-requires-semi-to-be-stmt-requires
-requires-semi-to-be-stmt-requires c κs = search needs
-
-number-requires : tie.Need-number-requires
-number-requires c κs = search needs
-
-requires-comma-to-be-match-arm-requires : tie.Need-requires-comma-to-be-match-arm-requires
-requires-comma-to-be-match-arm-requires c κs = search needs
-
-number-requires-2 : tie.Need-number-requires-2
-number-requires-2 c κs = search needs
-
-expr-leading-label-requires : tie.Need-expr-leading-label-requires
-expr-leading-label-requires c κs = search needs
-
-number-requires-3 : tie.Need-number-requires-3
-number-requires-3 c κs = search needs
-
-expr-trailing-brace-requires : tie.Need-expr-trailing-brace-requires
-expr-trailing-brace-requires c κs = search needs
-
-number-requires-4 : tie.Need-number-requires-4
-number-requires-4 c κs = search needs
-
-trailing-unparameterized-path-requires : tie.Need-trailing-unparameterized-path-requires
-trailing-unparameterized-path-requires c κs = search needs
-
-number-requires-5 : tie.Need-number-requires-5
-number-requires-5 c κs = search needs
-
-type-trailing-brace-requires : tie.Need-type-trailing-brace-requires
-type-trailing-brace-requires c κs = search needs
-
-number-requires-6 : tie.Need-number-requires-6
-number-requires-6 c κs = search needs
-
 returns : tie.Need-returns
 unfolding answered questions
 returns c = c .rank .ensures ∙ ap rankOf (c .before .of .ensures) ∙ sym (arm (questions _) 65535 _ 0 tt (c .before .before .match .keys1))
@@ -85,26 +43,8 @@ returns-8 c = sym (rest (questions _) 65535 _ (c .match .rest))
 pub answer-spec : {M : Type 1} → statement M
 answer-spec =
     tie.close
-    (tie.spec
-    of-requires
-    rank-requires
-    requires-semi-to-be-stmt-requires
-    number-requires
-    requires-comma-to-be-match-arm-requires
-    number-requires-2
-    expr-leading-label-requires
-    number-requires-3
-    expr-trailing-brace-requires
-    number-requires-4
-    trailing-unparameterized-path-requires
-    number-requires-5
-    type-trailing-brace-requires
-    number-requires-6
-    returns
-    returns-2
-    returns-3
-    returns-4
-    returns-5
-    returns-6
-    returns-7
+    (tie.spec (λ c κs. search needs) (λ c κs. search needs) (λ c κs. search needs) (λ c κs. search needs)
+    (λ c κs. search needs) (λ c κs. search needs) (λ c κs. search needs) (λ c κs. search needs)
+    (λ c κs. search needs) (λ c κs. search needs) (λ c κs. search needs) (λ c κs. search needs)
+    (λ c κs. search needs) (λ c κs. search needs) returns returns-2 returns-3 returns-4 returns-5 returns-6 returns-7
     returns-8)

@@ -2,10 +2,12 @@
 use mathlib.Core.Path.{_≡_}
 use Prim.Native.Nat.{_-_, _≤_}
 use native.Mathlib.Omega.{arith}
+use borrow.Author.Needs.{needs}
 use Rattle.text.specs.Growth.{Grown}
+use Rattle.text.specs.Numbers.{joined}
 use Rattle.text.proofs.Growing.{grown-none}
+use Rattle.text.proofs.Rows.{grown-next}
 use Rattle.reading.specs.Text.{nodesText}
-use Rattle.reading.proofs.Lines.{lines-more}
 use Rattle.reading.proofs.put_nodes.Statement.{statement}
 use Rattle.reading.proofs.put_nodes.Tie as tie
 
@@ -16,21 +18,12 @@ abbrev μ-loop : tie.MeasureT-loop
 μ-loop out₀ end count table at₀ node₀ out at node = count - node
 
 loop-holds : tie.Need-loop-holds Inv-loop μ-loop
-unfolding nodesText
+unfolding joined
 loop-holds c = (omega arith, grown-none _ _)
-
-add-node : tie.Need-add-node Inv-loop μ-loop
-add-node c = omega arith
-
-put-node-requires : tie.Need-put-node-requires Inv-loop μ-loop
-put-node-requires c κs = (omega arith, omega arith)
-
-loop-less : tie.Need-loop-less Inv-loop μ-loop
-loop-less c = omega arith
 
 loop-again : tie.Need-loop-again Inv-loop μ-loop
 loop-again c =
-    (omega arith, lines-more _ _ (c .before .before .before .before .before .loop .inv .1) (c .before .before .put-node .ensures))
+    (omega arith, grown-next _ _ (c .before .before .before .before .before .loop .inv .1) (c .before .before .put-row .ensures))
 
 same-length : tie.Need-same-length Inv-loop μ-loop
 same-length c = c .before .loop .inv .1 .room
@@ -44,13 +37,5 @@ returns c =
 pub put-nodes-spec : {M : Type 1} → statement M
 put-nodes-spec =
     tie.close
-    (tie.spec
-    Inv-loop
-    μ-loop
-    loop-holds
-    add-node
-    put-node-requires
-    loop-less
-    loop-again
-    same-length
-    returns)
+    (tie.spec Inv-loop μ-loop loop-holds (λ c. omega arith) (λ c κs. search needs) (λ c. omega arith) loop-again
+    same-length returns)

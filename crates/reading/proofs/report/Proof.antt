@@ -26,12 +26,6 @@ taken : (file : List ℕ) → take (length file) (over file zeros) ≡ file
 unfolding over
 taken file = take-at file _ (length file) refl
 
-slice-aggregate-widen : tie.Need-slice-aggregate-widen
-slice-aggregate-widen c = search needs
-
-widen-requires : tie.Need-widen-requires
-widen-requires c κs = search needs
-
 array-share-prefix-codes : tie.Need-array-share-prefix-codes
 array-share-prefix-codes c =
     let s = c .before .before .before .before in
@@ -42,9 +36,6 @@ slice-aggregate-put-reply c =
     let s = c .before .before .before .before .before in
     sym (length-take-le _ _ (rw (c .before .before .widen .ensures) (within (s .args .file .now) (s .pre))))
 
-put-reply-requires : tie.Need-put-reply-requires
-put-reply-requires c κs = search needs
-
 returns : tie.Need-returns
 returns c =
     let e = c .before .before .before .before .widen .ensures in
@@ -54,10 +45,5 @@ returns c =
 pub report-spec : {M : Type 1} → statement M
 report-spec =
     tie.close
-    (tie.spec
-    slice-aggregate-widen
-    widen-requires
-    array-share-prefix-codes
-    slice-aggregate-put-reply
-    put-reply-requires
-    returns)
+    (tie.spec (λ c. search needs) (λ c κs. search needs) array-share-prefix-codes slice-aggregate-put-reply
+    (λ c κs. search needs) returns)

@@ -19,24 +19,6 @@ zeros = replicate 24576 0
 room : length zeros ≡ 24576
 room = length-replicate {A = ℕ} 24576 0
 
-slice-aggregate-write : tie.Need-slice-aggregate-write
-slice-aggregate-write c = search needs
-
-write-requires : tie.Need-write-requires
-write-requires c κs = search needs
-
-enum-known-why : tie.Need-enum-known-why
-enum-known-why c = search needs
-
-put-head-requires : tie.Need-put-head-requires
-put-head-requires c κs = search needs
-
-enum-known-n : tie.Need-enum-known-n
-enum-known-n c = search needs
-
-cast-end : tie.Need-cast-end
-cast-end c = search needs
-
 array-share-prefix-tokens : tie.Need-array-share-prefix-tokens
 array-share-prefix-tokens c =
     let a = c .before .before .before .before .before .before .before .before .before .args in
@@ -56,40 +38,22 @@ put-tokens-requires c κs =
     let taken = length-take-le (c .before .before .before .n .given .0 .0) (c .before .before .before .before .before .before .write .last .1 .1 .1 .0) (rw (c .before .before .before .before .before .before .write .ensures .1) (tokens-within (a .context) (a .count) (a .table .now) zeros room _ e)) in
     (rw taken (tokens-most (a .context) (a .count) (a .table .now) zeros room _ e), search needs)
 
-same-length : tie.Need-same-length
-same-length c = search needs
-
 returns : tie.Need-returns
 returns c =
     let a = c .before .before .before .before .before .before .before .before .before .before .before .before .args in
     let e = sym (c .before .before .before .before .before .why .given .1) ∙ c .before .before .before .before .before .before .before .before .write .ensures .0 in
     let head = headed-most 110 111 (c .before .before .before .before .before .why .given .0 .0) (omega arith) in
-    let all = fits (omega arith) (c .before .before .put-head .ensures) in
-    (rw (← refused-table (a .context) (a .count) (a .table .now) zeros room _ e) all, omega (arith, all .ends))
-
-same-length-2 : tie.Need-same-length-2
-same-length-2 c = search needs
+    rw (← refused-table (a .context) (a .count) (a .table .now) zeros room _ e) (fits (omega arith) (c .before .before .put-head .ensures))
 
 returns-2 : tie.Need-returns-2
 returns-2 c =
     let a = c .before .before .before .before .before .before .before .before .before .before .before .before .before .args in
     let e = sym (c .before .before .before .before .before .before .n .given .1) ∙ c .before .before .before .before .before .before .before .before .before .write .ensures .0 in
-    (rw (← tokens-table (a .context) (a .count) (a .table .now) zeros room _ e, ← c .before .before .before .before .before .before .before .before .before .write .ensures .1) (c .before .before .put-tokens .ensures .0), c .before .before .put-tokens .ensures .1)
+    rw (← tokens-table (a .context) (a .count) (a .table .now) zeros room _ e, ← c .before .before .before .before .before .before .before .before .before .write .ensures .1) (c .before .before .put-tokens .ensures)
 
 pub put-table-spec : {M : Type 1} → statement M
 put-table-spec =
     tie.close
-    (tie.spec
-    slice-aggregate-write
-    write-requires
-    enum-known-why
-    put-head-requires
-    enum-known-n
-    cast-end
-    array-share-prefix-tokens
-    slice-aggregate-put-tokens
-    put-tokens-requires
-    same-length
-    returns
-    same-length-2
-    returns-2)
+    (tie.spec (λ c. search needs) (λ c κs. search needs) (λ c. search needs) (λ c κs. search needs)
+    (λ c. search needs) (λ c. search needs) array-share-prefix-tokens slice-aggregate-put-tokens put-tokens-requires
+    (λ c. search needs) returns (λ c. search needs) returns-2)

@@ -8,36 +8,6 @@ use borrow.Author.Needs.{needs}
 use Rattle.questions.proofs.in_context.fixup_answer.Statement.{statement}
 use Rattle.questions.proofs.in_context.fixup_answer.Tie as tie
 
-parenthesize-requires : tie.Need-parenthesize-requires
-parenthesize-requires c κs = search needs
-
-number-requires : tie.Need-number-requires
-number-requires c κs = search needs
-
-precedence-requires : tie.Need-precedence-requires
-precedence-requires c κs = search needs
-
-rank-requires : tie.Need-rank-requires
-rank-requires c κs = search needs
-
-scan-left-requires : tie.Need-scan-left-requires
-scan-left-requires c κs = search needs
-
-number-requires-2 : tie.Need-number-requires-2
-number-requires-2 c κs = search needs
-
-leftmost-subexpression-precedence-requires : tie.Need-leftmost-subexpression-precedence-requires
-leftmost-subexpression-precedence-requires c κs = search needs
-
-rank-requires-2 : tie.Need-rank-requires-2
-rank-requires-2 c κs = search needs
-
-rightmost-subexpression-precedence-requires : tie.Need-rightmost-subexpression-precedence-requires
-rightmost-subexpression-precedence-requires c κs = search needs
-
-rank-requires-3 : tie.Need-rank-requires-3
-rank-requires-3 c κs = search needs
-
 returns : tie.Need-returns
 unfolding fixupAnswered fixupQuestions
 returns c = c .number .ensures ∙ ap (λ yes. pick yes 1 0) (c .before .parenthesize .ensures) ∙ sym (arm (fixupQuestions _ _) 65535 _ 0 tt (c .before .before .match .keys1))
@@ -65,20 +35,6 @@ returns-6 c = sym (rest (fixupQuestions _ _) 65535 _ (c .match .rest))
 pub fixup-answer-spec : {M : Type 1} → statement M
 fixup-answer-spec =
     tie.close
-    (tie.spec
-    parenthesize-requires
-    number-requires
-    precedence-requires
-    rank-requires
-    scan-left-requires
-    number-requires-2
-    leftmost-subexpression-precedence-requires
-    rank-requires-2
-    rightmost-subexpression-precedence-requires
-    rank-requires-3
-    returns
-    returns-2
-    returns-3
-    returns-4
-    returns-5
-    returns-6)
+    (tie.spec (λ c κs. search needs) (λ c κs. search needs) (λ c κs. search needs) (λ c κs. search needs)
+    (λ c κs. search needs) (λ c κs. search needs) (λ c κs. search needs) (λ c κs. search needs)
+    (λ c κs. search needs) (λ c κs. search needs) returns returns-2 returns-3 returns-4 returns-5 returns-6)
