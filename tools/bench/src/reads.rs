@@ -28,7 +28,7 @@ pub fn read_once(side: Side, file: &str) {
 
 fn prepared(file: &str) -> Prepared {
     let bytes = std::fs::read(file).expect("a tree file");
-    Prepared::new(oracle::table::read(&bytes).expect("an accepted tree"))
+    Prepared::new(model::table::read(&bytes).expect("an accepted tree"))
 }
 
 /// The loads from the table after it was said where it lies.
