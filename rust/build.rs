@@ -1,4 +1,4 @@
-//! Links `libanswers.a` and `libasked.a`, which `tools/libraries` writes: those in the
+//! Links `libanswers.a` and `libanswers_asked.a`, which `tools/libraries` writes: those in the
 //! folder that TEZHUKOR_LIB names, or in `target/staticlib` of this repository.
 
 use std::path::PathBuf;
@@ -9,7 +9,7 @@ fn main() {
     let named = std::env::var_os("TEZHUKOR_LIB").map(PathBuf::from);
     let folder = named.unwrap_or_else(|| here.join("../target/staticlib"));
     println!("cargo:rustc-link-search=native={}", folder.display());
-    for name in ["answers", "asked"] {
+    for name in ["answers", "answers_asked"] {
         let library = folder.join(format!("lib{name}.a"));
         println!("cargo:rerun-if-changed={}", library.display());
         if !library.is_file() {

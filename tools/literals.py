@@ -43,7 +43,7 @@ def last(names, before, values):
 
 
 ANYWHERE = '*'
-TOKENS = 'token_*/* follow/*'
+TOKENS = 'token_writer/* token_reader/* token_follow/*'
 
 # The kind, what its digits stand for, in which crates, and how they are found.
 KINDS = [
@@ -69,7 +69,7 @@ KINDS = [
         ]),
     ),
     ('code', 'codes of tokens and levels, where tokens are read and written', TOKENS, number(*range(13, 45))),
-    ('code', 'codes that a match in the code tells apart', 'token_*/src/* follow/src/*', rf'^\s*{number(*range(13))}(?:\.\.=\d+)?(?: \| \d+)* =>'),
+    ('code', 'codes that a match in the code tells apart', 'token_writer/src/* token_reader/src/* token_follow/src/*', rf'^\s*{number(*range(13))}(?:\.\.=\d+)?(?: \| \d+)* =>'),
 ]
 
 # The kind, the files, the text that the digits stand in (the whole line if none is given), and why they stay.
@@ -85,10 +85,10 @@ ALLOWED = [
     ('code', '*/proofs/*', r'pick(-true|-false)? (\(refusal.*\) )?1[23] |\) 13 0', 'the number of a refusal'),
     ('code', '*/proofs/*', r'_ \d+ tt', 'the place of a row in its table'),
     ('code', '*/src/*', r'1 \| 3 => true', 'the pairs of a row, which are no codes'),
-    ('levels', 'numbers/*', '', 'the base of the groups of seven bits'),
-    ('place', 'numbers/*', '', 'a byte of a number'),
-    ('levels', 'one_pass/*', r'row / 128 % 8', 'a part of a number that holds a row of the table of forms'),
-    ('levels', 'pack/*', '', 'the weight of a flag'),
+    ('levels', 'file_numbers/*', '', 'the base of the groups of seven bits'),
+    ('place', 'file_numbers/*', '', 'a byte of a number'),
+    ('levels', 'tree_one_pass/*', r'row / 128 % 8', 'a part of a number that holds a row of the table of forms'),
+    ('levels', 'row_pack/*', '', 'the weight of a flag'),
     ('a node', 'text/* tokens/*', '', 'the most bytes of a number with its space'),
     ('bytes', '*/proofs/*', r'65536 - ', 'what a loop counts down from: all numbers of two bytes'),
     ('bytes', 'answers/*', r'65536 \*', 'a refusal as a part of one number'),

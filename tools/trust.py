@@ -19,16 +19,16 @@ from pathlib import Path
 
 # What is promised: demand 3, and the contracts of the four functions of the boundary.
 ROOTS = [
-    'theorem/Statement',
-    'tree_file/Files',
-    'walk/Walk',
+    'token_theorem/Statement',
+    'file_loader/Files',
+    'row_walk/Walk',
     'token_writer/Writes',
     'token_reader/Reading',
     'answers/Replies',
 ]
 
 # What the promises are checked against: not cited by them.
-BESIDE = ['precedence/Reference', 'walk/Cases']
+BESIDE = ['precedence/Reference', 'row_walk/Cases']
 
 CRATES = Path(__file__).resolve().parent.parent / 'crates'
 GHOST_USE = re.compile(r'ghost use Rattle·(\w+)(?:·specs)?\.specs\.(\w+)\.\{([^}]*)\}')

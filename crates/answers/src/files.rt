@@ -1,8 +1,8 @@
 // Tree files.
-use tree_file::Loaded;
+use file_loader::Loaded;
 ghost use mathlib.Core.Path.{_≡_};
 ghost use lib.ListN.{length};
-ghost use Rattle.tree_file.specs.Files.{loaded, loadedTable, loadedInNumbers};
+ghost use Rattle.file_loader.specs.Files.{loaded, loadedTable, loadedInNumbers};
 ghost use Rattle.answers.specs.Replies.{oneNumber};
 
 // The refusal times 65,536, or the context times 8,192 and the count.
@@ -15,11 +15,11 @@ fn number(answer: Loaded) -> u32
     }
 }
 
-// tree_file::load.
+// file_loader::load.
 #[no_mangle]
 pub extern "C" fn tezhukor_load(file: &[u8], table: &mut [u16]) -> u32
     ensures reply { λ r. ⌜ r ≡ oneNumber (loadedInNumbers (loaded (now (file .entry)) (length (now (table .entry))))) ⌝ }
     ensures table { λ r. ⌜ now (table .exit) ≡ loadedTable (now (file .entry)) (now (table .entry)) ⌝ }
 {
-    number(tree_file::load(file, table))
+    number(file_loader::load(file, table))
 }

@@ -1,9 +1,9 @@
 // The rows of all nodes.
 ghost use mathlib.Core.Path.{_≡_};
 ghost use lib.ListN.{length};
-ghost use Rattle.walk.specs.Walk.{decided, rowsAfter, scratchAfter};
+ghost use Rattle.row_walk.specs.Walk.{decided, rowsAfter, scratchAfter};
 
-// walk::decide.
+// row_walk::decide.
 #[no_mangle]
 pub extern "C" fn tezhukor_decide(
     context: u16,
@@ -16,5 +16,5 @@ pub extern "C" fn tezhukor_decide(
     ensures rows { λ r. ⌜ now (rows .exit) ≡ rowsAfter context count (now (table .entry)) (now (rows .entry)) (now (scratch .entry)) ⌝ }
     ensures scratch { λ r. ⌜ now (scratch .exit) ≡ scratchAfter context count (now (table .entry)) (now (rows .entry)) (now (scratch .entry)) ⌝ }
 {
-    walk::decide(context, count, table, rows, scratch)
+    row_walk::decide(context, count, table, rows, scratch)
 }

@@ -1,9 +1,9 @@
 // prettyplease's classify.rs, but for the brace at an end (crate braces): questions about the ends of an expression, each a walk over node numbers.
-use shapes::shape_at;
 use tree::forms;
 use tree::table::Operand;
 use tree::table::cell;
 use tree::table::form_at;
+use tree_shapes::shape_at;
 ghost use mathlib.Core.Path.{_≡_};
 ghost use mathlib.Core.Bool.{true, false};
 ghost use Rattle.tree.specs.Trees.{treeAt};

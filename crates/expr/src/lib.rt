@@ -2,11 +2,11 @@
 use bools::both;
 use fixup::context::FixupContext;
 use precedence::Precedence;
-use shapes::first_at;
 use tree::forms;
 use tree::table::Operand;
 use tree::table::cell;
 use tree::table::form_at;
+use tree_shapes::first_at;
 ghost use mathlib.Core.Path.{_≡_};
 ghost use Rattle.tree.specs.Trees.{treeAt};
 ghost use Rattle.tree.specs.Steps.{treeOf};

@@ -9,7 +9,7 @@ use Rattle.precedence.specs.declared.Precedence.{Precedence}
 use Rattle.precedence.specs.declared.Precedence.the-variants.{Jump, Assign, Cast, Prefix}
 use Rattle.precedence.specs.Precedences.{below, atMost, same, ofBinop, precedenceOf}
 use Rattle.classify.specs.Classify.{requiresSemi, requiresComma}
-use Rattle.look.specs.Looks.{isLet, isStruct, isBareReturn, isOpenEnded, isPlainBlock, isBareJump, isOpenAhead, isCastToPath}
+use Rattle.fixup_look.specs.Looks.{isLet, isStruct, isBareReturn, isOpenEnded, isPlainBlock, isBareJump, isOpenAhead, isCastToPath}
 use Rattle.fixup.specs.declared.context.FixupContext.{FixupContext}
 
 -- ---- parenthesize

@@ -2,19 +2,19 @@
 use super::context::FixupContext;
 use bools::and_not;
 use bools::either;
-use look::Look;
-use look::looks;
+use fixup_look::Look;
+use fixup_look::looks;
 use precedence::Precedence;
-use shapes::first_at;
 use tree::forms;
 use tree::table::Operand;
 use tree::table::cell;
 use tree::table::form_at;
+use tree_shapes::first_at;
 ghost use mathlib.Core.Path.{_≡_};
 ghost use mathlib.Core.Bool.{_&&_};
 ghost use Rattle.tree.specs.Trees.{treeAt};
 ghost use Rattle.fixup.specs.Fixup.{parenthesize, effective, leftOfBinary, scanLeft};
-ghost use Rattle.look.specs.Steps.{lookOf};
+ghost use Rattle.fixup_look.specs.Steps.{lookOf};
 ghost use Rattle.fixup.specs.Steps.{asks};
 
 // The question is put only where a flag of the context asks for it.

@@ -4,12 +4,12 @@ use mathlib.Core.List.{List}
 use Prim.Native.Nat.{ℕ, _*_, _≤_}
 use native.Mathlib.Omega.{arith}
 use lib.ListN.{length, take, replicate, length-replicate}
-use Rattle.rules.specs.Refusals.{refusal}
-use Rattle.tree_file.specs.declared.Loaded.the-variants.{Refused, Accepted}
-use Rattle.tree_file.specs.Files.{loaded, loadedTable}
-use Rattle.tree_file.proofs.Loading.{count-most, stored-room, stored-cells, not-refused}
-use Rattle.walk.specs.Walk.{rootHanded, rowsAfter}
-use Rattle.walk.proofs.Replies.{done}
+use Rattle.tree_rules.specs.Refusals.{refusal}
+use Rattle.file_loader.specs.declared.Loaded.the-variants.{Refused, Accepted}
+use Rattle.file_loader.specs.Files.{loaded, loadedTable}
+use Rattle.file_loader.proofs.Loading.{count-most, stored-room, stored-cells, not-refused}
+use Rattle.row_walk.specs.Walk.{rootHanded, rowsAfter}
+use Rattle.row_walk.proofs.Replies.{done}
 use Rattle.text.specs.Numbers.{headed}
 use Rattle.parens.specs.Text.{rowsIn, acceptedText, answered, printed}
 

@@ -7,11 +7,11 @@ use Rattle.laws.specs.Choice.{pick}
 use Rattle.tree.specs.Forms.{anExpression, classOf}
 use Rattle.tree.specs.Operands.{formIn}
 use Rattle.tree.specs.Trees.{treeAt}
-use Rattle.tree_file.specs.declared.Loaded.{Loaded}
-use Rattle.tree_file.specs.declared.Loaded.the-variants.{Refused, Accepted}
-use Rattle.tree_file.specs.Files.{cellsIn, loaded}
+use Rattle.file_loader.specs.declared.Loaded.{Loaded}
+use Rattle.file_loader.specs.declared.Loaded.the-variants.{Refused, Accepted}
+use Rattle.file_loader.specs.Files.{cellsIn, loaded}
 use Rattle.row.specs.Rows.{rowsOf}
-use Rattle.walk.specs.Walk.{rootHanded, placed}
+use Rattle.row_walk.specs.Walk.{rootHanded, placed}
 use Rattle.text.specs.Numbers.{rowLine, joined, headed}
 
 -- "for each expression its node number and row", whose five cells stand in `rows`: nothing for a type or a link

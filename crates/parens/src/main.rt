@@ -1,17 +1,17 @@
 // Reads a tree file on standard input, and prints the count of its nodes and the row of each
 // expression, or the number of the refusal.
-use labels::form::class_of;
+use file_loader::Loaded;
 use libc::STDIN_FILENO;
 use libc::STDOUT_FILENO;
 use text::put_head;
 use text::put_row;
 use tree::table::form_at;
-use tree_file::Loaded;
+use tree_labels::form::class_of;
 ghost use mathlib.Core.Path.{_≡_};
 ghost use Prim.Native.Nat.{_≤_};
 ghost use lib.ListN.{length, take};
 ghost use Rattle.io.specs.Counts.{Counts};
-ghost use Rattle.rules.specs.Refusals.{refusal};
+ghost use Rattle.tree_rules.specs.Refusals.{refusal};
 ghost use Rattle.text.specs.Growth.{Grown, Added};
 ghost use Rattle.parens.specs.Text.{nodeText, linesOf, allLines, acceptedText, printed};
 
@@ -68,7 +68,7 @@ fn put_rows(out: &mut [u8], context: u16, count: u16, table: &[u16]) -> usize
 {
     let mut rows = [0u16; CELLS];
     let mut scratch = [0u16; SCRATCH];
-    walk::decide(context, count, table, &mut rows, &mut scratch);
+    row_walk::decide(context, count, table, &mut rows, &mut scratch);
     put_all(out, count, table, &rows)
 }
 
@@ -78,7 +78,7 @@ fn report(file: &[u8], out: &mut [u8; TEXT]) -> usize
     ensures { λ r. ⌜ take r (now (out .exit)) ≡ printed (now (file .entry)) ⌝ }
 {
     let mut table = [0u16; CELLS];
-    match tree_file::load(file, &mut table) {
+    match file_loader::load(file, &mut table) {
         Loaded::Refused(why) => put_head(out, b'n', b'o', why),
         Loaded::Accepted(context, count) => {
             let cells = 5 * (count as usize);

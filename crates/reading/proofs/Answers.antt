@@ -10,7 +10,7 @@ use borrow.Author.Tests.{ltb-false}
 use Rattle.laws.specs.Choice.{pick}
 use Rattle.laws.proofs.Choice.{or-false}
 use Rattle.tree.specs.Trees.{Tree}
-use Rattle.numbering.specs.Numbered.{size, tooLarge}
+use Rattle.tree_numbering.specs.Numbered.{size, tooLarge}
 use Rattle.token_reader.specs.declared.Reply.the-variants.{Refused, Nodes}
 use Rattle.token_reader.specs.Reading.{readRefusal12, refusal14, countOrLarge, Answers}
 

@@ -7,8 +7,8 @@ use crate::record;
 use crate::record::FILE;
 use crate::record::Header;
 use crate::record::Sizes;
+use file_loader::Loaded;
 use token_writer::Written;
-use tree_file::Loaded;
 ghost use Prim.Native.Nat.{_≤_};
 ghost use lib.ListN.{length};
 
@@ -17,7 +17,7 @@ fn load_parts(file: &[u8], size: usize, table: &mut [u16], lent: usize) -> Loade
     requires { ⌜ size ≤ length (now file) ⌝ }
     requires { ⌜ lent ≤ length (now table) ⌝ }
 {
-    tree_file::load(&file[0..size], &mut table[0..lent])
+    file_loader::load(&file[0..size], &mut table[0..lent])
 }
 
 // The same with the arrays as they stand in what follows.
@@ -64,7 +64,7 @@ fn decide_loaded(
     match loaded {
         Loaded::Refused(why) => why,
         Loaded::Accepted(context, count) => {
-            walk::decide(
+            row_walk::decide(
                 context,
                 count,
                 table,

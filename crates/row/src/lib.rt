@@ -3,9 +3,9 @@ use bools::either;
 use expr::Handed;
 use expr::Side;
 use fixup::context::FixupContext;
+use fixup_scan::right::leftmost_subexpression_precedence;
+use fixup_scan::right::rightmost_subexpression_precedence;
 use precedence::Precedence;
-use scan::right::leftmost_subexpression_precedence;
-use scan::right::rightmost_subexpression_precedence;
 use tree::forms;
 use tree::table::cell;
 use tree::table::form_at;
@@ -94,7 +94,7 @@ fn row_of(pair: u16, precedence: Precedence, fixup: FixupContext) -> Row
         precedence: precedence.rank(),
         previous: previous.rank(),
         next: next.rank(),
-        flags: pack::flags(fixup),
+        flags: row_pack::flags(fixup),
     }
 }
 

@@ -24,7 +24,7 @@ fn with_tree(digest: u64, cells: &[u16; CELLS], count: usize) -> u64
 {
     let mut rows = [0u16; CELLS];
     let mut scratch = [0u16; 60];
-    let reply = walk::decide(0, count as u16, cells, &mut rows, &mut scratch);
+    let reply = row_walk::decide(0, count as u16, cells, &mut rows, &mut scratch);
     if reply != 0 {
         return digest::add(digest, 1_000);
     }

@@ -9,17 +9,17 @@ use lib.ListN.{length, getD}
 use Rattle.laws.specs.Choice.{isOneOf}
 use Rattle.tree.specs.Forms.{ExprCall, ExprCast, ExprIndex, ExprMethodCall, ExprTry, Link}
 use Rattle.tree.specs.Trees.{Tree, none, node}
-use Rattle.grammar.specs.Tokens.{Token, code, LeftParen, RightParen, RightBracket, Comma, operatorOf}
-use Rattle.grammar.specs.Codes.{tokenOf}
-use Rattle.grammar.specs.Levels.{kind, level, after}
-use Rattle.grammar.specs.Types.{one, list, items}
-use Rattle.grammar.specs.Expressions.{Atom, Prefix, Member, byName, byNumber, awaited, Expr, atom, paren, prefix, binary, cast, member, try, index, call, method, noArguments, arguments, lastArgument, moreArguments, kindOf, endsInTypeName, endsInDotName}
-use Rattle.grammar.specs.Grammar.{NONE}
-use Rattle.grammar.specs.Bare.{bare}
-use Rattle.grammar.specs.Parser.{Out, fail, ok, then, tail, isFirst, Start, noStart, anAtom, aPrefix, aGroup, start, startBy, AfterDot, noMember, aMember, afterDot, afterDotBy, isByName, next, goesOn, typeBy, exprBy, onBy, argumentsBy, someArgumentsBy}
-use Rattle.grammar.specs.Next.{Next, stops, operates, castsTo, dots, calls, indexes, tries, nextOf}
-use Rattle.grammar.proofs.Complete.{on-stop}
-use Rattle.plain.specs.Trees.{label, treeOf, treeOfType, atomLabel, prefixLabel, operatorLabel, memberLabel}
+use Rattle.token_grammar.specs.Tokens.{Token, code, LeftParen, RightParen, RightBracket, Comma, operatorOf}
+use Rattle.token_grammar.specs.Codes.{tokenOf}
+use Rattle.token_grammar.specs.Levels.{kind, level, after}
+use Rattle.token_grammar.specs.Types.{one, list, items}
+use Rattle.token_grammar.specs.Expressions.{Atom, Prefix, Member, byName, byNumber, awaited, Expr, atom, paren, prefix, binary, cast, member, try, index, call, method, noArguments, arguments, lastArgument, moreArguments, kindOf, endsInTypeName, endsInDotName}
+use Rattle.token_grammar.specs.Grammar.{NONE}
+use Rattle.token_grammar.specs.Bare.{bare}
+use Rattle.token_grammar.specs.Parser.{Out, fail, ok, then, tail, isFirst, Start, noStart, anAtom, aPrefix, aGroup, start, startBy, AfterDot, noMember, aMember, afterDot, afterDotBy, isByName, next, goesOn, typeBy, exprBy, onBy, argumentsBy, someArgumentsBy}
+use Rattle.token_grammar.specs.Next.{Next, stops, operates, castsTo, dots, calls, indexes, tries, nextOf}
+use Rattle.token_grammar.proofs.Complete.{on-stop}
+use Rattle.token_plain.specs.Trees.{label, treeOf, treeOfType, atomLabel, prefixLabel, operatorLabel, memberLabel}
 use Rattle.token_reader.specs.declared.piece.Piece.{Piece}
 use Rattle.token_reader.specs.declared.piece.Parsed.{Parsed}
 use Rattle.token_reader.specs.Reading.{anyAbove}

@@ -10,11 +10,11 @@ use lib.ListN.{length, getD}
 use borrow.Author.Tests.{ltb-false, eq-eqb, ne-eqb}
 use Rattle.laws.specs.Choice.{pick, lookup}
 use Rattle.laws.proofs.Choice.{or-false}
-use Rattle.grammar.specs.Tokens.{Token, code}
-use Rattle.grammar.specs.Codes.{tokenOf}
-use Rattle.grammar.specs.Parser.{tail, isFirst, firstBy, noStart, startBy, startOf, start, noType, typeStartBy, typeStartOf, typeStart, noMember, afterDotBy, afterDotOf, afterDot, next}
-use Rattle.grammar.specs.Next.{nextOf}
-use Rattle.grammar.proofs.Tokens.{code-token, code-below}
+use Rattle.token_grammar.specs.Tokens.{Token, code}
+use Rattle.token_grammar.specs.Codes.{tokenOf}
+use Rattle.token_grammar.specs.Parser.{tail, isFirst, firstBy, noStart, startBy, startOf, start, noType, typeStartBy, typeStartOf, typeStart, noMember, afterDotBy, afterDotOf, afterDot, next}
+use Rattle.token_grammar.specs.Next.{nextOf}
+use Rattle.token_grammar.proofs.Tokens.{code-token, code-below}
 use Rattle.token_reader.specs.Reading.{anyAbove}
 use Rattle.token_reader.specs.Pieces.{from}
 

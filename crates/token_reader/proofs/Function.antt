@@ -6,8 +6,8 @@ use mathlib.Core.Logic.{_⊎_, inl, inr}
 use Prim.Native.Nat.{ℕ}
 use lib.ListN.{length}
 use Rattle.tree.specs.Trees.{Tree}
-use Rattle.plain.specs.Reads.{Reads}
-use Rattle.plain.proofs.Readings.{read-or-not}
+use Rattle.token_plain.specs.Reads.{Reads}
+use Rattle.token_plain.proofs.Readings.{read-or-not}
 use Rattle.token_reader.specs.declared.Reply.{Reply}
 use Rattle.token_reader.specs.Reading.{readRefusal12, refusal14, Answers}
 

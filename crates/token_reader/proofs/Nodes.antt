@@ -8,7 +8,7 @@ use lib.Seq.{getD-set-same, getD-set-other}
 use Rattle.tree.specs.Table.{cellAt, firstAt, secondAt}
 use Rattle.tree.specs.Trees.{Label, Tree, none, node, labelAt, operandOf, treeAt}
 use Rattle.tree.proofs.Unfold.{operand-in, operand-zero, tree-zero, unfolds}
-use Rattle.plain.specs.Trees.{label}
+use Rattle.token_plain.specs.Trees.{label}
 use Rattle.token_reader.specs.Pieces.{Kept, Placed, Stored, Grew}
 
 -- ---- a node is stored

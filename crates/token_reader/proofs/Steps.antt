@@ -3,14 +3,14 @@ use mathlib.Core.Path.{_≡_, refl, subst, _∙_}
 use mathlib.Core.Bool.{Bool, true, false, _&&_}
 use mathlib.Core.List.{List}
 use Prim.Native.Nat.{ℕ, suc, _≤_}
-use Rattle.grammar.specs.Tokens.{Token, LeftParen, RightParen, RightBracket}
-use Rattle.grammar.specs.Levels.{prefixes, kind, after}
-use Rattle.grammar.specs.Types.{one}
-use Rattle.grammar.specs.Expressions.{Expr, Member, atom, paren, prefix, binary, cast, member, index, call, method}
-use Rattle.grammar.specs.Grammar.{NONE}
-use Rattle.grammar.specs.Parser.{Out, fail, ok, then, tail, isFirst, Start, noStart, anAtom, aPrefix, aGroup, start, AfterDot, noMember, aMember, afterDot, isByName, next, goesOn, typeBy, exprBy, onBy, argumentsBy}
-use Rattle.grammar.specs.Next.{Next, stops, operates, castsTo, dots, calls, indexes, tries}
-use Rattle.grammar.proofs.Complete.{dotStep, onStep, on-step}
+use Rattle.token_grammar.specs.Tokens.{Token, LeftParen, RightParen, RightBracket}
+use Rattle.token_grammar.specs.Levels.{prefixes, kind, after}
+use Rattle.token_grammar.specs.Types.{one}
+use Rattle.token_grammar.specs.Expressions.{Expr, Member, atom, paren, prefix, binary, cast, member, index, call, method}
+use Rattle.token_grammar.specs.Grammar.{NONE}
+use Rattle.token_grammar.specs.Parser.{Out, fail, ok, then, tail, isFirst, Start, noStart, anAtom, aPrefix, aGroup, start, AfterDot, noMember, aMember, afterDot, isByName, next, goesOn, typeBy, exprBy, onBy, argumentsBy}
+use Rattle.token_grammar.specs.Next.{Next, stops, operates, castsTo, dots, calls, indexes, tries}
+use Rattle.token_grammar.proofs.Complete.{dotStep, onStep, on-step}
 use Rattle.token_reader.specs.Pieces.{closeBy, operandBy, memberBy, dotBy, stepBy}
 use Rattle.token_reader.proofs.Tables.{stops-not}
 

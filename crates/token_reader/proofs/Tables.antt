@@ -10,17 +10,17 @@ use Rattle.laws.specs.Choice.{pick, lookup, isOneOf}
 use Rattle.laws.proofs.Choice.{of-true, and-true, alike, alike-same}
 use Rattle.laws.proofs.Each.{all-at}
 use Rattle.tree.specs.Forms.{ExprAssign, ExprBinary}
-use Rattle.grammar.specs.Tokens.{number, operator, operatorOf}
-use Rattle.grammar.specs.Codes.{tokenOf}
-use Rattle.grammar.specs.Levels.{casts, postfixes, kind, level, before, after}
-use Rattle.grammar.specs.Types.{one}
-use Rattle.grammar.specs.Expressions.{Expr, kindOf, endsInTypeName, endsInDotName}
-use Rattle.grammar.specs.Grammar.{opensArguments}
-use Rattle.grammar.specs.Next.{Next, stops, operates, castsTo, dots, calls, indexes, tries, nextOf, levelAt}
-use Rattle.grammar.specs.Parser.{follows, goesOn}
-use Rattle.grammar.proofs.Tokens.{number-operator, code-same, code-token}
-use Rattle.plain.specs.Trees.{label, operatorLabel}
-use Rattle.follow.specs.Follow.{beforeAt, barredAt, goesOnBy}
+use Rattle.token_grammar.specs.Tokens.{number, operator, operatorOf}
+use Rattle.token_grammar.specs.Codes.{tokenOf}
+use Rattle.token_grammar.specs.Levels.{casts, postfixes, kind, level, before, after}
+use Rattle.token_grammar.specs.Types.{one}
+use Rattle.token_grammar.specs.Expressions.{Expr, kindOf, endsInTypeName, endsInDotName}
+use Rattle.token_grammar.specs.Grammar.{opensArguments}
+use Rattle.token_grammar.specs.Next.{Next, stops, operates, castsTo, dots, calls, indexes, tries, nextOf, levelAt}
+use Rattle.token_grammar.specs.Parser.{follows, goesOn}
+use Rattle.token_grammar.proofs.Tokens.{number-operator, code-same, code-token}
+use Rattle.token_plain.specs.Trees.{label, operatorLabel}
+use Rattle.token_follow.specs.Follow.{beforeAt, barredAt, goesOnBy}
 use Rattle.token_reader.specs.Tables.{levelOf, afterOf, goesOnWith, operatorForm, operatorDetail}
 
 -- ---- operators

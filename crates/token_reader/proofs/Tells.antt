@@ -5,8 +5,8 @@ use mathlib.Core.List.{List}
 use Prim.Native.Nat.{ℕ, _≤_, _<_}
 use native.Mathlib.Omega.{arith}
 use lib.ListN.{length}
-use Rattle.grammar.specs.Tokens.{Token}
-use Rattle.grammar.specs.Parser.{Out, fail, ok, then}
+use Rattle.token_grammar.specs.Tokens.{Token}
+use Rattle.token_grammar.specs.Parser.{Out, fail, ok, then}
 use Rattle.token_reader.specs.Reading.{anyAbove}
 use Rattle.token_reader.specs.Pieces.{Ready, Grew, Tells, from}
 

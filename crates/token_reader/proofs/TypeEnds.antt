@@ -7,10 +7,10 @@ use native.Mathlib.Omega.{arith}
 use lib.ListN.{length, getD}
 use Rattle.tree.specs.Forms.{TypePath, Link}
 use Rattle.tree.specs.Trees.{none}
-use Rattle.grammar.specs.Tokens.{Token, operator, Lt, Gt, Comma}
-use Rattle.grammar.specs.Types.{one, list, items, TypePrefix, TypeSign, Ty, named, applied, pointing, sign, noTypes, types, lastType, moreTypes}
-use Rattle.grammar.specs.Parser.{Out, fail, ok, then, tail, isFirst, TypeStart, noType, aName, aTypePrefix, aSign, typeStart, typeStartBy, typeBy, typesBy, someTypesBy}
-use Rattle.plain.specs.Trees.{label, treeOfType, typePrefixLabel, typeSignLabel}
+use Rattle.token_grammar.specs.Tokens.{Token, operator, Lt, Gt, Comma}
+use Rattle.token_grammar.specs.Types.{one, list, items, TypePrefix, TypeSign, Ty, named, applied, pointing, sign, noTypes, types, lastType, moreTypes}
+use Rattle.token_grammar.specs.Parser.{Out, fail, ok, then, tail, isFirst, TypeStart, noType, aName, aTypePrefix, aSign, typeStart, typeStartBy, typeBy, typesBy, someTypesBy}
+use Rattle.token_plain.specs.Trees.{label, treeOfType, typePrefixLabel, typeSignLabel}
 use Rattle.token_reader.specs.declared.piece.Piece.{Piece}
 use Rattle.token_reader.specs.Pieces.{Placed, Stored, Ready, Tells, from, Enough, IsType, IsTypes, TypeAt, TypesAt, SignAt, PointingAt, pathBy, PathAt}
 use Rattle.token_reader.proofs.First.{there, tail-from, tail-from-next, first-there, first-other, type-start-at}

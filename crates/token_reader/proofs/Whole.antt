@@ -9,20 +9,20 @@ use borrow.Author.Tests.{ltb-false, lt-ltb, le-ltb}
 use Rattle.laws.specs.Choice.{pick}
 use Rattle.laws.proofs.Choice.{true-not-false, or-false, or-here, or-next}
 use Rattle.tree.specs.Trees.{Tree, treeAt}
-use Rattle.grammar.specs.Tokens.{Token}
-use Rattle.grammar.specs.Codes.{tokensOf}
-use Rattle.grammar.specs.Types.{one}
-use Rattle.grammar.specs.Expressions.{Expr}
-use Rattle.grammar.specs.Grammar.{NONE}
-use Rattle.grammar.specs.Bare.{bare}
-use Rattle.grammar.specs.Parser.{Out, fail, ok, exprBy, parse}
-use Rattle.grammar.proofs.Tokens.{codes-tokens}
-use Rattle.plain.specs.Trees.{treeOf, withoutParens}
-use Rattle.plain.specs.Reads.{Reads}
-use Rattle.plain.proofs.Parens.{without-bare}
-use Rattle.plain.proofs.Readings.{one-reading, found, finds}
-use Rattle.numbering.specs.Numbered.{size, tooLarge}
-use Rattle.numbering.specs.Renumbering.{tooShort, renumbered, renumberedAfter}
+use Rattle.token_grammar.specs.Tokens.{Token}
+use Rattle.token_grammar.specs.Codes.{tokensOf}
+use Rattle.token_grammar.specs.Types.{one}
+use Rattle.token_grammar.specs.Expressions.{Expr}
+use Rattle.token_grammar.specs.Grammar.{NONE}
+use Rattle.token_grammar.specs.Bare.{bare}
+use Rattle.token_grammar.specs.Parser.{Out, fail, ok, exprBy, parse}
+use Rattle.token_grammar.proofs.Tokens.{codes-tokens}
+use Rattle.token_plain.specs.Trees.{treeOf, withoutParens}
+use Rattle.token_plain.specs.Reads.{Reads}
+use Rattle.token_plain.proofs.Parens.{without-bare}
+use Rattle.token_plain.proofs.Readings.{one-reading, found, finds}
+use Rattle.tree_numbering.specs.Numbered.{size, tooLarge}
+use Rattle.tree_numbering.specs.Renumbering.{tooShort, renumbered, renumberedAfter}
 use Rattle.token_reader.specs.declared.Reply.{Reply}
 use Rattle.token_reader.specs.declared.Reply.the-variants.{Refused}
 use Rattle.token_reader.specs.declared.piece.Parsed.{Parsed}

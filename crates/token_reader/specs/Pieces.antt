@@ -6,19 +6,19 @@ use Prim.Native.Nat.{ℕ, _+_, _*_, _≤_, _<_}
 use lib.ListN.{length, drop, getD}
 use Rattle.tree.specs.Table.{firstAt, secondAt}
 use Rattle.tree.specs.Trees.{Tree, none, node, labelAt}
-use Rattle.grammar.specs.Tokens.{Token, Operator, operator, Lt, LeftParen, RightBracket, RightParen, operatorOf}
-use Rattle.grammar.specs.Codes.{tokensOf}
-use Rattle.grammar.specs.Levels.{kind, level, prefixes, after}
-use Rattle.grammar.specs.Types.{one, list, items, TypePrefix, TypeSign, Ty, named, applied, pointing, sign, typeEndsInName}
-use Rattle.grammar.specs.Expressions.{Atom, Prefix, Member, byName, Expr, atom, paren, prefix, binary, cast, member, try, index, call, method, kindOf, endsInTypeName, endsInDotName}
-use Rattle.grammar.specs.Grammar.{NONE}
-use Rattle.grammar.specs.Bare.{bare}
-use Rattle.grammar.specs.Parser.{Out, fail, ok, then, tail, isFirst, Start, noStart, anAtom, aPrefix, aGroup, start, AfterDot, noMember, aMember, afterDot, isByName, next, typeBy, typesBy, someTypesBy, exprBy, argumentsBy, someArgumentsBy}
-use Rattle.grammar.specs.Next.{Next, stops, operates, castsTo, dots, calls, indexes, tries}
-use Rattle.plain.specs.Trees.{label, treeOf, treeOfType, atomLabel, prefixLabel, memberLabel, typePrefixLabel, typeSignLabel}
+use Rattle.token_grammar.specs.Tokens.{Token, Operator, operator, Lt, LeftParen, RightBracket, RightParen, operatorOf}
+use Rattle.token_grammar.specs.Codes.{tokensOf}
+use Rattle.token_grammar.specs.Levels.{kind, level, prefixes, after}
+use Rattle.token_grammar.specs.Types.{one, list, items, TypePrefix, TypeSign, Ty, named, applied, pointing, sign, typeEndsInName}
+use Rattle.token_grammar.specs.Expressions.{Atom, Prefix, Member, byName, Expr, atom, paren, prefix, binary, cast, member, try, index, call, method, kindOf, endsInTypeName, endsInDotName}
+use Rattle.token_grammar.specs.Grammar.{NONE}
+use Rattle.token_grammar.specs.Bare.{bare}
+use Rattle.token_grammar.specs.Parser.{Out, fail, ok, then, tail, isFirst, Start, noStart, anAtom, aPrefix, aGroup, start, AfterDot, noMember, aMember, afterDot, isByName, next, typeBy, typesBy, someTypesBy, exprBy, argumentsBy, someArgumentsBy}
+use Rattle.token_grammar.specs.Next.{Next, stops, operates, castsTo, dots, calls, indexes, tries}
+use Rattle.token_plain.specs.Trees.{label, treeOf, treeOfType, atomLabel, prefixLabel, memberLabel, typePrefixLabel, typeSignLabel}
 use Rattle.token_reader.specs.Reading.{anyAbove}
-use Rattle.numbering.specs.declared.Renumbered.{Renumbered}
-use Rattle.numbering.specs.declared.Renumbered.the-variants as renumbered
+use Rattle.tree_numbering.specs.declared.Renumbered.{Renumbered}
+use Rattle.tree_numbering.specs.declared.Renumbered.the-variants as renumbered
 use Rattle.token_reader.specs.declared.Reply.{Reply}
 use Rattle.token_reader.specs.declared.Reply.the-variants.{Refused, Nodes}
 use Rattle.token_reader.specs.declared.piece.Piece.{Piece}

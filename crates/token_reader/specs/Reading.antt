@@ -8,8 +8,8 @@ use lib.ListN.{length}
 use Rattle.laws.specs.Choice.{pick}
 use Rattle.laws.specs.Lists.{over}
 use Rattle.tree.specs.Trees.{Tree}
-use Rattle.numbering.specs.Numbered.{size, numbered, tooLarge}
-use Rattle.plain.specs.Reads.{Reads}
+use Rattle.tree_numbering.specs.Numbered.{size, numbered, tooLarge}
+use Rattle.token_plain.specs.Reads.{Reads}
 use Rattle.token_reader.specs.declared.Reply.{Reply}
 use Rattle.token_reader.specs.declared.Reply.the-variants.{Refused, Nodes}
 

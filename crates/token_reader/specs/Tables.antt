@@ -4,9 +4,9 @@ use Prim.Native.Nat.{ℕ, _+_}
 use lib.Dec.{eqb}
 use Rattle.laws.specs.Choice.{pick}
 use Rattle.tree.specs.Forms.{ExprAssign, ExprBinary}
-use Rattle.grammar.specs.Codes.{tokenOf}
-use Rattle.grammar.specs.Next.{nextOf, levelAt}
-use Rattle.follow.specs.Follow.{goesOnBy}
+use Rattle.token_grammar.specs.Codes.{tokenOf}
+use Rattle.token_grammar.specs.Next.{nextOf, levelAt}
+use Rattle.token_follow.specs.Follow.{goesOnBy}
 
 -- ---- after an expression
 

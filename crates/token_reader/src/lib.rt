@@ -6,8 +6,8 @@ mod token; // token.rt: what a token says
 mod types; // types.rt: types and their lists
 
 use expressions::expr;
-use numbering::Renumbered;
-use numbering::renumber;
+use tree_numbering::Renumbered;
+use tree_numbering::renumber;
 ghost use mathlib.Core.Path.{_≡_};
 ghost use Rattle.token_reader.specs.Reading.{anyAbove, Answers};
 ghost use Rattle.token_reader.specs.Pieces.{replyOf};

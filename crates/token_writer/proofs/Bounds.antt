@@ -9,13 +9,13 @@ use lib.ListN.{length, length-append}
 use borrow.Author.Tests.{eqb-true}
 use Rattle.laws.specs.Choice.{pick, Line, line, lookup, isOneOf}
 use Rattle.tree.specs.Trees.{Label, Tree, none, node, operandAt, treeAt}
-use Rattle.rules.specs.Refusals.{refusal, Accepted}
+use Rattle.tree_rules.specs.Refusals.{refusal, Accepted}
 use Rattle.tree.specs.Walks.{isThere}
-use Rattle.rules.proofs.Accepted.{count-bounds}
-use Rattle.grammar.specs.Tokens.{Token, LeftParen, RightParen, Comma}
-use Rattle.numbering.specs.Numbered.{size}
-use Rattle.numbering.proofs.Sizes.{size-accepted}
-use Rattle.plain.specs.Written.{Signs, signs, comma, signLines, signsOf, tokensAt, hasPair}
+use Rattle.tree_rules.proofs.Accepted.{count-bounds}
+use Rattle.token_grammar.specs.Tokens.{Token, LeftParen, RightParen, Comma}
+use Rattle.tree_numbering.specs.Numbered.{size}
+use Rattle.tree_numbering.proofs.Sizes.{size-accepted}
+use Rattle.token_plain.specs.Written.{Signs, signs, comma, signLines, signsOf, tokensAt, hasPair}
 use Rattle.token_writer.specs.Writes.{rowsFor, written, writeRefusal}
 use Rattle.token_writer.proofs.Tokens.{oneOf, in-row}
 

@@ -13,7 +13,7 @@ use Rattle.laws.proofs.Choice.{true-not-false, or-false, or-here, or-next, and-
 use Rattle.laws.proofs.Keys.{among, outside, disjoint, apart, within, inside}
 use Rattle.tree.specs.Forms.{TypePath}
 use Rattle.tree.specs.Trees.{Label}
-use Rattle.plain.specs.Plain.{plainExpressions, plainTypes, isPlain}
+use Rattle.token_plain.specs.Plain.{plainExpressions, plainTypes, isPlain}
 
 -- ---- sets of numbers
 

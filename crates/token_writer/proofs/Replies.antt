@@ -9,10 +9,10 @@ use lib.ListN.{length, take, replicate, length-replicate}
 use borrow.Author.Tests.{eq-eqb, ne-eqb, lt-ltb, le-ltb}
 use Rattle.laws.specs.Choice.{pick}
 use Rattle.laws.proofs.Choice.{pick-true, pick-false, or-here, or-next}
-use Rattle.rules.specs.Refusals.{firstOf, refusal}
-use Rattle.walk.specs.Walk.{rowsAfter}
-use Rattle.grammar.specs.Tokens.{codesOf}
-use Rattle.plain.specs.Plain.{plainTable}
+use Rattle.tree_rules.specs.Refusals.{firstOf, refusal}
+use Rattle.row_walk.specs.Walk.{rowsAfter}
+use Rattle.token_grammar.specs.Tokens.{codesOf}
+use Rattle.token_plain.specs.Plain.{plainTable}
 use Rattle.token_writer.specs.declared.Written.{Written}
 use Rattle.token_writer.specs.declared.Written.the-variants.{Refused, Tokens}
 use Rattle.token_writer.specs.Puts.{Put, codesAt}

@@ -10,15 +10,15 @@ use lib.Dec.{T, eqb}
 use types.Run.{OneOf}
 use borrow.Author.Tests.{ne-eqb}
 use Rattle.laws.specs.Choice.{pick, lookup}
-use Rattle.grammar.proofs.Tokens.{number-operator}
+use Rattle.token_grammar.proofs.Tokens.{number-operator}
 use Rattle.laws.proofs.Keys.{numbersAt, givenAt, apartBefore, arms, arm, Missed, rest}
 use Rattle.tree.specs.Table.{cellAt}
 use Rattle.tree.specs.Operands.{presence}
 use Rattle.tree.specs.Trees.{labelAt, operandAt, treeAt}
 use Rattle.tree.specs.Steps.{isPresent}
 use Rattle.tree.proofs.Walks.{there}
-use Rattle.grammar.specs.Tokens.{Token, operator, Assign, Lt, Gt, Name, code, number, allOperators, operatorOf, codesOf}
-use Rattle.plain.specs.Written.{signs, signLines, signsOf}
+use Rattle.token_grammar.specs.Tokens.{Token, operator, Assign, Lt, Gt, Name, code, number, allOperators, operatorOf, codesOf}
+use Rattle.token_plain.specs.Written.{signs, signLines, signsOf}
 use Rattle.token_writer.specs.declared.signs.Few.{Few}
 use Rattle.token_writer.specs.declared.signs.Few.the-variants.{Nothing, One, Two}
 use Rattle.token_writer.specs.declared.signs.Signs.{Signs}

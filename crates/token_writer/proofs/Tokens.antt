@@ -7,8 +7,8 @@ use lib.ListN.{length, length-append}
 use Rattle.laws.specs.Choice.{pick}
 use Rattle.tree.specs.Trees.{Label, Tree, none, node, labelAt, operandAt, treeAt}
 use Rattle.tree.proofs.Unfold.{unfolds}
-use Rattle.grammar.specs.Tokens.{Token, code, LeftParen, RightParen, codesOf}
-use Rattle.plain.specs.Written.{within, signsOf, tokensAt, hasPair}
+use Rattle.token_grammar.specs.Tokens.{Token, code, LeftParen, RightParen, codesOf}
+use Rattle.token_plain.specs.Written.{within, signsOf, tokensAt, hasPair}
 use Rattle.token_writer.specs.declared.signs.Few.{Few}
 use Rattle.token_writer.specs.declared.signs.Signs.{Signs}
 use Rattle.token_writer.specs.Puts.{spelled, Put, Spells, oneIf, codesAt}

@@ -8,9 +8,9 @@ use lib.ListN.{length}
 use lib.Seq.{sets}
 use Rattle.laws.specs.Choice.{pick}
 use Rattle.tree.specs.Trees.{treeAt}
-use Rattle.grammar.specs.Tokens.{code, operator, Lt, Gt, Name, codesOf}
-use Rattle.plain.specs.Written.{tokensAt, hasPair}
-use Rattle.plain.specs.Written as plain
+use Rattle.token_grammar.specs.Tokens.{code, operator, Lt, Gt, Name, codesOf}
+use Rattle.token_plain.specs.Written.{tokensAt, hasPair}
+use Rattle.token_plain.specs.Written as plain
 use Rattle.token_writer.specs.declared.signs.Few.{Few}
 use Rattle.token_writer.specs.declared.signs.Few.the-variants.{Nothing, One, Two, Three}
 use Rattle.token_writer.specs.declared.signs.Signs.{Signs}

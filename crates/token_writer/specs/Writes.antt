@@ -7,11 +7,11 @@ use lib.ListN.{length, replicate}
 use Rattle.laws.specs.Choice.{pick}
 use Rattle.laws.specs.Lists.{over}
 use Rattle.tree.specs.Trees.{treeAt}
-use Rattle.rules.specs.Refusals.{refusal, refuse, firstOf}
-use Rattle.walk.specs.Walk.{rowsAfter}
-use Rattle.grammar.specs.Tokens.{Token, codesOf}
-use Rattle.plain.specs.Plain.{plainTable}
-use Rattle.plain.specs.Written.{tokensAt, hasPair}
+use Rattle.tree_rules.specs.Refusals.{refusal, refuse, firstOf}
+use Rattle.row_walk.specs.Walk.{rowsAfter}
+use Rattle.token_grammar.specs.Tokens.{Token, codesOf}
+use Rattle.token_plain.specs.Plain.{plainTable}
+use Rattle.token_plain.specs.Written.{tokensAt, hasPair}
 use Rattle.token_writer.specs.declared.Written.{Written}
 use Rattle.token_writer.specs.declared.Written.the-variants.{Refused, Tokens}
 

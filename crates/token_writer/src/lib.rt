@@ -3,19 +3,19 @@ mod codes; // codes.rt: the codes of the tokens
 mod plainness; // plainness.rt: whether a table is plain
 mod signs; // signs.rt: a node's own tokens
 
-use one_pass::check;
 use plainness::is_plain_table;
 use signs::Few;
 use signs::one_if;
 use signs::signs_at;
 use tree::table::cell;
 use tree::table::operand_number;
+use tree_one_pass::check;
 ghost use mathlib.Core.Path.{_≡_};
 ghost use Prim.Native.Nat.{_+_, _*_, _≤_};
 ghost use lib.ListN.{length, replicate};
-ghost use Rattle.rules.specs.Refusals.{refusal};
-ghost use Rattle.plain.specs.Written.{hasPair};
-ghost use Rattle.grammar.specs.Tokens.{codesOf};
+ghost use Rattle.tree_rules.specs.Refusals.{refusal};
+ghost use Rattle.token_plain.specs.Written.{hasPair};
+ghost use Rattle.token_grammar.specs.Tokens.{codesOf};
 ghost use Rattle.token_writer.specs.Puts.{spelled, Put, codesAt};
 ghost use Rattle.token_writer.specs.Writes.{written, answered, tokensAfter};
 
@@ -121,7 +121,7 @@ fn write_plain(
     requires { ⌜ (now rows ≡ replicate (5 * count) 0) × (now scratch ≡ replicate (3 * count) 0) × (length (written count (now table)) ≤ length (now tokens)) ⌝ }
     ensures { λ r. ⌜ Put (now (tokens .entry)) 0 (codesOf (written count (now (table .entry)))) (now (tokens .exit)) r ⌝ }
 {
-    walk::decide(0, count, table, rows, scratch);
+    row_walk::decide(0, count, table, rows, scratch);
     write_from(table, count, rows, 1, tokens, 0)
 }
 

@@ -5,7 +5,7 @@ ghost use mathlib.Core.Path.{_≡_};
 ghost use mathlib.Core.List.{[], _∷_};
 ghost use Rattle.laws.specs.Choice.{isOneOf};
 ghost use Rattle.tree.specs.Trees.{labelAt};
-ghost use Rattle.plain.specs.Plain.{isPlain, plainTable};
+ghost use Rattle.token_plain.specs.Plain.{isPlain, plainTable};
 
 fn is_plain(table: &[u16], node: u16) -> bool
     ensures { λ r. ⌜ r ≡ isPlain (labelAt (now (table .entry)) node) ⌝ }

@@ -8,8 +8,8 @@ ghost use mathlib.Core.List.{[]};
 ghost use lib.Dec.{eqb};
 ghost use Rattle.laws.specs.Choice.{pick, lookup};
 ghost use Rattle.tree.specs.Trees.{labelAt, treeAt, operandAt};
-ghost use Rattle.grammar.specs.Tokens.{number, code, operatorOf};
-ghost use Rattle.plain.specs.Written.{unary, signs, signLines, signsOf};
+ghost use Rattle.token_grammar.specs.Tokens.{number, code, operatorOf};
+ghost use Rattle.token_plain.specs.Written.{unary, signs, signLines, signsOf};
 ghost use Rattle.token_writer.specs.Puts.{onlyBefore, onlyBetween, enclosing, pathType, oneIf, Spells};
 
 // Up to three codes.

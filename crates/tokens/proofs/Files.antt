@@ -12,10 +12,10 @@ use Rattle.laws.specs.Choice.{pick}
 use Rattle.laws.specs.Lists.{over}
 use Rattle.laws.proofs.Choice.{pick-true}
 use Rattle.laws.proofs.Lists.{length-over}
-use Rattle.tree_file.specs.declared.Loaded.the-variants as loader
-use Rattle.tree_file.specs.Files.{loaded, loadedTable}
-use Rattle.tree_file.proofs.Loading.{stored-room, stored-cells}
-use Rattle.grammar.specs.Tokens.{codesOf}
+use Rattle.file_loader.specs.declared.Loaded.the-variants as loader
+use Rattle.file_loader.specs.Files.{loaded, loadedTable}
+use Rattle.file_loader.proofs.Loading.{stored-room, stored-cells}
+use Rattle.token_grammar.specs.Tokens.{codesOf}
 use Rattle.token_writer.specs.declared.Written.the-variants.{Refused, Tokens}
 use Rattle.token_writer.specs.Writes.{written, writeRefusal, answered, tokensAfter}
 use Rattle.token_writer.proofs.Bounds.{accepted-first, tokens-bound}

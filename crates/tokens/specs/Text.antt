@@ -2,11 +2,11 @@
 use mathlib.Core.List.{List, [], _∷_, _++_}
 use Prim.Native.Nat.{ℕ}
 use lib.ListN.{length}
-use Rattle.tree_file.specs.declared.Loaded.{Loaded}
-use Rattle.tree_file.specs.declared.Loaded.the-variants as loaded
-use Rattle.tree_file.specs.Files.{cellsIn}
-use Rattle.tree_file.specs.Files as files
-use Rattle.grammar.specs.Tokens.{codesOf}
+use Rattle.file_loader.specs.declared.Loaded.{Loaded}
+use Rattle.file_loader.specs.declared.Loaded.the-variants as loaded
+use Rattle.file_loader.specs.Files.{cellsIn}
+use Rattle.file_loader.specs.Files as files
+use Rattle.token_grammar.specs.Tokens.{codesOf}
 use Rattle.token_writer.specs.declared.Written.{Written}
 use Rattle.token_writer.specs.declared.Written.the-variants.{Refused, Tokens}
 use Rattle.token_writer.specs.Writes.{written, answered}

@@ -1,5 +1,6 @@
 // Reads a tree file on standard input, and prints how many tokens its tree has and their codes, or the number of
 // the refusal.
+use file_loader::Loaded;
 use libc::STDIN_FILENO;
 use libc::STDOUT_FILENO;
 use text::put_byte;
@@ -7,7 +8,6 @@ use text::put_head;
 use text::put_number;
 use text::put_spaced;
 use token_writer::Written;
-use tree_file::Loaded;
 ghost use mathlib.Core.Path.{_≡_};
 ghost use Prim.Native.Nat.{_*_, _≤_};
 ghost use lib.ListN.{length, take};
@@ -68,7 +68,7 @@ fn report(file: &[u8], out: &mut [u8; TEXT]) -> usize
     ensures { λ r. ⌜ take r (now (out .exit)) ≡ printed (now (file .entry)) ⌝ }
 {
     let mut table = [0u16; CELLS];
-    match tree_file::load(file, &mut table) {
+    match file_loader::load(file, &mut table) {
         Loaded::Refused(why) => put_head(out, b'n', b'o', why),
         Loaded::Accepted(context, count) => {
             let cells = 5 * (count as usize);

@@ -2,10 +2,10 @@
 use mathlib.Core.Path.{refl, ap, _∙_}
 use mathlib.Core.Bool.{true}
 use mathlib.Core.List.{[], _∷_}
-use Rattle.shapes.specs.Shapes.{shapeLines, firstInShape}
+use Rattle.tree_shapes.specs.Shapes.{shapeLines, firstInShape}
 use Rattle.tree.specs.Steps.{into}
 use Rattle.tree.proofs.Matches.{form-arm, form-rest}
-use Rattle.shapes.proofs.Shapes.{shape-is}
+use Rattle.tree_shapes.proofs.Shapes.{shape-is}
 use Rattle.classify.specs.Classify.{commaLines}
 use Rattle.classify.specs.Steps.{flowBy}
 use borrow.Author.Needs.{needs}

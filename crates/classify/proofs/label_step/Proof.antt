@@ -5,12 +5,12 @@ use mathlib.Core.List.{[], _∷_}
 use Prim.Native.Nat.{ℕ}
 use lib.Dec.{eqb}
 use Rattle.tree.specs.declared.table.Operand.{Operand}
-use Rattle.shapes.specs.Shapes.{shapeLines, firstInShape}
+use Rattle.tree_shapes.specs.Shapes.{shapeLines, firstInShape}
 use Rattle.tree.specs.Table.{attributesAt}
 use Rattle.tree.specs.Trees.{labelAt}
 use Rattle.tree.specs.Steps.{into, stepBy}
 use Rattle.tree.proofs.Matches.{SecondAt, form-arm, form-rest}
-use Rattle.shapes.proofs.Shapes.{first-is}
+use Rattle.tree_shapes.proofs.Shapes.{first-is}
 use Rattle.classify.specs.Classify.{labelLines}
 use Rattle.classify.specs.Steps.{flowBy, groupLabel}
 use Rattle.classify.specs.declared.ControlFlow.the-variants.{Break}

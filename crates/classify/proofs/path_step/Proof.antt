@@ -4,11 +4,11 @@ use mathlib.Core.Bool.{false}
 use mathlib.Core.List.{[], _∷_}
 use Prim.Native.Nat.{ℕ}
 use Rattle.tree.specs.declared.table.Operand.{Operand}
-use Rattle.shapes.specs.Shapes.{shapeLines, firstInShape}
+use Rattle.tree_shapes.specs.Shapes.{shapeLines, firstInShape}
 use Rattle.tree.specs.Trees.{labelAt}
 use Rattle.tree.specs.Steps.{into, stepBy}
 use Rattle.tree.proofs.Matches.{form-arm, form-rest}
-use Rattle.shapes.proofs.Shapes.{shape-is, first-is}
+use Rattle.tree_shapes.proofs.Shapes.{shape-is, first-is}
 use Rattle.classify.specs.Classify.{pathLines, lastTypeInPath}
 use Rattle.classify.specs.Steps.{flowBy}
 use Rattle.classify.proofs.Steps.{path-one}

@@ -2,11 +2,11 @@
 use mathlib.Core.Path.{refl, sym, ap, _∙_}
 use mathlib.Core.List.{[], _∷_}
 use Rattle.tree.specs.declared.table.Operand.{Operand}
-use Rattle.shapes.specs.Shapes.{shapeLines, firstInShape}
+use Rattle.tree_shapes.specs.Shapes.{shapeLines, firstInShape}
 use Rattle.tree.specs.Trees.{labelAt}
 use Rattle.tree.specs.Steps.{into, isPresent}
 use Rattle.tree.proofs.Matches.{form-arm, form-rest}
-use Rattle.shapes.proofs.Shapes.{shape-is}
+use Rattle.tree_shapes.proofs.Shapes.{shape-is}
 use Rattle.precedence.specs.Precedences.{ofLines, closedBy}
 use Rattle.precedence.specs.declared.Precedence.the-variants.{Unambiguous}
 use Rattle.precedence.specs.declared.Level.the-variants.{Of}

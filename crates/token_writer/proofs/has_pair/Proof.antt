@@ -3,7 +3,7 @@ use mathlib.Core.Path.{sym, ap, _∙_}
 use mathlib.Core.List.{[], _∷_}
 use mir.Val.{hasKey}
 use Rattle.laws.proofs.Keys.{among, outside}
-use Rattle.plain.specs.Written.{hasPair}
+use Rattle.token_plain.specs.Written.{hasPair}
 use Rattle.token_writer.proofs.Spelling.{pair-cell}
 use borrow.Author.Needs.{needs}
 use Rattle.token_writer.proofs.has_pair.Statement.{statement}

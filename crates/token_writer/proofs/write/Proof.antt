@@ -7,7 +7,7 @@ use native.Mathlib.Omega.{arith}
 use lib.ListN.{length}
 use borrow.Author.Needs.{needs}
 use borrow.Author.Tests.{not-true, not-false}
-use Rattle.rules.proofs.Accepted.{count-bounds}
+use Rattle.tree_rules.proofs.Accepted.{count-bounds}
 use Rattle.token_writer.specs.Writes.{written}
 use Rattle.token_writer.proofs.Bounds.{tokens-bound}
 use Rattle.token_writer.proofs.Replies.{take-zeros, length-zeros, refused, short, in-context, not-plain, done}

@@ -1,8 +1,8 @@
 -- `answers::files::number` meets its contract. Assumes nothing.
 use mathlib.Core.Path.{ap}
 use native.Mathlib.Omega.{arith}
-use Rattle.tree_file.specs.declared.Loaded.{Loaded}
-use Rattle.tree_file.specs.Files.{loadedInNumbers}
+use Rattle.file_loader.specs.declared.Loaded.{Loaded}
+use Rattle.file_loader.specs.Files.{loadedInNumbers}
 use Rattle.answers.specs.Replies.{oneNumber}
 use borrow.Author.Needs.{needs}
 use Rattle.answers.proofs.files.number.Statement.{statement}

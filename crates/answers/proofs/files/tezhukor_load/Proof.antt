@@ -1,7 +1,7 @@
 -- `answers::files::tezhukor_load` meets its contract. Assumes nothing.
 use mathlib.Core.Path.{ap, _∙_}
-use Rattle.tree_file.specs.declared.Loaded.{Loaded}
-use Rattle.tree_file.specs.Files.{loadedInNumbers}
+use Rattle.file_loader.specs.declared.Loaded.{Loaded}
+use Rattle.file_loader.specs.Files.{loadedInNumbers}
 use Rattle.answers.specs.Replies.{oneNumber}
 use borrow.Author.Needs.{needs}
 use Rattle.answers.proofs.files.tezhukor_load.Statement.{statement}

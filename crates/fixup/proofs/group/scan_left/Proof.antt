@@ -3,12 +3,12 @@ use mathlib.Core.Path.{sym, ap, _∙_}
 use mathlib.Core.Bool.{Bool, true, not, _||_}
 use mathlib.Core.List.{[], _∷_}
 use Rattle.tree.specs.declared.table.Operand.{Operand}
-use Rattle.shapes.specs.Shapes.{shapeLines, firstInShape}
+use Rattle.tree_shapes.specs.Shapes.{shapeLines, firstInShape}
 use Rattle.tree.specs.Trees.{labelAt}
 use Rattle.tree.specs.Steps.{isPresent}
 use Rattle.tree.proofs.Walks.{there}
 use Rattle.tree.proofs.Matches.{root-arm, root-rest}
-use Rattle.shapes.proofs.Shapes.{shape-is}
+use Rattle.tree_shapes.proofs.Shapes.{shape-is}
 use Rattle.fixup.specs.Fixup.{leftOfBinary, scanLeftLines, scanLeft}
 use Rattle.precedence.specs.declared.Precedence.the-variants.{Assign}
 use Rattle.precedence.specs.Precedences.{below, ofBinop}

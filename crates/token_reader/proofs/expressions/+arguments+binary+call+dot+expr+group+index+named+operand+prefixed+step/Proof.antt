@@ -8,8 +8,8 @@ use lib.ListN.{length}
 use borrow.Author.Needs.{needs}
 use Rattle.laws.specs.Choice.{isOneOf}
 use Rattle.laws.proofs.Keys.{arm, rest}
-use Rattle.grammar.specs.Expressions.{path, literal, neg, deref, invert, ref, refMut, byNumber, awaited}
-use Rattle.grammar.specs.Parser.{noStart, startLines, startBy, noMember, afterDotLines, afterDotBy}
+use Rattle.token_grammar.specs.Expressions.{path, literal, neg, deref, invert, ref, refMut, byNumber, awaited}
+use Rattle.token_grammar.specs.Parser.{noStart, startLines, startBy, noMember, afterDotLines, afterDotBy}
 use Rattle.token_reader.specs.Tables.{goesOnWith}
 use Rattle.token_reader.proofs.First.{there}
 use Rattle.token_reader.proofs.Tables.{level-most, after-least, no-form}
@@ -61,8 +61,8 @@ use Rattle.token_reader.proofs.node.store.Reads as store-reads
 use Rattle.token_reader.proofs.piece.no_expr.Reads as no-expr-reads
 use Rattle.token_reader.proofs.piece.no_piece.Reads as no-piece-reads
 use Rattle.token_reader.proofs.token.code_at.Reads as code-at-reads
-use Rattle.follow.proofs.goes_on.Reads as goes-on-reads
-use Rattle.follow.proofs.level_of.Reads as level-of-reads
+use Rattle.token_follow.proofs.goes_on.Reads as goes-on-reads
+use Rattle.token_follow.proofs.level_of.Reads as level-of-reads
 use Rattle.token_reader.proofs.token.lowest_after.Reads as lowest-after-reads
 use Rattle.token_reader.proofs.token.operator_detail.Reads as operator-detail-reads
 use Rattle.token_reader.proofs.token.operator_form.Reads as operator-form-reads

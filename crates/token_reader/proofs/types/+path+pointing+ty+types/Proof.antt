@@ -5,8 +5,8 @@ use native.Mathlib.Omega.{arith}
 use lib.ListN.{length}
 use borrow.Author.Needs.{needs}
 use Rattle.laws.proofs.Keys.{arm, rest}
-use Rattle.grammar.specs.Types.{constPtr, mutPtr, sharedRef, mutRef, infer, never}
-use Rattle.grammar.specs.Parser.{noType, typeStartLines, typeStartBy}
+use Rattle.token_grammar.specs.Types.{constPtr, mutPtr, sharedRef, mutRef, infer, never}
+use Rattle.token_grammar.specs.Parser.{noType, typeStartLines, typeStartBy}
 use Rattle.token_reader.proofs.First.{there}
 use Rattle.token_reader.proofs.Tells.{ready-on, ready-grew}
 use Rattle.token_reader.proofs.TypeEnds.{type-sign, type-pointing, type-path, type-none, pointing-none, pointing-stored, path-named, path-empty, path-none, path-stored, types-last, types-none, types-more-none, types-more}

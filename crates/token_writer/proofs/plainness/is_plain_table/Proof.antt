@@ -7,7 +7,7 @@ use borrow.Author.Needs.{needs}
 use Rattle.laws.specs.Each.{some}
 use Rattle.laws.proofs.Each.{some-more, some-found}
 use Rattle.tree.specs.Trees.{labelAt}
-use Rattle.plain.specs.Plain.{isPlain, plainTable}
+use Rattle.token_plain.specs.Plain.{isPlain, plainTable}
 use Rattle.token_writer.proofs.plainness.is_plain_table.Statement.{statement}
 use Rattle.token_writer.proofs.plainness.is_plain_table.Tie as tie
 

@@ -2,8 +2,8 @@
 use mathlib.Core.Path.{refl, ap, _∙_}
 use mathlib.Core.List.{List, [], _∷_}
 use Prim.Native.Nat.{ℕ}
-use Rattle.grammar.specs.Tokens.{operator, BitAnd, Assign, Bang, AndMut, As, Name, Literal, Dot, LeftParen, RightParen, LeftBracket, RightBracket, Comma, Question, StarConst, StarMut, Underscore, NumberedMember, Await, operatorOf}
-use Rattle.plain.specs.Written.{byDetail, unary, comma, signLines}
+use Rattle.token_grammar.specs.Tokens.{operator, BitAnd, Assign, Bang, AndMut, As, Name, Literal, Dot, LeftParen, RightParen, LeftBracket, RightBracket, Comma, Question, StarConst, StarMut, Underscore, NumberedMember, Await, operatorOf}
+use Rattle.token_plain.specs.Written.{byDetail, unary, comma, signLines}
 use Rattle.token_writer.specs.Puts.{spelled}
 use Rattle.token_writer.proofs.Spelling.{code-pick, one-if, spells-arm, spells-rest, before-only, between-only, round-second, path-signs}
 use borrow.Author.Needs.{needs}

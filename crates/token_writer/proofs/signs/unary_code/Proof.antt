@@ -2,7 +2,7 @@
 use mathlib.Core.Path.{sym, ap, _∙_}
 use borrow.Author.Tests.{eq-eqb, ne-eqb}
 use Rattle.laws.proofs.Choice.{pick-true, pick-false}
-use Rattle.grammar.specs.Tokens.{code}
+use Rattle.token_grammar.specs.Tokens.{code}
 use Rattle.token_writer.proofs.Spelling.{code-pick}
 use borrow.Author.Needs.{needs}
 use Rattle.token_writer.proofs.signs.unary_code.Statement.{statement}

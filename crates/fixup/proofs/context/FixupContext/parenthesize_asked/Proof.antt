@@ -3,7 +3,7 @@ use mathlib.Core.Path.{sym, ap, _∙_}
 use mathlib.Core.Bool.{Bool, _&&_}
 use Rattle.laws.proofs.Choice.{or-here, or-next}
 use Rattle.tree.specs.Trees.{treeAt}
-use Rattle.look.specs.Looks.{isLet, isOpenEnded}
+use Rattle.fixup_look.specs.Looks.{isLet, isOpenEnded}
 use Rattle.fixup.specs.Fixup.{parenthesize}
 use borrow.Author.Needs.{needs}
 use Rattle.fixup.proofs.context.FixupContext.parenthesize_asked.Statement.{statement}

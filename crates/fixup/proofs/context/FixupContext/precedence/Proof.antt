@@ -3,7 +3,7 @@ use mathlib.Core.Path.{_≡_, refl, sym, _∙_}
 use mathlib.Core.Bool.{Bool, true, false, not, _&&_}
 use Rattle.laws.proofs.Choice.{pick-true, pick-false, true-not-false}
 use Rattle.tree.specs.Trees.{treeAt}
-use Rattle.look.specs.Looks.{isCastToPath}
+use Rattle.fixup_look.specs.Looks.{isCastToPath}
 use Rattle.fixup.specs.Fixup.{effective}
 use borrow.Author.Needs.{needs}
 use Rattle.fixup.proofs.context.FixupContext.precedence.Statement.{statement}

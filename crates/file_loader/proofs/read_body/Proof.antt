@@ -1,0 +1,91 @@
+-- `tree_file::read_body` meets its contract. Assumes nothing.
+use mathlib.Core.Path.{_≡_, refl, sym, _∙_}
+use mathlib.Core.List.{_++_, _∷_, []}
+use Prim.Native.Nat.{suc, _+_, _-_, _≤_}
+use native.Mathlib.Omega.{arith}
+use borrow.Author.Needs.{needs}
+use lib.ListN.{length, take, drop, length-set}
+use lib.Seq.{take-suc-set}
+use Rattle.file_loader.specs.Several.{numbers, numbersOf}
+use Rattle.file_loader.proofs.Several.{number-bad, numbers-next, numbers-stop}
+use Rattle.file_loader.proofs.read_body.Statement.{statement}
+use Rattle.file_loader.proofs.read_body.Tie as tie
+
+abbrev Inv-loop : tie.InvT-loop
+Inv-loop file from cells own₀ at₀ done₀ own at done = (done ≤ cells) × (length own ≡ length own₀) × (numbersOf done (drop from file) ≡ numbers (take done own) (drop at file))
+
+abbrev μ-loop : tie.MeasureT-loop
+μ-loop file from cells own₀ at₀ done₀ own at done = cells - done
+
+loop-holds : tie.Need-loop-holds Inv-loop μ-loop
+unfolding numbersOf
+loop-holds c = (omega arith, refl, refl)
+
+number-at-requires : tie.Need-number-at-requires Inv-loop μ-loop
+number-at-requires c κs = search needs
+
+enum-known-value : tie.Need-enum-known-value Inv-loop μ-loop
+enum-known-value c = search needs
+
+enum-told : tie.Need-enum-told Inv-loop μ-loop
+enum-told c = search needs
+
+same-length : tie.Need-same-length Inv-loop μ-loop
+same-length c = c .before .before .before .before .loop .inv .1
+
+returns : tie.Need-returns Inv-loop μ-loop
+returns c =
+    let l = c .before .before .before .before .loop in
+    (numbers-stop (l .done) _ _ _ _ (c .before .before .before .loop-test .taken) (l .inv .2) (number-bad _ _ (sym (c .enum-told .given .1) ∙ c .before .before .number-at .ensures)), l .inv .1)
+
+mul-own : tie.Need-mul-own Inv-loop μ-loop
+mul-own c = search needs
+
+slice-write-own : tie.Need-slice-write-own Inv-loop μ-loop
+slice-write-own c = omega arith
+
+add-done : tie.Need-add-done Inv-loop μ-loop
+add-done c = omega arith
+
+loop-less : tie.Need-loop-less Inv-loop μ-loop
+loop-less c = omega arith
+
+loop-again : tie.Need-loop-again Inv-loop μ-loop
+loop-again c =
+    let l = c .before .before .before .before .before .loop in
+    let e : l .done + 1 ≡ suc (l .done) = omega arith in (
+      omega arith,
+      simp length-set (l .inv .1),
+      rw e
+          (numbers-next (l .done) _ _ _ _ _ _ (l .inv .2) (sym (c .before .value .given .1) ∙ c .before .before .before .number-at .ensures)
+          ∙ rw (take-suc-set (l .own) (l .done) _ (omega arith))),
+    )
+
+same-length-2 : tie.Need-same-length-2 Inv-loop μ-loop
+same-length-2 c = c .before .loop .inv .1
+
+returns-2 : tie.Need-returns-2 Inv-loop μ-loop
+returns-2 c =
+    let l = c .before .loop in
+    let e : l .done ≡ c .before .before .before .before .args .cells = omega arith in
+    (rw e at (l .inv .2), l .inv .1)
+
+pub read-body-spec : {M : Type 1} → statement M
+read-body-spec =
+    tie.close
+    (tie.spec
+    Inv-loop
+    μ-loop
+    loop-holds
+    number-at-requires
+    enum-known-value
+    enum-told
+    same-length
+    returns
+    mul-own
+    slice-write-own
+    add-done
+    loop-less
+    loop-again
+    same-length-2
+    returns-2)

@@ -1,0 +1,43 @@
+-- `scan::right::is_scanned` meets its contract. Assumes nothing.
+use mathlib.Core.Path.{ap, ap₂, _∙_}
+use mathlib.Core.Bool.{Bool, not, _||_}
+use Rattle.fixup_scan.specs.Scans.{scanned}
+use borrow.Author.Needs.{needs}
+use Rattle.fixup_scan.proofs.right.is_scanned.Statement.{statement}
+use Rattle.fixup_scan.proofs.right.is_scanned.Tie as tie
+
+is-requires : tie.Need-is-requires
+is-requires c κs = search needs
+
+is-requires-2 : tie.Need-is-requires-2
+is-requires-2 c κs = search needs
+
+is-requires-3 : tie.Need-is-requires-3
+is-requires-3 c κs = search needs
+
+either-requires : tie.Need-either-requires
+either-requires c κs = search needs
+
+either-requires-2 : tie.Need-either-requires-2
+either-requires-2 c κs = search needs
+
+either-requires-3 : tie.Need-either-requires-3
+either-requires-3 c κs = search needs
+
+returns : tie.Need-returns
+unfolding scanned
+returns c =
+    c .either3 .ensures
+    ∙ ap (λ (b : Bool). b || not (c .before .before .before .before .before .before .before .args .fixup .«next_operator_can_begin_expr»)) ((c .before .before .either2 .ensures) ∙ ap₂ _||_ (c .before .before .before .before .before .before .is .ensures) ((c .before .before .before .either .ensures) ∙ ap₂ _||_ (c .before .before .before .before .before .is2 .ensures) (c .before .before .before .before .is3 .ensures)))
+
+pub is-scanned-spec : {M : Type 1} → statement M
+is-scanned-spec =
+    tie.close
+    (tie.spec
+    is-requires
+    is-requires-2
+    is-requires-3
+    either-requires
+    either-requires-2
+    either-requires-3
+    returns)

@@ -1,0 +1,68 @@
+-- The rows of a tree in the cells of its nodes, a node at a time. Assumes nothing.
+use mathlib.Core.Path.{_≡_, refl, sym, ap, _∙_}
+use mathlib.Core.List.{List}
+use Prim.Native.Nat.{ℕ, _≤_}
+use lib.ListN.{length, length-set}
+use mathlib.Core.Bool.{false}
+use Rattle.tree.specs.Trees.{none, labelAt, operandAt, treeAt}
+use Rattle.tree.proofs.Unfold.{unfolds, tree-zero}
+use Rattle.fixup.specs.declared.context.FixupContext.{FixupContext}
+use Rattle.fixup.specs.Contexts.{NONE}
+use Rattle.expr.specs.declared.Handed.{Handed}
+use Rattle.expr.specs.Expr.{handsFirst, handsSecond}
+use Rattle.row.specs.declared.Row.{Row}
+use Rattle.row.specs.Rows.{Rows, zeros, isExpression, rowOf, ownContext, rowsOf}
+use Rattle.row.specs.Rows as rows
+use Rattle.row.specs.Steps.{alone}
+use Rattle.row_walk.specs.Steps.{placedFirst, placedBelow, placedAlone}
+use Rattle.row_walk.proofs.Decisions.{row-other, own-other, first-other, second-other}
+use Rattle.row_walk.specs.Walk.{rowStored, placed}
+
+-- ---- lengths
+
+pub length-stored : (i : ℕ) (r : Row) (cells : List ℕ) → length (rowStored i r cells) ≡ length cells
+unfolding rowStored
+length-stored i r cells = simp length-set
+
+pub length-placed : (cells : List ℕ) (count i : ℕ) (t : Rows) (into : List ℕ) → length (placed cells count i t into) ≡ length into
+unfolding placed
+length-placed cells count i rows.absent into = refl
+length-placed cells count i (rows.present r a b) into =
+    length-placed cells count (operandAt cells count i 4) b _
+    ∙ length-placed cells count (operandAt cells count i 3) a _
+    ∙ length-stored i r into
+
+pub length-below : (x : FixupContext) (cells : List ℕ) (count i : ℕ) (into : List ℕ) → length (placedBelow x cells count i into) ≡ length into
+length-below x cells count i into = length-placed cells count _ _ _ ∙ length-placed cells count _ _ into
+
+-- ---- one node
+
+module _ (cells : List ℕ) (count i : ℕ) (h : Handed) (into : List ℕ) where
+  pub placed-none : treeAt cells count i ≡ none → placed cells count i (rowsOf h (treeAt cells count i)) into ≡ into
+  unfolding placed rowsOf
+  placed-none e = rw e
+
+  pub placed-node : 1 ≤ i → i ≤ count → placed cells count i (rowsOf h (treeAt cells count i)) into
+      ≡ placed cells count (operandAt cells count i 4) (rowsOf (handsSecond (ownContext h (treeAt cells count i)) (treeAt cells count i)) (treeAt cells count (operandAt cells count i 4)))
+      (placed cells count (operandAt cells count i 3) (rowsOf (handsFirst (ownContext h (treeAt cells count i)) (treeAt cells count i)) (treeAt cells count (operandAt cells count i 3)))
+      (rowStored i (rowOf h (treeAt cells count i)) into))
+  unfolding placed rowsOf
+  placed-node low high = rw (unfolds cells count i low high)
+
+  -- the same by steps: the node's own row, then its operands'
+  pub placed-by : 1 ≤ i → i ≤ count → (x : FixupContext) → x ≡ ownContext h (treeAt cells count i) → (r : Row) → r ≡ rowOf h (treeAt cells count i)
+      → (own : List ℕ) → own ≡ rowStored i r into → (out : List ℕ) → out ≡ placedBelow x cells count i own
+      → out ≡ placed cells count i (rowsOf h (treeAt cells count i)) into
+  placed-by low high x ex r er own eown out eout = eout ∙ rw (eown, er, ex) (sym (placed-node low high))
+
+  -- an operand that is absent
+  pub placed-absent : i ≡ 0 → placed cells count i (rowsOf h (treeAt cells count i)) into ≡ into
+  placed-absent e = placed-none (rw e (tree-zero cells count))
+
+-- a type or a link: what is left is its second operand's
+pub placed-other : (cells : List ℕ) (count i : ℕ) (into : List ℕ) → 1 ≤ i → i ≤ count → isExpression (treeAt cells count i) ≡ false
+    → (own : List ℕ) → own ≡ rowStored i zeros into → (o : ℕ) → o ≡ operandAt cells count i 3 → (first : List ℕ) → first ≡ placedAlone cells count o own → (p : ℕ) → p ≡ operandAt cells count i 4
+    → placedAlone cells count p first ≡ placedAlone cells count i into
+placed-other cells count i into low high e own eown o eo first ef p ep =
+    placed-by cells count i alone into low high NONE (own-other alone (treeAt cells count i) e) zeros (row-other alone (treeAt cells count i) e) own eown _
+    (rw (ep, ef, eo, ← first-other NONE (treeAt cells count i) e, ← second-other NONE (treeAt cells count i) e))

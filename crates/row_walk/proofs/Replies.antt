@@ -1,0 +1,62 @@
+-- The replies of `decide`, and what they leave in the buffers. Assumes nothing.
+use mathlib.Core.Path.{_≡_, refl, sym, ap, _∙_}
+use mathlib.Core.Bool.{Bool, true, false, _||_}
+use mathlib.Core.List.{List}
+use Prim.Native.Nat.{ℕ, _*_, _≤_, _<_}
+use native.Mathlib.Omega.{arith}
+use lib.Dec.{eqb, ltb}
+use lib.ListN.{length, replicate}
+use borrow.Author.Tests.{eq-eqb, ne-eqb, lt-ltb, le-ltb}
+use Rattle.laws.specs.Choice.{pick}
+use Rattle.laws.specs.Lists.{over}
+use Rattle.laws.proofs.Choice.{pick-true, pick-false, or-here, or-next}
+use Rattle.tree.specs.Trees.{treeAt}
+use Rattle.tree_rules.specs.Refusals.{refusal}
+use Rattle.expr.specs.declared.Handed.{Handed}
+use Rattle.row.specs.Rows.{rowsOf}
+use Rattle.row_walk.specs.Walk.{rootHanded, placed, decideRefusal12, decided, rowsAfter, scratchAfter}
+
+module _ (context count : ℕ) (cells rows scratch : List ℕ) where
+  -- what the three clauses of the contract say of a reply and of the buffers afterwards
+  abbrev pub Decides : ℕ → List ℕ → List ℕ → Type 0
+  Decides r rows′ scratch′ =
+      (r ≡ decided context count cells (length rows) (length scratch))
+      × ((rows′ ≡ rowsAfter context count cells rows scratch)
+      × (scratch′ ≡ scratchAfter context count cells rows scratch))
+
+  -- a reply that is not 0 leaves the buffers as they were
+  refuses : (r : ℕ) → r ≡ decided context count cells (length rows) (length scratch) → (r ≡ 0 → ⊥) → Decides r rows scratch
+  unfolding rowsAfter scratchAfter
+  refuses r e n =
+      let f : eqb (decided context count cells (length rows) (length scratch)) 0 ≡ false = rw (← e) (ne-eqb r 0 n) in
+      (e, (sym (pick-false _ _ f), sym (pick-false _ _ f)))
+
+  pub refused : (r : ℕ) → r ≡ refusal context count cells → (r ≡ 0 → ⊥) → Decides r rows scratch
+  unfolding decided
+  refused r e n = refuses r (e ∙ sym (pick-false _ _ (rw (← e) (ne-eqb r 0 n)))) n
+
+  module _ (accepted : refusal context count cells ≡ 0) where
+    after : decided context count cells (length rows) (length scratch) ≡ pick (decideRefusal12 count (length rows) (length scratch)) 12 0
+    unfolding decided
+    after = pick-true _ _ (eq-eqb _ 0 accepted)
+
+    short : decideRefusal12 count (length rows) (length scratch) ≡ true → Decides 12 rows scratch
+    short e = refuses 12 (sym (after ∙ pick-true 12 0 e)) (λ z. omega arith)
+
+    pub short-rows : length rows < 5 * count → Decides 12 rows scratch
+    unfolding decideRefusal12
+    short-rows h = short (or-here _ (lt-ltb _ _ h))
+
+    module _ (fits : 5 * count ≤ length rows) where
+      pub short-scratch : length scratch < 3 * count → Decides 12 rows scratch
+      unfolding decideRefusal12
+      short-scratch h = short (or-next _ (le-ltb _ _ fits) ∙ lt-ltb _ _ h)
+
+      pub done : 3 * count ≤ length scratch → (h : Handed) → h ≡ rootHanded context
+          → (rows′ : List ℕ) → rows′ ≡ placed cells count 1 (rowsOf h (treeAt cells count 1)) rows
+          → (scratch′ : List ℕ) → scratch′ ≡ over (replicate (3 * count) 0) scratch
+          → Decides 0 rows′ scratch′
+      unfolding decideRefusal12 rowsAfter scratchAfter
+      done k h eh rows′ er scratch′ es =
+          let e : decided context count cells (length rows) (length scratch) ≡ 0 = after ∙ pick-false 12 0 (or-next _ (le-ltb _ _ fits) ∙ le-ltb _ _ k) in
+          (sym e, (er ∙ rw eh (sym (pick-true _ _ (eq-eqb _ 0 e))), es ∙ sym (pick-true _ _ (eq-eqb _ 0 e))))

@@ -1,0 +1,61 @@
+-- The reply of `decide`, and what the lent buffers hold afterwards.
+use mathlib.Core.Bool.{Bool, _||_}
+use mathlib.Core.List.{List, [], _∷_}
+use Prim.Native.Nat.{ℕ, _+_, _*_, _-_}
+use lib.Dec.{eqb, ltb}
+use lib.ListN.{length, set, replicate}
+use Rattle.laws.specs.Choice.{pick, Line, line, lookup}
+use Rattle.laws.specs.Lists.{over}
+use Rattle.tree.specs.Trees.{operandAt, treeAt}
+use Rattle.tree_rules.specs.Refusals.{refusal}
+use Rattle.fixup.specs.declared.context.FixupContext.{FixupContext}
+use Rattle.fixup.specs.Contexts.{NONE, newStmt, newMatchArm, newCondition}
+use Rattle.expr.specs.declared.Handed.{Handed}
+use Rattle.expr.specs.Handed.{neither}
+use Rattle.row.specs.declared.Row.{Row}
+use Rattle.row.specs.Rows.{Rows, absent, present, rowsOf}
+
+-- document 01, 'Tree file': "Context: 0 NONE, 1 new_stmt, 2 new_match_arm, 3 new_condition."
+unfoldable pub contexts : List (Line FixupContext)
+contexts = line (1 ∷ []) newStmt ∷ line (2 ∷ []) newMatchArm ∷ line (3 ∷ []) newCondition ∷ []
+
+unfoldable pub contextNumbered : ℕ → FixupContext
+contextNumbered context = lookup contexts NONE context
+
+-- the root: the header's context, and no owner's test
+abbrev pub rootHanded : ℕ → Handed
+rootHanded context = neither (contextNumbered context)
+
+-- a row in the five cells of node i
+unfoldable pub rowStored : ℕ → Row → List ℕ → List ℕ
+rowStored i r rows =
+    let at = 5 * (i - 1) in
+    set (set (set (set (set rows at (r .pair)) (at + 1) (r .precedence)) (at + 2) (r .previous)) (at + 3) (r .next)) (at + 4) (r .flags)
+
+-- the rows of the tree at node i, each in the cells of its node
+unfoldable pub placed : List ℕ → ℕ → ℕ → Rows → List ℕ → List ℕ
+placed cells count i absent rows = rows
+placed cells count i (present r a b) rows =
+    placed cells count (operandAt cells count i 4) b (placed cells count (operandAt cells count i 3) a (rowStored i r rows))
+
+-- 12. "A lent buffer is too short: five cells a node for rows, three for the walk's scratch"
+unfoldable pub decideRefusal12 : ℕ → ℕ → ℕ → Bool
+decideRefusal12 count rows scratch = ltb rows (5 * count) || ltb scratch (3 * count)
+
+-- the reply: the table's refusal, then 12, or 0
+unfoldable pub decided : ℕ → ℕ → List ℕ → ℕ → ℕ → ℕ
+decided context count cells rows scratch =
+    pick (eqb (refusal context count cells) 0) (pick (decideRefusal12 count rows scratch) 12 0) (refusal context count cells)
+
+-- the rows afterwards. "Otherwise .. every lent buffer keeps its contents. On 0, cells past the answer keep theirs."
+unfoldable pub rowsAfter : ℕ → ℕ → List ℕ → List ℕ → List ℕ → List ℕ
+rowsAfter context count cells rows scratch =
+    pick
+    (eqb (decided context count cells (length rows) (length scratch)) 0)
+    (placed cells count 1 (rowsOf (rootHanded context) (treeAt cells count 1)) rows)
+    rows
+
+-- the scratch afterwards. "On 0 the walk's scratch holds zeros in the three cells of each node."
+unfoldable pub scratchAfter : ℕ → ℕ → List ℕ → List ℕ → List ℕ → List ℕ
+scratchAfter context count cells rows scratch =
+    pick (eqb (decided context count cells (length rows) (length scratch)) 0) (over (replicate (3 * count) 0) scratch) scratch

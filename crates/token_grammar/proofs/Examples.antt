@@ -1,0 +1,101 @@
+-- Document 01's P2 to P7 on parse trees, and token lists with what the parser gives for them: one table, computed. Assumes nothing.
+use mathlib.Core.Path.{_≡_, refl}
+use mathlib.Core.Bool.{false}
+use mathlib.Core.List.{List, [], _∷_}
+use Prim.Native.Nat.{ℕ}
+use Rattle.laws.specs.Choice.{pick, lookup}
+use Rattle.token_grammar.specs.Tokens.{Operator, Add, Sub, Mul, And, Or, BitXor, BitAnd, BitOr, Shl, Eq, Lt, Le, Assign}
+use Rattle.token_grammar.specs.Codes.{tokenOf, tokensOf}
+use Rattle.token_grammar.specs.Levels.{kind}
+use Rattle.token_grammar.specs.Types.{one, named, applied, types, lastType}
+use Rattle.token_grammar.specs.Expressions.{path, neg, byName, byNumber, Expr, atom, paren, prefix, binary, cast, member, try, call, method, noArguments, arguments, lastArgument}
+use Rattle.token_grammar.specs.Grammar.{NONE, opensArguments}
+use Rattle.token_grammar.proofs.Added.{strength, addPairs}
+use Rattle.token_grammar.specs.Parser.{Out, fail, ok, startOf, typeStartOf, afterDotOf, goesOn, typeBy, exprBy, parse}
+
+record Example : Type 0 where
+  given : Out (Expr one)
+  expected : Out (Expr one)
+
+-- a tree, and the same with the pairs that it needs
+abbrev pairs : Expr one → Expr one → Example
+pairs e with = record { given = ok (addPairs e false) []; expected = ok with [] }
+
+-- the codes of a token list, and its parse tree; or what the parser stops with
+abbrev reads : List ℕ → Expr one → Example
+reads codes e = record { given = parse NONE (tokensOf codes); expected = ok e [] }
+
+abbrev stops : List ℕ → Out (Expr one) → Example
+stops codes out = record { given = parse NONE (tokensOf codes); expected = out }
+
+abbrev a : Expr one
+a = atom path
+
+-- a o b o c without a pair: an operator that leans left
+abbrev leansLeft : Operator → Example
+leansLeft o = pairs (binary o (binary o a a) a) (binary o (binary o a a) a)
+
+-- `a as T`, and `a as T<A>`
+abbrev bareCast : Expr one
+bareCast = cast a named
+
+abbrev castWithArguments : Expr one
+castWithArguments = cast a (applied (types (lastType named)))
+
+abbrev examples : List Example
+examples =
+    -- P2 "`a - (b - c)` keeps its pair; `(a - b) - c` gets none."
+    pairs (binary Sub a (binary Sub a a)) (binary Sub a (paren (binary Sub a a))) ∷
+    pairs (binary Sub (binary Sub a a) a) (binary Sub (binary Sub a a) a) ∷
+    -- P3 "Cast to a bare path left of `<`: pair; left of `<=`: none."
+    pairs (binary Lt bareCast a) (binary Lt (paren bareCast) a) ∷
+    pairs (binary Le bareCast a) (binary Le bareCast a) ∷
+    -- P4 "argument list `T<A>` before `<`: none."
+    pairs (binary Lt castWithArguments a) (binary Lt castWithArguments a) ∷
+    -- P5 "`x + (a as T) < b`: the pair stands round the cast."
+    pairs (binary Lt (binary Add a bareCast) a) (binary Lt (binary Add a (paren bareCast)) a) ∷
+    -- P6 "Call of a named Field: pair; of a numbered one: none."
+    pairs (call (member byName a) noArguments) (call (paren (member byName a)) noArguments) ∷
+    pairs (call (member byNumber a) noArguments) (call (member byNumber a) noArguments) ∷
+    -- P7 "comparison under comparison, either side: pair."
+    pairs (binary Eq (binary Lt a a) a) (binary Eq (paren (binary Lt a a)) a) ∷
+    pairs (binary Eq a (binary Lt a a)) (binary Eq a (paren (binary Lt a a))) ∷
+    -- "all so far but assignment and comparison lean left"
+    leansLeft Or ∷
+    leansLeft And ∷
+    leansLeft BitOr ∷
+    leansLeft BitXor ∷
+    leansLeft BitAnd ∷
+    leansLeft Shl ∷
+    leansLeft Add ∷
+    leansLeft Mul ∷
+    pairs (cast bareCast named) (cast bareCast named) ∷
+    -- "assignment (right operand first)": a = b = c, and (a = b) = c
+    pairs (binary Assign a (binary Assign a a)) (binary Assign a (binary Assign a a)) ∷
+    pairs (binary Assign (binary Assign a a) a) (binary Assign (paren (binary Assign a a)) a) ∷
+    -- a + b * c; (a + b)
+    reads (32 ∷ 0 ∷ 32 ∷ 2 ∷ 32 ∷ []) (binary Add a (binary Mul a a)) ∷
+    reads (35 ∷ 32 ∷ 0 ∷ 32 ∷ 36 ∷ []) (paren (binary Add a a)) ∷
+    -- - a . f ( ); a . f ( b ) ?
+    reads (1 ∷ 32 ∷ 34 ∷ 32 ∷ 35 ∷ 36 ∷ []) (prefix neg (method a noArguments)) ∷
+    reads (32 ∷ 34 ∷ 32 ∷ 35 ∷ 32 ∷ 36 ∷ 40 ∷ []) (try (method a (arguments (lastArgument a)))) ∷
+    -- a as T < A >; a as T < A > < b
+    reads (32 ∷ 31 ∷ 32 ∷ 13 ∷ 32 ∷ 17 ∷ []) castWithArguments ∷
+    reads (32 ∷ 31 ∷ 32 ∷ 13 ∷ 32 ∷ 17 ∷ 13 ∷ 32 ∷ []) (binary Lt castWithArguments a) ∷
+    -- a == b == c: the second `==` is left
+    stops (32 ∷ 12 ∷ 32 ∷ 12 ∷ 32 ∷ []) (ok (binary Eq a a) (tokensOf (12 ∷ 32 ∷ []))) ∷
+    -- a as T << b: the `<<` is left
+    stops (32 ∷ 31 ∷ 32 ∷ 10 ∷ 32 ∷ []) (ok bareCast (tokensOf (10 ∷ 32 ∷ []))) ∷
+    -- f(a,): no comma after the last item
+    stops (32 ∷ 35 ∷ 32 ∷ 39 ∷ 36 ∷ []) fail ∷
+    -- "The empty token list gives 15."
+    stops [] fail ∷
+    []
+
+abbrev all : (Example → Out (Expr one)) → List Example → List (Out (Expr one))
+all f [] = []
+all f (k ∷ ks) = f k ∷ all f ks
+
+pub examples-hold : all (λ k. k .given) examples ≡ all (λ k. k .expected) examples
+unfolding pick lookup kind tokenOf opensArguments strength startOf typeStartOf afterDotOf goesOn typeBy exprBy parse
+examples-hold = refl

@@ -1,0 +1,279 @@
+-- Two parse trees that are one tree but for parentheses, and write the same tokens, are equal. No level is needed for this. Assumes nothing.
+use mathlib.Core.Path.{_≡_, refl, sym, subst, ap, ap₂, _∙_}
+use mathlib.Core.Bool.{false}
+use mathlib.Core.List.{List, [], _∷_}
+use mathlib.Core.Logic.{_⊎_, inl, inr}
+use Prim.Native.Nat.{ℕ, zero, suc, _+_}
+use native.Mathlib.Nat.{add-zero, add-suc, zero-add, suc-add}
+use native.Mathlib.Omega.{arith}
+use lib.Dec.{eqb}
+use borrow.Author.Tests.{eq-eqb, ne-eqb}
+use Rattle.laws.proofs.Choice.{true-not-false}
+use Rattle.token_grammar.specs.Tokens.{Operator, Sub, Mul, BitAnd, Gt, number, Token, operator, code, Bang, AndMut, As, Name, Literal, Dot, LeftParen, RightParen, LeftBracket, RightBracket, Comma, Question}
+use Rattle.token_grammar.specs.Types.{Sort, one, list, items, Ty, named, applied, pointing, sign, noTypes, types, lastType, moreTypes, writeType}
+use Rattle.token_grammar.specs.Expressions.{Atom, path, literal, Prefix, neg, deref, invert, ref, refMut, Expr, atom, paren, prefix, binary, cast, member, try, index, call, method, noArguments, arguments, lastArgument, moreArguments, atomToken, prefixToken, memberToken, write}
+use Rattle.token_grammar.specs.Bare.{bare}
+use Rattle.token_grammar.proofs.Tokens.{number-below}
+
+-- ---- counted parentheses
+
+abbrev opened : ℕ → List Token → List Token
+opened zero u = u
+opened (suc n) u = LeftParen ∷ opened n u
+
+abbrev closed : ℕ → List Token → List Token
+closed zero r = r
+closed (suc n) r = RightParen ∷ closed n r
+
+abbrev parens : ℕ → Expr one → Expr one
+parens zero e = e
+parens (suc n) e = paren (parens n e)
+
+closed-in : (n : ℕ) (r : List Token) → closed n (RightParen ∷ r) ≡ RightParen ∷ closed n r
+closed-in zero r = refl
+closed-in (suc n) r = ap (λ z. RightParen ∷ z) (closed-in n r)
+
+closed-two : (e i : ℕ) (r : List Token) → closed i (closed e r) ≡ closed (e + i) r
+closed-two e zero r = rw add-zero
+closed-two e (suc i) r = rw (add-suc e i, closed-two e i r)
+
+closed-same : (n : ℕ) (u v : List Token) → closed n u ≡ closed n v → u ≡ v
+closed-same zero u v h = h
+closed-same (suc n) u v h = closed-same n u v (cc)
+
+opened-two : (e i : ℕ) (u : List Token) → opened e (opened i u) ≡ opened (e + i) u
+opened-two zero i u = rw zero-add
+opened-two (suc e) i u = rw (suc-add e i, opened-two e i u)
+
+write-parens : (n : ℕ) (e : Expr one) (r : List Token) → write (parens n e) r ≡ opened n (write e (closed n r))
+write-parens zero e r = refl
+write-parens (suc n) e r = ap (λ z. LeftParen ∷ z) (write-parens n e (RightParen ∷ r) ∙ ap (λ z. opened n (write e z)) (closed-in n r))
+
+-- the fewer parentheses are taken from both sides
+abbrev Meet : ℕ → ℕ → List Token → List Token → Type 0
+Meet n j a b = ((m : ℕ) × (n ≡ m + j) × (opened m a ≡ b)) ⊎ ((m : ℕ) × (opened (suc m) b ≡ a))
+
+meet : (n j : ℕ) (a b : List Token) → opened n a ≡ opened j b → Meet n j a b
+meet n zero a b h = inl (n, omega arith, h)
+meet zero (suc j) a b h = inr (j, sym h)
+meet (suc n) (suc j) a b h = shift (meet n j a b (cc))
+  where
+    shift : Meet n j a b → Meet (suc n) (suc j) a b
+    shift (inl w) = inl (w .0, omega arith, w .2)
+    shift (inr w) = inr w
+
+-- ---- a parse tree as its bare tree with a count of parentheses at each operand
+
+abbrev Counts : {s : Sort} → Expr s → Type 0
+Counts (atom x) = Unit {0}
+Counts (paren a) = Unit {0}
+Counts (prefix p a) = ℕ × Counts a
+Counts (binary o a b) = ℕ × Counts a × ℕ × Counts b
+Counts (cast a t) = ℕ × Counts a
+Counts (member m a) = ℕ × Counts a
+Counts (try a) = ℕ × Counts a
+Counts (index a b) = ℕ × Counts a × ℕ × Counts b
+Counts (call a l) = ℕ × Counts a × Counts l
+Counts (method a l) = ℕ × Counts a × Counts l
+Counts noArguments = Unit {0}
+Counts (arguments l) = Counts l
+Counts (lastArgument a) = ℕ × Counts a
+Counts (moreArguments a l) = ℕ × Counts a × Counts l
+
+abbrev put : {s : Sort} (e : Expr s) → Counts e → Expr s
+put (atom x) d = atom x
+put (paren a) d = paren a
+put (prefix p a) d = prefix p (parens (d .0) (put a (d .1)))
+put (binary o a b) d = binary o (parens (d .0) (put a (d .1))) (parens (d .2) (put b (d .3)))
+put (cast a t) d = cast (parens (d .0) (put a (d .1))) t
+put (member m a) d = member m (parens (d .0) (put a (d .1)))
+put (try a) d = try (parens (d .0) (put a (d .1)))
+put (index a b) d = index (parens (d .0) (put a (d .1))) (parens (d .2) (put b (d .3)))
+put (call a l) d = call (parens (d .0) (put a (d .1))) (put l (d .2))
+put (method a l) d = method (parens (d .0) (put a (d .1))) (put l (d .2))
+put noArguments d = noArguments
+put (arguments l) d = arguments (put l d)
+put (lastArgument a) d = lastArgument (parens (d .0) (put a (d .1)))
+put (moreArguments a l) d = moreArguments (parens (d .0) (put a (d .1))) (put l (d .2))
+
+abbrev Counted : (s : Sort) → Expr s → Type 0
+Counted one e = (k : ℕ) × (d : Counts (bare e)) × (parens k (put (bare e) d) ≡ e)
+Counted list l = (d : Counts (bare l)) × (put (bare l) d ≡ l)
+Counted items l = (d : Counts (bare l)) × (put (bare l) d ≡ l)
+
+counted : (s : Sort) (e : Expr s) → Counted s e
+counted s (atom x) = (0, tt, refl)
+counted s (paren a) = let p = counted one a in (suc (p .0), p .1, ap paren (p .2))
+counted s (prefix x a) = let p = counted one a in (0, (p .0, p .1), ap (prefix x) (p .2))
+counted s (binary o a b) = let p = counted one a in let q = counted one b in (0, (p .0, p .1, q .0, q .1), ap₂ (binary o) (p .2) (q .2))
+counted s (cast a t) = let p = counted one a in (0, (p .0, p .1), ap (λ x. cast x t) (p .2))
+counted s (member m a) = let p = counted one a in (0, (p .0, p .1), ap (member m) (p .2))
+counted s (try a) = let p = counted one a in (0, (p .0, p .1), ap try (p .2))
+counted s (index a b) = let p = counted one a in let q = counted one b in (0, (p .0, p .1, q .0, q .1), ap₂ index (p .2) (q .2))
+counted s (call a l) = let p = counted one a in let q = counted list l in (0, (p .0, p .1, q .0), ap₂ call (p .2) (q .1))
+counted s (method a l) = let p = counted one a in let q = counted list l in (0, (p .0, p .1, q .0), ap₂ method (p .2) (q .1))
+counted s noArguments = (tt, refl)
+counted s (arguments l) = let q = counted items l in (q .0, ap arguments (q .1))
+counted s (lastArgument a) = let p = counted one a in ((p .0, p .1), ap lastArgument (p .2))
+counted s (moreArguments a l) = let p = counted one a in let q = counted items l in ((p .0, p .1, q .0), ap₂ moreArguments (p .2) (q .1))
+
+-- ---- the statement, on a tree without parentheses
+
+abbrev NoParens : {s : Sort} → Expr s → Type 0
+NoParens (atom x) = Unit {0}
+NoParens (paren a) = ⊥
+NoParens (prefix p a) = NoParens a
+NoParens (binary o a b) = NoParens a × NoParens b
+NoParens (cast a t) = NoParens a
+NoParens (member m a) = NoParens a
+NoParens (try a) = NoParens a
+NoParens (index a b) = NoParens a × NoParens b
+NoParens (call a l) = NoParens a × NoParens l
+NoParens (method a l) = NoParens a × NoParens l
+NoParens noArguments = Unit {0}
+NoParens (arguments l) = NoParens l
+NoParens (lastArgument a) = NoParens a
+NoParens (moreArguments a l) = NoParens a × NoParens l
+
+bare-none : {s : Sort} (e : Expr s) → NoParens (bare e)
+bare-none (atom x) = tt
+bare-none (paren a) = bare-none a
+bare-none (prefix p a) = bare-none a
+bare-none (binary o a b) = (bare-none a, bare-none b)
+bare-none (cast a t) = bare-none a
+bare-none (member m a) = bare-none a
+bare-none (try a) = bare-none a
+bare-none (index a b) = (bare-none a, bare-none b)
+bare-none (call a l) = (bare-none a, bare-none l)
+bare-none (method a l) = (bare-none a, bare-none l)
+bare-none noArguments = tt
+bare-none (arguments l) = bare-none l
+bare-none (lastArgument a) = bare-none a
+bare-none (moreArguments a l) = (bare-none a, bare-none l)
+
+abbrev Same : (s : Sort) → Expr s → Type 0
+Same one t = (x y : Counts t) (e : ℕ) (u v : List Token) → opened e (write (put t x) u) ≡ write (put t y) v → (e ≡ 0) × (put t x ≡ put t y) × (u ≡ v)
+Same list t = (x y : Counts t) (u v : List Token) → write (put t x) u ≡ write (put t y) v → (put t x ≡ put t y) × (u ≡ v)
+Same items t = (x y : Counts t) (u v : List Token) → write (put t x) u ≡ write (put t y) v → (put t x ≡ put t y) × (u ≡ v)
+
+module _ (t : Expr one) (same : Same one t) (x y : Counts t) (i j e : ℕ) (u v : List Token) where
+  abbrev Result : Type 0
+  Result = (j ≡ e + i) × (put t x ≡ put t y) × (u ≡ closed e v)
+
+  met : Meet (e + i) j (write (put t x) (closed i u)) (write (put t y) (closed j v)) → Result
+  met (inl w) =
+      let c = same x y (w .0) (closed i u) (closed j v) (w .2) in
+      let q : j ≡ e + i = omega (arith, w .1, c .0) in
+      (q, c .1, closed-same i u (closed e v) (c .2 ∙ ap (λ n. closed n v) q ∙ sym (closed-two e i v)))
+  met (inr w) =
+      let c = same y x (suc (w .0)) (closed j v) (closed i u) (w .1) in
+      absurd (omega (arith, c .0))
+
+  operand : opened e (write (parens i (put t x)) u) ≡ write (parens j (put t y)) v → Result
+  operand h =
+      met (meet (e + i) j (write (put t x) (closed i u)) (write (put t y) (closed j v))
+      (sym (opened-two e i (write (put t x) (closed i u))) ∙ sym (ap (opened e) (write-parens i (put t x) u)) ∙ h ∙ write-parens j (put t y) v))
+
+-- an operand before the token c, which is no `)`; and one that nothing open stands before
+module _ (t : Expr one) (same : Same one t) (x y : Counts t) (i j : ℕ) where
+  before : (e : ℕ) (c : Token) (u v : List Token) → (c ≡ RightParen → ⊥) → opened e (write (parens i (put t x)) (c ∷ u)) ≡ write (parens j (put t y)) (c ∷ v) →
+      (e ≡ 0) × (parens i (put t x) ≡ parens j (put t y)) × (u ≡ v)
+  before zero c u v n h =
+      let r = operand t same x y i j 0 (c ∷ u) (c ∷ v) h in
+      let q : i ≡ j = omega (arith, r .0) in
+      (refl, ap₂ parens q (r .1), cc (r .2))
+  before (suc e) c u v n h =
+      let r = operand t same x y i j (suc e) (c ∷ u) (c ∷ v) h in
+      absurd (n (cc (r .2)))
+
+  inner : (u v : List Token) → write (parens i (put t x)) u ≡ write (parens j (put t y)) v → (parens i (put t x) ≡ parens j (put t y)) × (u ≡ v)
+  inner u v h =
+      let r = operand t same x y i j 0 u v h in
+      let q : i ≡ j = omega (arith, r .0) in
+      (ap₂ parens q (r .1), r .2)
+
+type-same : {s : Sort} (t : Ty s) (u v : List Token) → writeType t u ≡ writeType t v → u ≡ v
+type-same named u v h = cc
+type-same (applied l) u v h = type-same l u v (cc)
+type-same (pointing p t) u v h = type-same t u v (cc)
+type-same (sign x) u v h = cc
+type-same noTypes u v h = cc
+type-same (types l) u v h = type-same l u v h
+type-same (lastType t) u v h = let q : _≡_ {A = List Token} (operator Gt ∷ u) (operator Gt ∷ v) = type-same t (operator Gt ∷ u) (operator Gt ∷ v) h in cc
+type-same (moreTypes t l) u v h =
+    let q : _≡_ {A = List Token} (Comma ∷ writeType l u) (Comma ∷ writeType l v) = type-same t (Comma ∷ writeType l u) (Comma ∷ writeType l v) h in
+    type-same l u v (cc)
+
+-- a token that is no `(` stands first
+fresh : (e : ℕ) (c : Token) (u v : List Token) → (c ≡ LeftParen → ⊥) → opened e (c ∷ u) ≡ c ∷ v → (e ≡ 0) × (u ≡ v)
+fresh zero c u v n h = (refl, cc)
+fresh (suc e) c u v n h = absurd (n (cc))
+
+distinct : (t u : Token) → eqb (code t) (code u) ≡ false → t ≡ u → ⊥
+distinct t u h e = true-not-false (sym (eq-eqb (code t) (code u) (ap code e)) ∙ h)
+
+operator-open : (o : Operator) → operator o ≡ RightParen → ⊥
+operator-open o = distinct (operator o) RightParen (ne-eqb (number o) 36 (λ e. omega (arith, number-below o)))
+
+atom-closed : (x : Atom) → atomToken x ≡ LeftParen → ⊥
+atom-closed path = distinct Name LeftParen refl
+atom-closed literal = distinct Literal LeftParen refl
+
+prefix-closed : (p : Prefix) → prefixToken p ≡ LeftParen → ⊥
+prefix-closed neg = distinct (operator Sub) LeftParen refl
+prefix-closed deref = distinct (operator Mul) LeftParen refl
+prefix-closed invert = distinct Bang LeftParen refl
+prefix-closed ref = distinct (operator BitAnd) LeftParen refl
+prefix-closed refMut = distinct AndMut LeftParen refl
+
+same : (s : Sort) (t : Expr s) → NoParens t → Same s t
+same s (atom a) k = λ x y e u v h. let r = fresh e (atomToken a) u v (atom-closed a) h in (r .0, refl, r .1)
+same s (paren a) k = absurd k
+same s (prefix p a) k = λ x y e u v h.
+    let r = fresh e (prefixToken p) (write (parens (x .0) (put a (x .1))) u) (write (parens (y .0) (put a (y .1))) v) (prefix-closed p) h in
+    let q = inner a (same one a k) (x .1) (y .1) (x .0) (y .0) u v (r .1) in
+    (r .0, ap (prefix p) (q .0), q .1)
+same s (binary o a b) k = λ x y e u v h.
+    let r = before a (same one a (k .0)) (x .1) (y .1) (x .0) (y .0) e (operator o) (write (parens (x .2) (put b (x .3))) u) (write (parens (y .2) (put b (y .3))) v) (operator-open o) h in
+    let q = inner b (same one b (k .1)) (x .3) (y .3) (x .2) (y .2) u v (r .2) in
+    (r .0, ap₂ (binary o) (r .1) (q .0), q .1)
+same s (cast a t) k = λ x y e u v h.
+    let r = before a (same one a k) (x .1) (y .1) (x .0) (y .0) e As (writeType t u) (writeType t v) (distinct As RightParen refl) h in
+    (r .0, ap (λ z. cast z t) (r .1), type-same t u v (r .2))
+same s (member m a) k = λ x y e u v h.
+    let r = before a (same one a k) (x .1) (y .1) (x .0) (y .0) e Dot (memberToken m ∷ u) (memberToken m ∷ v) (distinct Dot RightParen refl) h in
+    (r .0, ap (member m) (r .1), cc (r .2))
+same s (try a) k = λ x y e u v h.
+    let r = before a (same one a k) (x .1) (y .1) (x .0) (y .0) e Question u v (distinct Question RightParen refl) h in
+    (r .0, ap try (r .1), r .2)
+same s (index a b) k = λ x y e u v h.
+    let r = before a (same one a (k .0)) (x .1) (y .1) (x .0) (y .0) e LeftBracket (write (parens (x .2) (put b (x .3))) (RightBracket ∷ u)) (write (parens (y .2) (put b (y .3))) (RightBracket ∷ v)) (distinct LeftBracket RightParen refl) h in
+    let q = inner b (same one b (k .1)) (x .3) (y .3) (x .2) (y .2) (RightBracket ∷ u) (RightBracket ∷ v) (r .2) in
+    (r .0, ap₂ index (r .1) (q .0), cc (q .1))
+same s (call a l) k = λ x y e u v h.
+    let r = before a (same one a (k .0)) (x .1) (y .1) (x .0) (y .0) e LeftParen (write (put l (x .2)) u) (write (put l (y .2)) v) (distinct LeftParen RightParen refl) h in
+    let q = same list l (k .1) (x .2) (y .2) u v (r .2) in
+    (r .0, ap₂ call (r .1) (q .0), q .1)
+same s (method a l) k = λ x y e u v h.
+    let r = before a (same one a (k .0)) (x .1) (y .1) (x .0) (y .0) e Dot (Name ∷ LeftParen ∷ write (put l (x .2)) u) (Name ∷ LeftParen ∷ write (put l (y .2)) v) (distinct Dot RightParen refl) h in
+    let q = same list l (k .1) (x .2) (y .2) u v (cc (r .2)) in
+    (r .0, ap₂ method (r .1) (q .0), q .1)
+same s noArguments k = λ x y u v h. (refl, cc)
+same s (arguments l) k = λ x y u v h. let q = same items l k x y u v h in (ap arguments (q .0), q .1)
+same s (lastArgument a) k = λ x y u v h.
+    let q = inner a (same one a k) (x .1) (y .1) (x .0) (y .0) (RightParen ∷ u) (RightParen ∷ v) h in
+    (ap lastArgument (q .0), cc (q .1))
+same s (moreArguments a l) k = λ x y u v h.
+    let r = inner a (same one a (k .0)) (x .1) (y .1) (x .0) (y .0) (Comma ∷ write (put l (x .2)) u) (Comma ∷ write (put l (y .2)) v) h in
+    let q = same items l (k .1) (x .2) (y .2) u v (cc (r .1)) in
+    (ap₂ moreArguments (r .0) (q .0), q .1)
+
+-- Trees that write the same tokens and are e but for parentheses are equal.
+pub injective : (e c d : Expr one) → bare c ≡ bare e → bare d ≡ bare e → write c [] ≡ write d [] → c ≡ d
+injective e c d p q h =
+    let x : (n : ℕ) × (x : Counts (bare e)) × (parens n (put (bare e) x) ≡ c) = subst (λ t. (n : ℕ) × (x : Counts t) × (parens n (put t x) ≡ c)) p (counted one c) in
+    let y : (n : ℕ) × (x : Counts (bare e)) × (parens n (put (bare e) x) ≡ d) = subst (λ t. (n : ℕ) × (x : Counts t) × (parens n (put t x) ≡ d)) q (counted one d) in
+    let r =
+    inner (bare e) (same one (bare e) (bare-none e)) (x .1) (y .1) (x .0) (y .0) [] []
+    (ap (λ z. write z []) (x .2) ∙ h ∙ sym (ap (λ z. write z []) (y .2))) in
+    sym (x .2) ∙ r .0 ∙ y .2

@@ -1,0 +1,59 @@
+-- The parse trees of plain types, and their tokens. "Plain: .. types Path (1 or 2), Ptr, Reference, Infer, Never; and the links of their lists."
+use mathlib.Core.Bool.{Bool, true, false}
+use mathlib.Core.List.{List, _∷_}
+use Rattle.token_grammar.specs.Tokens.{Token, operator, BitAnd, Lt, Gt, Bang, AndMut, Name, Comma, StarConst, StarMut, Underscore}
+
+-- An expression or a type; a list of them, perhaps empty, with the sign that closes it; the same with at least one item.
+pub data Sort : Type 0 where
+  one list items : Sort
+
+-- Ptr and Reference, by what stands before the type
+pub data TypePrefix : Type 0 where
+  constPtr mutPtr sharedRef mutRef : TypePrefix
+
+pub data TypeSign : Type 0 where
+  infer never : TypeSign
+
+pub data Ty : Sort → Type 0 where
+  -- a path without arguments, and one with them
+  named : Ty one
+  applied : Ty list → Ty one
+  -- Ptr and Reference
+  pointing : TypePrefix → Ty one → Ty one
+  -- Infer and Never
+  sign : TypeSign → Ty one
+  noTypes : Ty list
+  types : Ty items → Ty list
+  lastType : Ty one → Ty items
+  moreTypes : Ty one → Ty items → Ty items
+
+-- "41 `*const`, 42 `*mut`"; "Neg, Deref and shared reference use 1, 2 and 8."; "30 `&mut`"
+abbrev pub typePrefixToken : TypePrefix → Token
+typePrefixToken constPtr = StarConst
+typePrefixToken mutPtr = StarMut
+typePrefixToken sharedRef = operator BitAnd
+typePrefixToken mutRef = AndMut
+
+-- "43 `_`", "29 `!`"
+abbrev pub typeSignToken : TypeSign → Token
+typeSignToken infer = Underscore
+typeSignToken never = Bang
+
+-- A type's tokens, and then `rest`.
+-- "`<` there opens type arguments, closed by 17." "Lists may be empty and have commas between items only."
+abbrev pub writeType : {s : Sort} → Ty s → List Token → List Token
+writeType named rest = Name ∷ rest
+writeType (applied l) rest = Name ∷ operator Lt ∷ writeType l rest
+writeType (pointing p t) rest = typePrefixToken p ∷ writeType t rest
+writeType (sign x) rest = typeSignToken x ∷ rest
+writeType noTypes rest = operator Gt ∷ rest
+writeType (types l) rest = writeType l rest
+writeType (lastType t) rest = writeType t (operator Gt ∷ rest)
+writeType (moreTypes t l) rest = writeType t (Comma ∷ writeType l rest)
+
+-- whether its last token is a type name
+abbrev pub typeEndsInName : Ty one → Bool
+typeEndsInName named = true
+typeEndsInName (applied l) = false
+typeEndsInName (pointing p t) = typeEndsInName t
+typeEndsInName (sign x) = false

@@ -1,0 +1,72 @@
+-- The theorems on readings (specs/Reads). Assumes nothing.
+use mathlib.Core.Path.{_≡_, refl, sym, subst, ap, _∙_}
+use mathlib.Core.Bool.{Bool, true, false}
+use mathlib.Core.List.{List, [], _∷_}
+use mathlib.Core.Logic.{_⊎_, inl, inr}
+use Prim.Native.Nat.{ℕ}
+use native.Mathlib.Omega.{arith}
+use lib.Dec.{T}
+use Rattle.laws.proofs.Choice.{true-not-false, true-of, of-true}
+use Rattle.laws.proofs.Keys.{allBelow}
+use Rattle.tree.specs.Trees.{Tree}
+use Rattle.token_grammar.specs.Tokens.{Token, codesOf}
+use Rattle.token_grammar.specs.Codes.{tokensOf}
+use Rattle.token_grammar.specs.Types.{one}
+use Rattle.token_grammar.specs.Expressions.{Expr, write}
+use Rattle.token_grammar.specs.Grammar.{NONE, fits}
+use Rattle.token_grammar.specs.Parser.{Out, fail, ok, parse}
+use Rattle.token_grammar.proofs.Added.{addPairs, Pair, dropPair}
+use Rattle.token_grammar.proofs.Tokens.{tokens-codes, codes-tokens, codes-below}
+use Rattle.token_grammar.proofs.Readings.{complete, correct, one-parse}
+use Rattle.token_grammar.proofs.Pairs.{bare-pairs, fits-pairs}
+use Rattle.token_grammar.proofs.Needed.{bare-drop, drop-unfit}
+use Rattle.token_grammar.proofs.Injective.{injective}
+use Rattle.token_plain.specs.Trees.{treeOf, withoutParens}
+use Rattle.token_plain.specs.Reads.{Reads}
+use Rattle.token_plain.proofs.Parens.{without-bare}
+use Rattle.token_plain.proofs.Injective.{tree-same}
+
+-- a list of codes that tokens have spells no other tokens
+spelled-once : (ts us : List Token) → codesOf ts ≡ codesOf us → ts ≡ us
+spelled-once ts us e = sym (tokens-codes ts) ∙ ap tokensOf e ∙ tokens-codes us
+
+-- A token list has at most one reading.
+pub one-reading : {codes : List ℕ} {t u : Tree} → Reads codes t → Reads codes u → t ≡ u
+one-reading r s =
+    sym (r .same)
+    ∙ ap (λ e. withoutParens (treeOf e)) (one-parse NONE (r .parsed) (s .parsed) (r .fit) (s .fit) (spelled-once _ _ (r .whole ∙ sym (s .whole))))
+    ∙ s .same
+
+-- The parser finds it exactly where there is one: what it gives for the whole list is a reading,
+pub found : (ts : List Token) (e : Expr one) → parse NONE ts ≡ ok e [] → Reads (codesOf ts) (withoutParens (treeOf e))
+found ts e h = record { parsed = e; fit = correct NONE ts e h .0; whole = ap codesOf (correct NONE ts e h .1); same = refl }
+
+-- and each reading is what it gives.
+pub finds : {codes : List ℕ} {t : Tree} (r : Reads codes t) → parse NONE (tokensOf codes) ≡ ok (r .parsed) []
+finds r = ap (parse NONE) (ap tokensOf (sym (r .whole)) ∙ tokens-codes (write (r .parsed) [])) ∙ complete NONE (r .parsed) (r .fit)
+
+-- A token list has a reading or has none.
+pub read-or-not : (codes : List ℕ) → ((t : Tree) × Reads codes t) ⊎ ((t : Tree) → Reads codes t → ⊥)
+read-or-not codes = go (allBelow 46 codes) refl (parse NONE (tokensOf codes)) refl
+  where
+    go : (b : Bool) → allBelow 46 codes ≡ b → (o : Out (Expr one)) → parse NONE (tokensOf codes) ≡ o → ((t : Tree) × Reads codes t) ⊎ ((t : Tree) → Reads codes t → ⊥)
+    go false e o q = inr (λ t r. true-not-false (sym (true-of (subst (λ ns. T (allBelow 46 ns)) (r .whole) (codes-below (write (r .parsed) [])))) ∙ e))
+    go true e fail q = inr (λ t r. let k = finds r in let z : _≡_ {A = ℕ} 0 1 = cc in omega arith)
+    go true e (ok x []) q = inl (_, subst (λ ns. Reads ns (withoutParens (treeOf x))) (codes-tokens codes (of-true e)) (found (tokensOf codes) x q))
+    go true e (ok x (y ∷ rest)) q = inr (λ t r. let k = finds r in let z : _≡_ {A = ℕ} 0 1 = cc in omega arith)
+
+-- What is written with the pairs that levels ask for reads as the tree without its own parentheses;
+pub reads-back : (e : Expr one) → Reads (codesOf (write (addPairs e false) [])) (withoutParens (treeOf e))
+reads-back e =
+    record {
+      parsed = addPairs e false;
+      fit = fits-pairs e NONE false;
+      whole = refl;
+      same = without-bare (addPairs e false) ∙ ap treeOf (bare-pairs e false) ∙ sym (without-bare e);
+    }
+
+-- without one of them it reads as another tree or not at all.
+pub needed : (e : Expr one) (q : Pair e false) → Reads (codesOf (write (dropPair e false q) [])) (withoutParens (treeOf e)) → ⊥
+needed e q r =
+    let same = tree-same _ _ (sym (without-bare (r .parsed)) ∙ r .same ∙ without-bare e) in
+    drop-unfit NONE e q (subst (fits NONE) (injective e (r .parsed) (dropPair e false q) same (bare-drop e false q) (spelled-once _ _ (r .whole))) (r .fit))

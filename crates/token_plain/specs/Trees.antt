@@ -1,0 +1,80 @@
+-- The tree that a parse tree is, node by node, and "T without its own parentheses".
+use mathlib.Core.List.{List}
+use Prim.Native.Nat.{ℕ}
+use lib.Dec.{eqb}
+use Rattle.laws.specs.Choice.{pick}
+use Rattle.tree.specs.Forms.{ExprAssign, ExprAwait, ExprBinary, ExprCall, ExprCast, ExprField, ExprIndex, ExprLit, ExprMethodCall, ExprParen, ExprPath, ExprReference, ExprTry, ExprUnary, TypeInfer, TypeNever, TypePath, TypePtr, TypeReference, Link}
+use Rattle.tree.specs.Trees.{Label, Tree, none, node}
+use Rattle.token_grammar.specs.Tokens.{Operator, number}
+use Rattle.token_grammar.specs.Types.{Sort, TypePrefix, constPtr, mutPtr, sharedRef, mutRef, TypeSign, infer, never, Ty, named, applied, pointing, sign, noTypes, types, lastType, moreTypes}
+use Rattle.token_grammar.specs.Expressions.{Atom, path, literal, Prefix, neg, deref, invert, ref, refMut, Member, byName, byNumber, awaited, Expr, atom, paren, prefix, binary, cast, member, try, index, call, method, noArguments, arguments, lastArgument, moreArguments}
+
+-- a form and its detail, with no attributes
+abbrev pub label : ℕ → ℕ → Label
+label form detail = record { form = form; attributes = 0; detail = detail }
+
+abbrev pub atomLabel : Atom → Label
+atomLabel path = label ExprPath 0
+atomLabel literal = label ExprLit 0
+
+-- "Unary: Deref, Not, Neg as 0 to 2." ".. both References: 1 mutable."
+abbrev pub prefixLabel : Prefix → Label
+prefixLabel neg = label ExprUnary 2
+prefixLabel deref = label ExprUnary 0
+prefixLabel invert = label ExprUnary 1
+prefixLabel ref = label ExprReference 0
+prefixLabel refMut = label ExprReference 1
+
+-- "Binary 0 to 27"; 28 is `=`, of Assign
+unfoldable pub operatorLabel : Operator → Label
+operatorLabel o = pick (eqb (number o) 28) (label ExprAssign 0) (label ExprBinary (number o))
+
+-- "Field: 0 named, 1 numbered."
+abbrev pub memberLabel : Member → Label
+memberLabel byName = label ExprField 0
+memberLabel byNumber = label ExprField 1
+memberLabel awaited = label ExprAwait 0
+
+-- "Ptr, .. both References: 1 mutable."
+abbrev pub typePrefixLabel : TypePrefix → Label
+typePrefixLabel constPtr = label TypePtr 0
+typePrefixLabel mutPtr = label TypePtr 1
+typePrefixLabel sharedRef = label TypeReference 0
+typePrefixLabel mutRef = label TypeReference 1
+
+abbrev pub typeSignLabel : TypeSign → Label
+typeSignLabel infer = label TypeInfer 0
+typeSignLabel never = label TypeNever 0
+
+-- "Path type, by last segment: .. 1 no arguments, 2 angle"; "56 is a list link: first an item, second the next link or 0."
+abbrev pub treeOfType : {s : Sort} → Ty s → Tree
+treeOfType named = node (label TypePath 1) none none
+treeOfType (applied l) = node (label TypePath 2) none (treeOfType l)
+treeOfType (pointing p t) = node (typePrefixLabel p) (treeOfType t) none
+treeOfType (sign x) = node (typeSignLabel x) none none
+treeOfType noTypes = none
+treeOfType (types l) = treeOfType l
+treeOfType (lastType t) = node (label Link 0) (treeOfType t) none
+treeOfType (moreTypes t l) = node (label Link 0) (treeOfType t) (treeOfType l)
+
+-- document 01, 'Operands'
+abbrev pub treeOf : {s : Sort} → Expr s → Tree
+treeOf (atom x) = node (atomLabel x) none none
+treeOf (paren a) = node (label ExprParen 0) (treeOf a) none
+treeOf (prefix p a) = node (prefixLabel p) (treeOf a) none
+treeOf (binary o a b) = node (operatorLabel o) (treeOf a) (treeOf b)
+treeOf (cast a t) = node (label ExprCast 0) (treeOf a) (treeOfType t)
+treeOf (member m a) = node (memberLabel m) (treeOf a) none
+treeOf (try a) = node (label ExprTry 0) (treeOf a) none
+treeOf (index a b) = node (label ExprIndex 0) (treeOf a) (treeOf b)
+treeOf (call a l) = node (label ExprCall 0) (treeOf a) (treeOf l)
+treeOf (method a l) = node (label ExprMethodCall 0) (treeOf a) (treeOf l)
+treeOf noArguments = none
+treeOf (arguments l) = treeOf l
+treeOf (lastArgument a) = node (label Link 0) (treeOf a) none
+treeOf (moreArguments a l) = node (label Link 0) (treeOf a) (treeOf l)
+
+-- "T without its own parentheses has in place of each Paren, root included, the first node below it that is no Paren."
+unfoldable pub withoutParens : Tree → Tree
+withoutParens none = none
+withoutParens (node l a b) = pick (eqb (l .form) ExprParen) (withoutParens a) (node l (withoutParens a) (withoutParens b))

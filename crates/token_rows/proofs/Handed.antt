@@ -1,0 +1,156 @@
+-- What a plain owner in context 0 hands to each of its operands: a calm context, the flag of `<` and `<<`, and the pair that strength asks for. Assumes nothing.
+use mathlib.Core.Path.{_≡_, refl, sym, subst, ap, _∙_}
+use mathlib.Core.Bool.{Bool, true, false}
+use mathlib.Core.List.{List, [], _∷_}
+use Prim.Native.Nat.{ℕ, _≤_, _<_}
+use native.Mathlib.Omega.{arith}
+use lib.Dec.{ltb}
+use Rattle.laws.specs.Choice.{pick, lookup}
+use Rattle.laws.proofs.Choice.{true-not-false}
+use Rattle.tree.specs.Forms.{ExprBinary, Link}
+use Rattle.tree.specs.Trees.{Tree, node}
+use Rattle.tree.specs.Walks.{atRoot}
+use Rattle.precedence.specs.declared.Precedence.{Precedence}
+use Rattle.precedence.specs.declared.Precedence.the-variants as rank
+use Rattle.precedence.specs.Precedences.{rankOf, ofBinop}
+use Rattle.fixup.specs.declared.context.FixupContext.{FixupContext}
+use Rattle.fixup.specs.Contexts.{NONE, withOperator, withDot, rightmost}
+use Rattle.fixup_scan.specs.Scans.{scanned}
+use Rattle.expr.specs.declared.Handed.{Handed}
+use Rattle.expr.specs.Handed.{beforeOperator, beforeDot, atEnd, afterPrefix, neither}
+use Rattle.expr.specs.Expr.{canBeginExpr, canBeginGenerics, leftTest, rightTest, binaryLeft, binaryRight, callTest, firstLines, handsFirst, secondLines, handsSecond}
+use Rattle.row.specs.Rows.{outerPair}
+use Rattle.token_grammar.specs.Tokens.{Operator, number}
+use Rattle.token_grammar.specs.Tokens as token
+use Rattle.token_grammar.specs.Levels.{kind, level, before, after, casts, prefixes, postfixes}
+use Rattle.token_grammar.specs.Types.{one, list, Ty}
+use Rattle.token_grammar.specs.Expressions.{Prefix, neg, deref, invert, ref, refMut, Member, byName, byNumber, awaited, Expr, paren, prefix, binary, cast, member, try, index, call, method}
+use Rattle.token_grammar.specs.Grammar.{opensArguments}
+use Rattle.token_grammar.proofs.Added.{strength, tooWeak, tooWeakBefore, tooWeakAfter, tooWeakToCall}
+use Rattle.token_grammar.proofs.Levels.{binop-level, operator-low, operator-high}
+use Rattle.token_plain.specs.Trees.{label, operatorLabel, treeOf}
+use Rattle.token_rows.proofs.Contexts.{Calm, calm-none, calm-operator, calm-dot, calm-rightmost}
+use Rattle.token_rows.proofs.Nodes.{Operating, assigning, operating, operated}
+use Rattle.token_rows.proofs.Operands.{Settled}
+use Rattle.token_rows.proofs.Tests.{operator-pair, dot-pair, end-pair, no-pair, generics-is, operator-settled, assign-test, left-test, right-test, call-test}
+
+-- an operand that gets h has a pair where p says so, and the flag g stands over it
+pub record Operand (h : Handed) (a : Expr one) (p g : Bool) : Type 0 where
+  pub calm : Calm (h .fixup)
+  pub settled : Settled (h .fixup)
+  pub pair : outerPair h (treeOf a) ≡ p
+  pub flag : h .fixup .«next_operator_can_begin_generics» ≡ g
+
+-- what is handed down with no owner's test: an item, an index, what stands in parentheses, and the root
+pub alone : (a : Expr one) → Operand (neither NONE) a false false
+unfolding neither
+alone a = record { calm = calm-none; settled = λ e. true-not-false (sym e); pair = no-pair a; flag = refl }
+
+module _ (x : FixupContext) (c : Calm x) (s : Settled x) where
+  abbrev g : Bool
+  g = x .«next_operator_can_begin_generics»
+
+  -- an operand before an operator without the flag
+  before-other : (begins : Bool) (next : Precedence) (test : ℕ) (a : Expr one) (p : Bool) → 1 ≤ rankOf next → ltb (strength false a) test ≡ p
+      → Operand (beforeOperator x begins false next test) a p false
+  unfolding beforeOperator
+  before-other begins next test a p h e =
+      record {
+        calm = calm-operator x c begins false next;
+        settled = λ e. true-not-false (sym e);
+        pair = operator-pair x c a begins false next test h ∙ e;
+        flag = refl;
+      }
+
+  before-binary : (o : Operator) → number o < 28 → (a : Expr one) → Operand (binaryLeft x (number o)) a (tooWeakBefore o a) (opensArguments o)
+  unfolding binaryLeft beforeOperator
+  before-binary o h a =
+      let begins = canBeginExpr (number o) in
+      let generics = canBeginGenerics (number o) in
+      let next = ofBinop (number o) in
+      record {
+        calm = calm-operator x c begins generics next;
+        settled = operator-settled x o h;
+        pair =
+            operator-pair x c a begins generics next (leftTest next) (rw (binop-level o h) (operator-low o))
+            ∙ left-test o h generics a
+            ∙ ap (λ f. ltb (strength f a) (before (kind o))) (generics-is o h);
+        flag = generics-is o h;
+      }
+
+  before-dot : (a : Expr one) → Operand (beforeDot x 15) a (tooWeak (before postfixes) false a) false
+  unfolding beforeDot
+  before-dot a = record { calm = calm-dot x c; settled = λ e. true-not-false (sym e); pair = dot-pair x c a 15; flag = refl }
+
+  at-end : (previous : Precedence) (test : ℕ) (a : Expr one) → rankOf previous ≤ 14 → Operand (atEnd x false false previous test) a (ltb (strength g a) test) g
+  unfolding atEnd scanned
+  at-end previous test a h = record { calm = calm-rightmost x c false false previous; settled = s; pair = end-pair x c a previous test s h; flag = refl }
+
+  -- ---- owner by owner
+
+  pub prefix-first : (p : Prefix) (a : Expr one) → Operand (handsFirst x (treeOf (prefix p a))) a (tooWeak (after prefixes) g a) g
+  unfolding handsFirst firstLines atRoot lookup pick afterPrefix
+  prefix-first neg a = at-end rank.Prefix 14 a (omega arith)
+  prefix-first deref a = at-end rank.Prefix 14 a (omega arith)
+  prefix-first invert a = at-end rank.Prefix 14 a (omega arith)
+  prefix-first ref a = at-end rank.Prefix 14 a (omega arith)
+  prefix-first refMut a = at-end rank.Prefix 14 a (omega arith)
+
+  pub binary-first : (o : Operator) (a b : Expr one) → Operand (handsFirst x (treeOf (binary o a b))) a (tooWeakBefore o a) (opensArguments o)
+  unfolding handsFirst firstLines atRoot lookup pick operatorLabel opensArguments kind
+  binary-first o a b = go (operated o)
+    where
+      go : Operating o → Operand (handsFirst x (treeOf (binary o a b))) a (tooWeakBefore o a) (opensArguments o)
+      go (assigning e) = rw e (before-other false rank.Assign 3 a (tooWeakBefore token.Assign a) (omega arith) (assign-test false a))
+      go (operating h e) = rw e (before-binary o h a)
+
+  pub binary-second : (o : Operator) (a b : Expr one) → Operand (handsSecond x (treeOf (binary o a b))) b (tooWeakAfter o g b) g
+  unfolding handsSecond secondLines atRoot lookup pick operatorLabel binaryRight kind
+  binary-second o a b = go (operated o)
+    where
+      go : Operating o → Operand (handsSecond x (treeOf (binary o a b))) b (tooWeakAfter o g b) g
+      go (assigning e) = rw e (at-end rank.Assign 0 b (omega arith))
+      go (operating h e) =
+          rw e
+          (subst (λ n. Operand (atEnd x false false (ofBinop (number o)) (rightTest (ofBinop (number o)))) b (ltb (strength g b) n) g) (right-test o h)
+          (at-end (ofBinop (number o)) (rightTest (ofBinop (number o))) b (rw (binop-level o h) (omega (arith, operator-high o)))))
+
+  pub cast-first : (a : Expr one) (t : Ty one) → Operand (handsFirst x (treeOf (cast a t))) a (tooWeak (before casts) false a) false
+  unfolding handsFirst firstLines atRoot lookup pick
+  cast-first a t = before-other false rank.Cast 13 a (tooWeak (before casts) false a) (omega arith) refl
+
+  pub member-first : (m : Member) (a : Expr one) → Operand (handsFirst x (treeOf (member m a))) a (tooWeak (before postfixes) false a) false
+  unfolding handsFirst firstLines atRoot lookup pick
+  member-first byName a = before-dot a
+  member-first byNumber a = before-dot a
+  member-first awaited a = before-dot a
+
+  pub try-first : (a : Expr one) → Operand (handsFirst x (treeOf (try a))) a (tooWeak (before postfixes) false a) false
+  unfolding handsFirst firstLines atRoot lookup pick
+  try-first a = before-dot a
+
+  pub index-first : (a b : Expr one) → Operand (handsFirst x (treeOf (index a b))) a (tooWeak (before postfixes) false a) false
+  unfolding handsFirst firstLines atRoot lookup pick
+  index-first a b = before-other true rank.Unambiguous 15 a (tooWeak (before postfixes) false a) (omega arith) refl
+
+  pub call-first : (a : Expr one) (l : Expr list) → Operand (handsFirst x (treeOf (call a l))) a (tooWeakToCall a) false
+  unfolding handsFirst firstLines atRoot lookup pick
+  call-first a l = before-other true rank.Unambiguous (callTest (treeOf a)) a (tooWeakToCall a) (omega arith) (call-test a)
+
+  pub method-first : (a : Expr one) (l : Expr list) → Operand (handsFirst x (treeOf (method a l))) a (tooWeak (before postfixes) false a) false
+  unfolding handsFirst firstLines atRoot lookup pick
+  method-first a l = before-dot a
+
+-- ---- owners that hand down NONE
+
+pub paren-first : (x : FixupContext) (a : Expr one) → handsFirst x (treeOf (paren a)) ≡ neither NONE
+unfolding handsFirst firstLines atRoot lookup pick
+paren-first x a = refl
+
+pub index-second : (x : FixupContext) (a b : Expr one) → handsSecond x (treeOf (index a b)) ≡ neither NONE
+unfolding handsSecond secondLines atRoot lookup pick
+index-second x a b = refl
+
+pub link-first : (x : FixupContext) (a b : Tree) → handsFirst x (node (label Link 0) a b) ≡ neither NONE
+unfolding handsFirst firstLines atRoot lookup pick
+link-first x a b = refl

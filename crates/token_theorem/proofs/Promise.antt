@@ -1,0 +1,191 @@
+-- The promise holds. Assumes nothing.
+use mathlib.Core.Path.{_≡_, refl, sym, subst, ap, ap₂, _∙_}
+use mathlib.Core.Bool.{true, false, _||_}
+use mathlib.Core.List.{List, [], _∷_}
+use Prim.Native.Nat.{ℕ, _*_, _≤_}
+use native.Mathlib.Omega.{arith}
+use lib.Dec.{ltb}
+use lib.ListN.{length, replicate, length-replicate}
+use borrow.Author.Tests.{le-ltb, eq-eqb}
+use Rattle.laws.specs.Lists.{over}
+use Rattle.laws.proofs.Choice.{pick-true, pick-false}
+use Rattle.tree.specs.Trees.{Tree, treeAt}
+use Rattle.tree.specs.Walks.{isThere}
+use Rattle.tree.proofs.Unfold.{unfolds}
+use Rattle.tree_rules.specs.Refusals.{Accepted}
+use Rattle.tree_rules.proofs.Accepted.{count-bounds, levels-bound}
+use Rattle.fixup.specs.Contexts.{NONE as noContext}
+use Rattle.expr.specs.Handed.{neither}
+use Rattle.row.specs.Rows.{rowsOf}
+use Rattle.row_walk.specs.Walk.{rootHanded, placed}
+use Rattle.row_walk.specs.Paths.{Branch, numberAt, treeBy}
+use Rattle.row_walk.proofs.Paths.{tree-at, there-at, one-path, reached}
+use Rattle.row_walk.proofs.Replies.{done}
+use Rattle.token_grammar.specs.Tokens.{Token, code, codesOf}
+use Rattle.token_grammar.specs.Types.{one}
+use Rattle.token_grammar.specs.Expressions.{Expr, write}
+use Rattle.token_grammar.proofs.Added.{addPairs, Pair, dropPair}
+use Rattle.token_grammar.proofs.Tokens.{code-below}
+use Rattle.token_plain.specs.Plain.{plainTable}
+use Rattle.token_plain.specs.Trees.{treeOf, withoutParens}
+use Rattle.token_plain.specs.Written.{tokensAt, hasPair, butAt}
+use Rattle.token_plain.specs.Reads.{Reads}
+use Rattle.token_plain.proofs.FromTable.{from-table}
+use Rattle.token_plain.proofs.Readings.{one-reading, reads-back, needed as pair-needed}
+use Rattle.tree_numbering.specs.Numbered.{size, numbered, tooLarge}
+use Rattle.tree_numbering.proofs.Sizes.{size-accepted}
+use Rattle.tree_numbering.proofs.Holds.{over-numbered}
+use Rattle.file_loader.specs.Files.{countIn, cellsIn}
+use Rattle.file_loader.proofs.Files.{accepted-file}
+use Rattle.token_rows.proofs.Tokens.{tokensFor, tokens-are}
+use Rattle.token_rows.proofs.LeftOut.{tokensBut, markedAt, tokens-without}
+use Rattle.token_rows.proofs.Numbers.{pair-at, tokens-from, tokens-leaving}
+use Rattle.token_writer.specs.declared.Written.the-variants.{Tokens}
+use Rattle.token_writer.specs.Writes.{rowsFor, written, answered, tokensAfter}
+use Rattle.token_writer.proofs.Bounds.{tokens-bound}
+use Rattle.token_writer.proofs.Replies.{not-refused}
+use Rattle.token_writer.proofs.Tokens.{length-codes}
+use Rattle.token_reader.specs.declared.Reply.{Reply}
+use Rattle.token_reader.specs.declared.Reply.the-variants.{Nodes}
+use Rattle.token_reader.specs.Reading.{readRefusal12, anyAbove, refusal14, countOrLarge, readTable, Answers}
+use Rattle.token_theorem.specs.Statement.{meant, Added, writtenBut, Removed, Promise, FilePromise}
+use Rattle.token_theorem.proofs.LeftOut.{removed}
+use Rattle.token_theorem.proofs.Smaller.{size-without, not-large}
+
+-- ---- codes that the reader takes
+
+none-above : (ts : List Token) → anyAbove 45 (codesOf ts) ≡ false
+unfolding anyAbove
+none-above [] = refl
+none-above (t ∷ ts) = rw (le-ltb 45 (code t) (omega (arith, code-below t))) (none-above ts)
+
+-- ---- an accepted plain table
+
+module _ (count : ℕ) (cells : List ℕ) (ok : Accepted 0 count cells) (plain : plainTable count cells ≡ true) where
+  bounds : (1 ≤ count) × (count ≤ 4096) × (5 * count ≤ length cells)
+  bounds = count-bounds 0 count cells ok
+
+  -- ---- the writer
+
+  stores : (tokens : List ℕ) → 6 * count ≤ length tokens
+      → (answered 0 count cells (length tokens) ≡ Tokens (length (written count cells)))
+      × (tokensAfter 0 count cells tokens ≡ over (codesOf (written count cells)) tokens)
+  unfolding answered tokensAfter
+  stores tokens room = let e = eq-eqb _ 0 (not-refused 0 count cells tokens ok room refl plain) in (pick-true _ _ e, pick-true _ _ e)
+
+  abbrev root : Tree
+  root = treeAt cells count 1
+
+  abbrev blank : List ℕ
+  blank = replicate (5 * count) 0
+
+  room : 5 * count ≤ length blank
+  room = rw (length-replicate {A = ℕ} (5 * count) 0) (omega arith)
+
+  abbrev rows : List ℕ
+  rows = placed cells count 1 (rowsOf (rootHanded 0) root) blank
+
+  rows-are : rowsFor count cells ≡ rows
+  unfolding rowsFor
+  rows-are = sym (done 0 count cells blank (replicate (3 * count) 0) ok room (rw (length-replicate {A = ℕ} (3 * count) 0) (omega arith)) (rootHanded 0) refl rows refl _ refl .1 .0)
+
+  abbrev tree : Expr one
+  tree = from-table 0 count cells ok plain .0
+
+  tree-is : treeOf tree ≡ root
+  tree-is = from-table 0 count cells ok plain .1
+
+  written-is : written count cells ≡ write (addPairs tree false) []
+  unfolding written
+  written-is =
+      ap (λ r. tokensAt cells count (hasPair r) 1 root []) rows-are
+      ∙ tokens-from count cells ok blank room []
+      ∙ ap (λ t. tokensFor (neither noContext) t []) (sym tree-is)
+      ∙ tokens-are tree []
+
+  -- ---- readings
+
+  reads : Reads (codesOf (written count cells)) (meant count cells)
+  reads = rw written-is (subst (Reads (codesOf (write (addPairs tree false) []))) (ap withoutParens tree-is) (reads-back tree))
+
+  only : (t : Tree) → Reads (codesOf (written count cells)) t → t ≡ meant count cells
+  only t r = one-reading r reads
+
+  -- ---- the reader
+
+  within-limits : tooLarge (meant count cells) ≡ false
+  within-limits = not-large root (let n = size-accepted 0 count cells ok in omega (arith, bounds .1)) (levels-bound 0 count cells ok)
+
+  known : refusal14 (codesOf (written count cells)) ≡ false
+  unfolding refusal14
+  known =
+      rw (le-ltb 24576 (length (codesOf (written count cells))) (rw (length-codes (written count cells)) (tokens-bound 0 count cells ok .1))) (none-above (written count cells))
+
+  returned : (table after : List ℕ) (reply : Reply) → 20480 ≤ length table → Answers (codesOf (written count cells)) table reply after
+      → (reply ≡ Nodes (size (meant count cells))) × (after ≡ over (numbered (meant count cells)) table)
+  unfolding countOrLarge readTable readRefusal12
+  returned table after reply long a =
+      let r = a .read (le-ltb (length table) (5 * 4096) long) known (meant count cells) reads in
+      (r .0 ∙ pick-false _ _ within-limits, r .1 ∙ pick-false _ _ within-limits)
+
+  -- what is stored stands for the tree
+  pub returned-tree : (table : List ℕ) → treeAt (over (numbered (meant count cells)) table) (size (meant count cells)) 1 ≡ meant count cells
+  returned-tree table = over-numbered (meant count cells) table (omega (arith, size-without root, size-accepted 0 count cells ok, bounds .1))
+
+  -- ---- a pair left out
+
+  module _ (j : ℕ) (added : Added count cells j) where
+    abbrev path : List Branch
+    path = reached cells count 0 ok j (added .0) (added .1) .path
+
+    leads : numberAt cells count 1 path ≡ j
+    leads = reached cells count 0 ok j (added .0) (added .1) .leads
+
+    at-path : treeAt cells count j ≡ treeBy root path
+    at-path = ap (treeAt cells count) (sym leads) ∙ tree-at cells count 1 path (omega arith) (bounds .0) (rw leads (added .0))
+
+    there : isThere (treeBy root path) ≡ true
+    there = ap isThere (sym at-path ∙ unfolds cells count j (added .0) (added .1))
+
+    left-out : Removed (writtenBut j count cells j) (written count cells) (writtenBut j count cells 1)
+    unfolding written
+    left-out =
+        rw at-path
+        (removed cells count (hasPair (rowsFor count cells)) j (added .2) path root 1 there leads
+        (λ p e z. one-path cells count 0 ok 1 p path (omega arith) (bounds .0) (there-at cells count 1 p e) (z ∙ sym leads)) [])
+
+    on-row : markedAt (neither noContext) (treeOf tree) path ≡ true
+    on-row =
+        ap (λ t. markedAt (neither noContext) t path) tree-is
+        ∙ sym (pair-at count cells ok blank room path there)
+        ∙ ap₂ hasPair (sym rows-are) leads
+        ∙ added .2
+
+    without : (q : Pair tree false) × ((rest : List Token) → tokensBut path (neither noContext) (treeOf tree) rest ≡ write (dropPair tree false q) rest)
+    without = tokens-without tree path on-row
+
+    but-is : writtenBut j count cells 1 ≡ write (dropPair tree false (without .0)) []
+    but-is =
+        ap (λ r. tokensAt cells count (butAt j (hasPair r)) 1 root []) rows-are
+        ∙ ap (λ n. tokensAt cells count (butAt n (hasPair rows)) 1 root []) (sym leads)
+        ∙ tokens-leaving count cells ok blank room path there []
+        ∙ ap (λ t. tokensBut path (neither noContext) t []) (sym tree-is)
+        ∙ without .1 []
+
+    needed : Reads (codesOf (writtenBut j count cells 1)) (meant count cells) → ⊥
+    needed r = pair-needed tree (without .0) (subst (λ ts. Reads (codesOf ts) (withoutParens (treeOf tree))) but-is (subst (Reads (codesOf (writtenBut j count cells 1))) (ap withoutParens (sym tree-is)) r))
+
+pub promise : Promise
+promise count cells ok plain =
+    record {
+      stores = stores count cells ok plain;
+      reads = reads count cells ok plain;
+      only = only count cells ok plain;
+      returned = returned count cells ok plain;
+      left-out = left-out count cells ok plain;
+      needed = needed count cells ok plain;
+    }
+
+pub file-promise : FilePromise
+file-promise file lent e zero plain =
+    promise (countIn file) (cellsIn file) (subst (λ c. Accepted c (countIn file) (cellsIn file)) zero (accepted-file file lent e)) plain

@@ -1,0 +1,67 @@
+-- What is promised of every accepted plain tree in context 0, however its nodes are numbered.
+use mathlib.Core.Path.{_≡_}
+use mathlib.Core.Bool.{true}
+use mathlib.Core.List.{List, [], _∷_, _++_}
+use Prim.Native.Nat.{ℕ, _*_, _≤_}
+use lib.ListN.{length}
+use Rattle.laws.specs.Lists.{over}
+use Rattle.tree.specs.Trees.{Tree, treeAt}
+use Rattle.tree_rules.specs.Refusals.{Accepted}
+use Rattle.token_grammar.specs.Tokens.{Token, LeftParen, RightParen, codesOf}
+use Rattle.token_plain.specs.Plain.{plainTable}
+use Rattle.token_plain.specs.Trees.{withoutParens}
+use Rattle.token_plain.specs.Written.{tokensAt, hasPair, butAt}
+use Rattle.token_plain.specs.Reads.{Reads}
+use Rattle.tree_numbering.specs.Numbered.{size, numbered}
+use Rattle.file_loader.specs.Files.{contextIn, countIn, cellsIn, fileRefusal}
+use Rattle.token_writer.specs.declared.Written.the-variants.{Tokens}
+use Rattle.token_writer.specs.Writes.{rowsFor, written, answered, tokensAfter}
+use Rattle.token_reader.specs.declared.Reply.{Reply}
+use Rattle.token_reader.specs.declared.Reply.the-variants.{Nodes}
+use Rattle.token_reader.specs.Reading.{Answers}
+
+-- T without its own parentheses, where T is the tree of the table
+abbrev pub meant : ℕ → List ℕ → Tree
+meant count cells = withoutParens (treeAt cells count 1)
+
+-- node j's row has an outer pair: "a pair we added"
+abbrev pub Added : ℕ → List ℕ → ℕ → Type 0
+Added count cells j = (1 ≤ j) × (j ≤ count) × (hasPair (rowsFor count cells) j ≡ true)
+
+-- the tokens of node i and of all below it, written without the pair of node j
+abbrev pub writtenBut : ℕ → ℕ → List ℕ → ℕ → List Token
+writtenBut j count cells i = tokensAt cells count (butAt j (hasPair (rowsFor count cells))) i (treeAt cells count i) []
+
+-- "leaving it out removes them and no other token": a `(` and a `)`, with `inside` between them
+pub record Removed (inside before after : List Token) : Type 0 where
+  pub front : List Token
+  pub behind : List Token
+  pub had : front ++ (LeftParen ∷ (inside ++ (RightParen ∷ behind))) ≡ before
+  pub has : front ++ (inside ++ behind) ≡ after
+
+pub record Demand3 (count : ℕ) (cells : List ℕ) : Type 0 where
+  -- The writer stores the codes of the tokens written over the start of any buffer of six cells a node, and answers how many they are.
+  pub stores : (tokens : List ℕ) → 6 * count ≤ length tokens
+      → (answered 0 count cells (length tokens) ≡ Tokens (length (written count cells)))
+      × (tokensAfter 0 count cells tokens ≡ over (codesOf (written count cells)) tokens)
+  -- They have a reading, which is T without its own parentheses,
+  pub reads : Reads (codesOf (written count cells)) (meant count cells)
+  -- and no other.
+  pub only : (t : Tree) → Reads (codesOf (written count cells)) t → t ≡ meant count cells
+  -- The reader stores it over the start of any table of 4,096 nodes, and answers how many nodes it has.
+  pub returned : (table after : List ℕ) (reply : Reply) → 20480 ≤ length table → Answers (codesOf (written count cells)) table reply after
+      → (reply ≡ Nodes (size (meant count cells))) × (after ≡ over (numbered (meant count cells)) table)
+  -- Leaving out a pair that we added removes its two tokens, between which node j's own stand, and no other,
+  pub left-out : (j : ℕ) → Added count cells j → Removed (writtenBut j count cells j) (written count cells) (writtenBut j count cells 1)
+  -- and no reading of what remains is that tree.
+  pub needed : (j : ℕ) → Added count cells j → Reads (codesOf (writtenBut j count cells 1)) (meant count cells) → ⊥
+
+-- Of every table that is accepted in context 0 and plain,
+abbrev pub Promise : Type 0
+Promise = (count : ℕ) (cells : List ℕ) → Accepted 0 count cells → plainTable count cells ≡ true → Demand3 count cells
+
+-- and so of every tree file that is not refused, whose context is 0 and whose table is plain.
+abbrev pub FilePromise : Type 0
+FilePromise =
+    (file : List ℕ) (lent : ℕ) → fileRefusal file lent ≡ 0 → contextIn file ≡ 0 → plainTable (countIn file) (cellsIn file) ≡ true
+    → Demand3 (countIn file) (cellsIn file)

@@ -1,0 +1,84 @@
+-- `rules::refusal::has_bad_owner` meets its contract. Assumes nothing.
+use mathlib.Core.Path.{_≡_, refl, sym, _∙_}
+use mathlib.Core.Bool.{false}
+use Prim.Native.Nat.{_+_, _-_, _≤_}
+use native.Mathlib.Omega.{arith}
+use borrow.Author.Needs.{needs}
+use Rattle.laws.specs.Each.{some}
+use Rattle.laws.proofs.Each.{some-more, some-found}
+use Rattle.tree_rules.specs.Refusals.{badOwner}
+use Rattle.tree_rules.specs.Passes.{Counted}
+use Rattle.tree_rules.proofs.Owners.{counted-none, owned-badly}
+use Rattle.tree_rules.proofs.refusal.has_bad_owner.Statement.{statement}
+use Rattle.tree_rules.proofs.refusal.has_bad_owner.Tie as tie
+
+abbrev Inv-loop : tie.InvT-loop
+Inv-loop table count owners done₀ done = (done ≤ count) × Counted table count owners × (some (badOwner table count) done ≡ false)
+
+abbrev μ-loop : tie.MeasureT-loop
+μ-loop table count owners done₀ done = count - done
+
+slice-aggregate-count-owners : tie.Need-slice-aggregate-count-owners Inv-loop μ-loop
+slice-aggregate-count-owners c = search needs
+
+count-owners-requires : tie.Need-count-owners-requires Inv-loop μ-loop
+count-owners-requires c κs = (c .before .before .pre, counted-none _)
+
+loop-holds : tie.Need-loop-holds Inv-loop μ-loop
+unfolding some
+loop-holds c = (omega arith, c .before .count-owners .ensures, refl)
+
+slice-aggregate-is-badly-owned : tie.Need-slice-aggregate-is-badly-owned Inv-loop μ-loop
+slice-aggregate-is-badly-owned c = sym (c .before .before .loop .inv .1 .size)
+
+add-is-badly-owned : tie.Need-add-is-badly-owned Inv-loop μ-loop
+add-is-badly-owned c = omega arith
+
+is-badly-owned-requires : tie.Need-is-badly-owned-requires Inv-loop μ-loop
+is-badly-owned-requires c κs = (c .before .before .loop .inv .1 .size, omega arith)
+
+returns : tie.Need-returns Inv-loop μ-loop
+returns c =
+    let l = c .before .before .before .before .loop in
+    sym
+    (some-found _ _ (l .done + 1) (omega arith) (omega arith)
+    (sym (owned-badly _ _ _ (l .inv .1) (l .done + 1) (omega arith)) ∙ sym (c .before .is-badly-owned .ensures) ∙ c .if1 .taken))
+
+add-done : tie.Need-add-done Inv-loop μ-loop
+add-done c = omega arith
+
+loop-less : tie.Need-loop-less Inv-loop μ-loop
+loop-less c = omega arith
+
+loop-again : tie.Need-loop-again Inv-loop μ-loop
+loop-again c =
+    let l = c .before .before .before .before .loop in (
+      omega arith,
+      l .inv .1,
+      some-more _ (l .done) (l .inv .2)
+          (sym (owned-badly _ _ _ (l .inv .1) (l .done + 1) (omega arith)) ∙ sym (c .before .is-badly-owned .ensures) ∙ c .if1 .left),
+    )
+
+returns-2 : tie.Need-returns-2 Inv-loop μ-loop
+returns-2 c =
+    let l = c .before .loop in
+    let e : l .done ≡ c .before .before .before .before .before .before .args .count = omega arith in
+    sym (rw e at (l .inv .2))
+
+pub has-bad-owner-spec : {M : Type 1} → statement M
+has-bad-owner-spec =
+    tie.close
+    (tie.spec
+    Inv-loop
+    μ-loop
+    slice-aggregate-count-owners
+    count-owners-requires
+    loop-holds
+    slice-aggregate-is-badly-owned
+    add-is-badly-owned
+    is-badly-owned-requires
+    returns
+    add-done
+    loop-less
+    loop-again
+    returns-2)
