@@ -1,6 +1,6 @@
 //! What lies behind a row: the crate's single functions, asked of a node.
 //!
-//! Questions have the numbers of `crates/questions/specs` and `crates/cells/specs`.
+//! Questions have the numbers of `crates/answers_questions/specs` and `crates/answers_cells/specs`.
 
 use super::library;
 use model::forms::Side;
