@@ -13,7 +13,7 @@ use Rattle.laws.specs.Choice.{pick, Line, line, lookup}
 use Rattle.laws.proofs.Choice.{pick-true, pick-false, true-not-false, true-of, of-true, and-true}
 use Rattle.laws.proofs.Keys.{among, disjoint, apart, numbersAt, givenAt, apartBefore, apartFrom, arms, arm, Missed, rest}
 use Rattle.tree.specs.declared.table.Operand.{Operand}
-use Rattle.tree.specs.Table.{formAt}
+use Rattle.tree.specs.Table.{formAt, firstColumn, secondColumn}
 use Rattle.tree.specs.Trees.{Label, Tree, none, labelAt, operandAt, treeAt}
 use Rattle.tree.specs.Operands.{presence, formIn}
 use Rattle.tree.specs.Walks.{Ask, answer, atRoot}
@@ -29,10 +29,10 @@ none-zero (line ks a ∷ rows) (suc j) t = none-zero rows j (of-true (and-true (
 
 module _ (cells : List ℕ) (count i : ℕ) where
   abbrev pub FirstAt : Operand
-  FirstAt = presence (operandAt cells count i 3)
+  FirstAt = presence (operandAt cells count i firstColumn)
 
   abbrev pub SecondAt : Operand
-  SecondAt = presence (operandAt cells count i 4)
+  SecondAt = presence (operandAt cells count i secondColumn)
 
   -- a node that is there, or none
   pub form-in : 1 ≤ i → i ≤ count → formIn cells count i ≡ formAt cells i
@@ -59,7 +59,7 @@ module _ (cells : List ℕ) (count i : ℕ) where
 
   module _ {A : Type 0} (rows : Label → Tree → Tree → List (Line (Ask A))) (other : Label → A) (missing : A) where
     abbrev pub linesAt : List (Line (Ask A))
-    linesAt = rows (labelAt cells i) (treeAt cells count (operandAt cells count i 3)) (treeAt cells count (operandAt cells count i 4))
+    linesAt = rows (labelAt cells i) (treeAt cells count (operandAt cells count i firstColumn)) (treeAt cells count (operandAt cells count i secondColumn))
 
     module _ (form : ℕ) (is : form ≡ formIn cells count i) where
       step-form : 1 ≤ i → i ≤ count → stepAt rows other missing cells count i ≡ stepBy missing (lookup linesAt (answer (other (labelAt cells i))) form) FirstAt SecondAt
@@ -96,7 +96,7 @@ module _ (cells : List ℕ) (count i : ℕ) where
 
   module _ {A : Type 0} (rows : Label → Tree → Tree → List (Line A)) (other : A) where
     abbrev pub rootLines : List (Line A)
-    rootLines = rows (labelAt cells i) (treeAt cells count (operandAt cells count i 3)) (treeAt cells count (operandAt cells count i 4))
+    rootLines = rows (labelAt cells i) (treeAt cells count (operandAt cells count i firstColumn)) (treeAt cells count (operandAt cells count i secondColumn))
 
     root-form : 1 ≤ i → i ≤ count → atRoot rows other (treeAt cells count i) ≡ lookup rootLines other (formIn cells count i)
     unfolding atRoot labelAt

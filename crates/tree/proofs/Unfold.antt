@@ -9,6 +9,7 @@ use lib.Dec.{eqb, ltb, leb}
 use borrow.Author.Tests.{lt-ltb, le-ltb, le-leb, lt-leb}
 use Rattle.laws.specs.Choice.{pick}
 use Rattle.tree.specs.Forms.{classOf, aLink}
+use Rattle.tree.specs.Table.{firstColumn, secondColumn}
 use Rattle.tree.specs.Trees.{Label, Tree, none, node, labelAt, operandOf, operandAt, treeTo, treeAt, ownLevel, levels}
 
 -- ---- operands
@@ -106,8 +107,8 @@ same cells count (suc n) zero (suc i) h = absurd (let f = h (omega arith) in ome
 same cells count (suc n) (suc m) (suc i) h =
     let f = h (omega arith) in
     ap₂ (node (labelAt cells (suc i)))
-    (same cells count n m (operandAt cells count (suc i) 3) (λ p. let q = operand-range count (suc i) _ p in omega arith))
-    (same cells count n m (operandAt cells count (suc i) 4) (λ p. let q = operand-range count (suc i) _ p in omega arith))
+    (same cells count n m (operandAt cells count (suc i) firstColumn) (λ p. let q = operand-range count (suc i) _ p in omega arith))
+    (same cells count n m (operandAt cells count (suc i) secondColumn) (λ p. let q = operand-range count (suc i) _ p in omega arith))
 
 pub tree-zero : (cells : List ℕ) (count : ℕ) → treeAt cells count 0 ≡ none
 unfolding treeAt
@@ -125,7 +126,7 @@ below cells n i o h =
     (same cells (suc n) n (suc n) (operandOf (suc n) (suc i) o) (λ p. let q = operand-range (suc n) (suc i) o p in omega arith))
 
 pub unfolds : (cells : List ℕ) (count i : ℕ) → 1 ≤ i → i ≤ count
-    → treeAt cells count i ≡ node (labelAt cells i) (treeAt cells count (operandAt cells count i 3)) (treeAt cells count (operandAt cells count i 4))
+    → treeAt cells count i ≡ node (labelAt cells i) (treeAt cells count (operandAt cells count i firstColumn)) (treeAt cells count (operandAt cells count i secondColumn))
 unfolding treeAt treeTo
 unfolds cells zero i h k = absurd (omega arith)
 unfolds cells (suc n) zero h k = absurd (omega arith)
@@ -148,8 +149,8 @@ unfolding treeTo levels
 levels-to cells count zero i = omega arith
 levels-to cells count (suc n) zero = omega arith
 levels-to cells count (suc n) (suc i) =
-    let a = levels-to cells count n (operandAt cells count (suc i) 3) in
-    let b = levels-to cells count n (operandAt cells count (suc i) 4) in
+    let a = levels-to cells count n (operandAt cells count (suc i) firstColumn) in
+    let b = levels-to cells count n (operandAt cells count (suc i) secondColumn) in
     let o = own-most (labelAt cells (suc i) .form) in
     omega arith
 

@@ -11,6 +11,7 @@ use Rattle.laws.specs.Choice.{Line}
 use Rattle.laws.proofs.Choice.{pick-true, pick-false}
 use Rattle.tree.specs.declared.table.Operand.{Operand}
 use Rattle.tree.specs.declared.table.Operand.the-variants.{Absent, Present}
+use Rattle.tree.specs.Table.{firstColumn, secondColumn}
 use Rattle.tree.specs.Trees.{Label, Tree, none, node, operandOf, operandAt, treeAt}
 use Rattle.tree.specs.Operands.{presence}
 use Rattle.tree.specs.Walks.{Ask, answer, first, second, follow, isThere, walk}
@@ -62,11 +63,11 @@ module _ {A : Type 0} (rows : Label → Tree → Tree → List (Line (Ask A))) (
   asked = askedAt rows other cells count i
 
   -- the walk at a node, by what its operands give
-  walk-node : 1 ≤ i → i ≤ count → walk rows other missing (treeAt cells count i) ≡ follow asked (walk rows other missing (treeAt cells count (operandAt cells count i 3))) (walk rows other missing (treeAt cells count (operandAt cells count i 4)))
+  walk-node : 1 ≤ i → i ≤ count → walk rows other missing (treeAt cells count i) ≡ follow asked (walk rows other missing (treeAt cells count (operandAt cells count i firstColumn))) (walk rows other missing (treeAt cells count (operandAt cells count i secondColumn)))
   unfolding walk
   walk-node h k = rw (unfolds cells count i h k)
 
-  pub step-in : 1 ≤ i → i ≤ count → stepAt rows other missing cells count i ≡ stepBy missing asked (presence (operandAt cells count i 3)) (presence (operandAt cells count i 4))
+  pub step-in : 1 ≤ i → i ≤ count → stepAt rows other missing cells count i ≡ stepBy missing asked (presence (operandAt cells count i firstColumn)) (presence (operandAt cells count i secondColumn))
   unfolding stepAt
   step-in h k = pick-true _ _ (rw (le-leb 1 i h, le-leb i count k))
 
@@ -89,8 +90,8 @@ module _ {A : Type 0} (rows : Label → Tree → Tree → List (Line (Ask A))) (
   leads-into o e Absent q = e ∙ rw (absent-zero _ q, tree-zero cells count)
   leads-into o e (Present n) q = let s = present-above count i o n q in (s .1, s .2, sym (e ∙ rw (s .0)))
 
-  leads-by : (q : Ask A) → walk rows other missing (treeAt cells count i) ≡ follow q (walk rows other missing (treeAt cells count (operandAt cells count i 3))) (walk rows other missing (treeAt cells count (operandAt cells count i 4)))
-      → Leads (stepBy missing q (presence (operandAt cells count i 3)) (presence (operandAt cells count i 4)))
+  leads-by : (q : Ask A) → walk rows other missing (treeAt cells count i) ≡ follow q (walk rows other missing (treeAt cells count (operandAt cells count i firstColumn))) (walk rows other missing (treeAt cells count (operandAt cells count i secondColumn)))
+      → Leads (stepBy missing q (presence (operandAt cells count i firstColumn)) (presence (operandAt cells count i secondColumn)))
   unfolding follow
   leads-by (answer x) e = e
   leads-by first e = leads-into _ e _ refl

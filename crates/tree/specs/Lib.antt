@@ -1,3 +1,4 @@
+pub mod Sizes
 pub mod Forms
 pub mod Table
 pub mod Trees

@@ -6,6 +6,7 @@ use lib.Dec.{leb}
 use Rattle.laws.specs.Choice.{pick, Line, lookup}
 use Rattle.tree.specs.declared.table.Operand.{Operand}
 use Rattle.tree.specs.declared.table.Operand.the-variants.{Absent, Present}
+use Rattle.tree.specs.Table.{firstColumn, secondColumn}
 use Rattle.tree.specs.Trees.{Label, Tree, none, labelAt, operandAt, treeAt}
 use Rattle.tree.specs.Operands.{presence}
 use Rattle.tree.specs.Walks.{Ask, answer, first, second}
@@ -37,7 +38,7 @@ stepBy absent second p q = into absent q
 abbrev pub askedAt : {A : Type 0} → (Label → Tree → Tree → List (Line (Ask A))) → (Label → A) → List ℕ → ℕ → ℕ → Ask A
 askedAt rows other cells count i =
     lookup
-    (rows (labelAt cells i) (treeAt cells count (operandAt cells count i 3)) (treeAt cells count (operandAt cells count i 4)))
+    (rows (labelAt cells i) (treeAt cells count (operandAt cells count i firstColumn)) (treeAt cells count (operandAt cells count i secondColumn)))
     (answer (other (labelAt cells i)))
     (labelAt cells i .form)
 
@@ -48,6 +49,6 @@ stepAt rows other absent cells count i =
     (stepBy
     absent
     (askedAt rows other cells count i)
-    (presence (operandAt cells count i 3))
-    (presence (operandAt cells count i 4)))
+    (presence (operandAt cells count i firstColumn))
+    (presence (operandAt cells count i secondColumn)))
     (ends absent)

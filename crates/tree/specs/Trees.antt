@@ -5,7 +5,7 @@ use Prim.Native.Nat.{ℕ, zero, suc, _+_, max}
 use lib.Dec.{eqb, ltb, leb}
 use Rattle.laws.specs.Choice.{pick}
 use Rattle.tree.specs.Forms.{aLink, classOf}
-use Rattle.tree.specs.Table.{cellAt, formAt, attributesAt, detailAt}
+use Rattle.tree.specs.Table.{cellAt, formAt, attributesAt, detailAt, firstColumn, secondColumn}
 
 -- a node's numbers but its operands
 pub record Label : Type 0 where
@@ -36,8 +36,8 @@ treeTo cells count (suc n) zero = none
 treeTo cells count (suc n) (suc i) =
     node
     (labelAt cells (suc i))
-    (treeTo cells count n (operandAt cells count (suc i) 3))
-    (treeTo cells count n (operandAt cells count (suc i) 4))
+    (treeTo cells count n (operandAt cells count (suc i) firstColumn))
+    (treeTo cells count n (operandAt cells count (suc i) secondColumn))
 
 -- the tree at node i, none where i is 0 or above the count. Operands' numbers ascend, so a path holds at most `count` nodes
 unfoldable pub treeAt : List ℕ → ℕ → ℕ → Tree

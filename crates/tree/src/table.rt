@@ -1,4 +1,6 @@
 // The cells of a node table: five numbers a node, form, attributes, detail, first and second.
+use crate::columns;
+use crate::sizes;
 ghost use mathlib.Core.Path.{_≡_};
 ghost use Rattle.tree.specs.Table.{cellAt};
 ghost use Rattle.tree.specs.Trees.{operandAt};
@@ -17,7 +19,7 @@ pub fn cell(table: &[u16], node: u16, place: u16) -> u16
     if node == 0 {
         return 0;
     }
-    let at = 5 * ((node - 1) as usize) + (place as usize);
+    let at = sizes::NODE_CELLS * ((node - 1) as usize) + (place as usize);
     if at < table.len() { table[at] } else { 0 }
 }
 
@@ -31,7 +33,7 @@ pub fn form_at(table: &[u16], count: u16, node: u16) -> u16
     if node > count {
         return 0;
     }
-    cell(table, node, 0)
+    cell(table, node, columns::FORM)
 }
 
 // The number of the operand at a place, 0 where it is absent.

@@ -1,5 +1,6 @@
 // The levels of a tree: how many nodes its longest path holds, links not counted.
 use super::form::class_of;
+use tree::columns;
 use tree::table::cell;
 ghost use mathlib.Core.Path.{_≡_};
 ghost use Prim.Native.Nat.{max};
@@ -16,7 +17,7 @@ pub fn larger(a: u16, b: u16) -> u16
 pub fn own_level(table: &[u16], node: u16) -> u16
     ensures { λ r. ⌜ r ≡ ownLevel (formAt (now (table .entry)) node) ⌝ }
 {
-    if class_of(cell(table, node, 0)) == 3 {
+    if class_of(cell(table, node, columns::FORM)) == 3 {
         0
     } else {
         1

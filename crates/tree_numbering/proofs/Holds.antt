@@ -6,6 +6,7 @@ use native.Mathlib.Omega.{arith}
 use lib.ListN.{length, drop, getD, length-append}
 use lib.Seq.{drop-drop, drop-at, getD-drop}
 use Rattle.laws.specs.Lists.{over}
+use Rattle.tree.specs.Sizes.{nodeCells}
 use Rattle.tree.specs.Table.{cellAt}
 use Rattle.tree.specs.Trees.{Label, Tree, none, node, labelAt, operandOf, treeAt}
 use Rattle.tree.proofs.Unfold.{operand-in, operand-zero, tree-zero, tree-past, unfolds}
@@ -13,7 +14,7 @@ use Rattle.tree_numbering.specs.Numbered.{size, numberOf, cellsFrom, num
 
 -- ---- five cells a node
 
-pub length-cells : (i : ℕ) (t : Tree) → length (cellsFrom i t) ≡ 5 * size t
+pub length-cells : (i : ℕ) (t : Tree) → length (cellsFrom i t) ≡ nodeCells * size t
 unfolding cellsFrom size
 length-cells i none = refl
 length-cells i (node l a b) =
@@ -21,7 +22,7 @@ length-cells i (node l a b) =
     let q = length-cells (suc i + size a) b in
     simp length-append (omega arith)
 
-pub length-numbered : (t : Tree) → length (numbered t) ≡ 5 * size t
+pub length-numbered : (t : Tree) → length (numbered t) ≡ nodeCells * size t
 unfolding numbered
 length-numbered t = length-cells 1 t
 
@@ -35,17 +36,17 @@ operand-numbered (node l a b) count i n h k = operand-in count i n h (omega arit
 
 module _ (cells : List ℕ) where
   -- a place of a node, in what follows the nodes before it
-  cell-held : (j k : ℕ) (here : List ℕ) → drop (5 * j) cells ≡ here → cellAt cells (suc j) k ≡ getD here k 0
+  cell-held : (j k : ℕ) (here : List ℕ) → drop (nodeCells * j) cells ≡ here → cellAt cells (suc j) k ≡ getD here k 0
   unfolding cellAt
-  cell-held j k here e = sym (getD-drop (5 * j) cells k 0) ∙ rw e
+  cell-held j k here e = sym (getD-drop (nodeCells * j) cells k 0) ∙ rw e
 
   -- what follows m more nodes
-  further : (j m n : ℕ) (before after : List ℕ) → n ≡ j + m → length before ≡ 5 * m → drop (5 * j) cells ≡ before ++ after → drop (5 * n) cells ≡ after
+  further : (j m n : ℕ) (before after : List ℕ) → n ≡ j + m → length before ≡ nodeCells * m → drop (nodeCells * j) cells ≡ before ++ after → drop (nodeCells * n) cells ≡ after
   further j m n before after k l e =
-      let s : 5 * n ≡ 5 * j + 5 * m = omega arith in
-      rw (s, ← drop-drop (5 * m) (5 * j) cells, e) (drop-at before after (5 * m) l)
+      let s : nodeCells * n ≡ nodeCells * j + nodeCells * m = omega arith in
+      rw (s, ← drop-drop (nodeCells * m) (nodeCells * j) cells, e) (drop-at before after (nodeCells * m) l)
 
-  held-node : (l : Label) (a b : Tree) (count j x y : ℕ) (after : List ℕ) → j < count → drop (5 * j) cells ≡ l .form ∷ l .attributes ∷ l .detail ∷ x ∷ y ∷ after
+  held-node : (l : Label) (a b : Tree) (count j x y : ℕ) (after : List ℕ) → j < count → drop (nodeCells * j) cells ≡ l .form ∷ l .attributes ∷ l .detail ∷ x ∷ y ∷ after
       → operandOf count (suc j) x ≡ x → operandOf count (suc j) y ≡ y → treeAt cells count x ≡ a → treeAt cells count y ≡ b
       → treeAt cells count (suc j) ≡ node l a b
   unfolding labelAt
@@ -53,7 +54,7 @@ module _ (cells : List ℕ) where
       unfolds cells count (suc j) (omega arith) (omega arith)
       ∙ rw (cell-held j 0 _ e, cell-held j 1 _ e, cell-held j 2 _ e, cell-held j 3 _ e, cell-held j 4 _ e, p, q, f, g)
 
-  pub held : (t : Tree) (count j : ℕ) (rest : List ℕ) → j + size t ≤ count → drop (5 * j) cells ≡ cellsFrom (suc j) t ++ rest
+  pub held : (t : Tree) (count j : ℕ) (rest : List ℕ) → j + size t ≤ count → drop (nodeCells * j) cells ≡ cellsFrom (suc j) t ++ rest
       → treeAt cells count (numberOf t (suc j)) ≡ t
   unfolding size numberOf cellsFrom
   held none count j rest h e = tree-zero cells count

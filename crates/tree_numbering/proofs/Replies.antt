@@ -15,6 +15,7 @@ use Rattle.tree_numbering.specs.Numbered.{size, cellsFrom, numbered, too
 use Rattle.tree_numbering.specs.Renumbering.{tooShort, renumbered, renumberedAfter}
 use Rattle.tree_numbering.proofs.Holds.{length-numbered}
 use Rattle.laws.proofs.Lists.{sets-over}
+use Rattle.tree.specs.Sizes.{nodeCells, mostNodes, mostLevels}
 
 module _ (t : Tree) (out : List ℕ) where
   -- what the two clauses of the contract say of an answer and of the lent table afterwards
@@ -25,27 +26,27 @@ module _ (t : Tree) (out : List ℕ) where
   unfolding renumbered renumberedAfter
   too-large e = (sym (pick-true _ _ e), sym (pick-true _ _ (or-here _ e)))
 
-  pub too-many : 4096 < size t → Renumbers TooLarge out
+  pub too-many : mostNodes < size t → Renumbers TooLarge out
   unfolding tooLarge
   too-many h = too-large (or-here _ (lt-ltb _ _ h))
 
-  module _ (few : size t ≤ 4096) where
-    pub too-deep : 128 < levels t → Renumbers TooLarge out
+  module _ (few : size t ≤ mostNodes) where
+    pub too-deep : mostLevels < levels t → Renumbers TooLarge out
     unfolding tooLarge
     too-deep h = too-large (or-next _ (le-ltb _ _ few) ∙ lt-ltb _ _ h)
 
-    module _ (flat : levels t ≤ 128) where
+    module _ (flat : levels t ≤ mostLevels) where
       not-large : tooLarge t ≡ false
       unfolding tooLarge
       not-large = or-next _ (le-ltb _ _ few) ∙ le-ltb _ _ flat
 
-      pub too-short : length out < 5 * size t → Renumbers TooShort out
+      pub too-short : length out < nodeCells * size t → Renumbers TooShort out
       unfolding renumbered renumberedAfter tooShort
       too-short h =
           let e : tooShort t (length out) ≡ true = lt-ltb _ _ h in
           (sym (pick-false _ _ not-large ∙ pick-true _ _ e), sym (pick-true _ _ (or-next _ not-large ∙ e)))
 
-      pub all-stored : 5 * size t ≤ length out → (n : ℕ) (after : List ℕ) → (n ≡ 0 + size t) × (after ≡ sets out 0 (cellsFrom 1 t)) → Renumbers (Nodes n) after
+      pub all-stored : nodeCells * size t ≤ length out → (n : ℕ) (after : List ℕ) → (n ≡ 0 + size t) × (after ≡ sets out 0 (cellsFrom 1 t)) → Renumbers (Nodes n) after
       unfolding renumbered renumberedAfter tooShort numbered
       all-stored h n after e =
           let s : tooShort t (length out) ≡ false = le-ltb _ _ h in

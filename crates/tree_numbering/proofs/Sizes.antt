@@ -7,7 +7,7 @@ use native.Mathlib.Decide.{decLe}
 use lib.Dec.{eqb}
 use borrow.Author.Tests.{eq-eqb, ne-eqb}
 use Rattle.laws.specs.Choice.{pick}
-use Rattle.tree.specs.Table.{firstAt, secondAt}
+use Rattle.tree.specs.Table.{firstAt, secondAt, firstColumn, secondColumn}
 use Rattle.tree.specs.Trees.{none, operandAt, treeAt}
 use Rattle.tree_rules.specs.Refusals.{owners, Accepted}
 use Rattle.tree.proofs.Unfold.{tree-zero, unfolds}
@@ -98,7 +98,7 @@ module _ (cells : List ℕ) (count i : ℕ) where
   unfolding size
   size-none e = rw e
 
-  pub size-node : 1 ≤ i → i ≤ count → size (treeAt cells count i) ≡ suc (size (treeAt cells count (operandAt cells count i 3)) + size (treeAt cells count (operandAt cells count i 4)))
+  pub size-node : 1 ≤ i → i ≤ count → size (treeAt cells count i) ≡ suc (size (treeAt cells count (operandAt cells count i firstColumn)) + size (treeAt cells count (operandAt cells count i secondColumn)))
   unfolding size
   size-node p q = rw (unfolds cells count i p q)
 

@@ -3,6 +3,7 @@ use mathlib.Core.Bool.{Bool, _||_}
 use mathlib.Core.List.{List, [], _∷_, _++_}
 use Prim.Native.Nat.{ℕ, suc, _+_}
 use lib.Dec.{ltb}
+use Rattle.tree.specs.Sizes.{mostNodes, mostLevels}
 use Rattle.tree.specs.Trees.{Label, Tree, none, node, levels}
 
 -- how many nodes a tree has, links included
@@ -27,4 +28,4 @@ numbered t = cellsFrom 1 t
 
 -- 16. "The reading needs more than 4,096 nodes, links included, or a path of more than 128, counted as in 11."
 unfoldable pub tooLarge : Tree → Bool
-tooLarge t = ltb 4096 (size t) || ltb 128 (levels t)
+tooLarge t = ltb mostNodes (size t) || ltb mostLevels (levels t)

@@ -6,6 +6,7 @@ use lib.Dec.{ltb}
 use lib.ListN.{length}
 use Rattle.laws.specs.Choice.{pick}
 use Rattle.laws.specs.Lists.{over}
+use Rattle.tree.specs.Sizes.{nodeCells}
 use Rattle.tree.specs.Trees.{Tree}
 use Rattle.tree_numbering.specs.declared.Renumbered.{Renumbered}
 use Rattle.tree_numbering.specs.declared.Renumbered.the-variants.{TooLarge, TooShort, Nodes}
@@ -13,7 +14,7 @@ use Rattle.tree_numbering.specs.Numbered.{size, numbered, tooLarge}
 
 -- five cells a node; `cells` is the lent table's length
 unfoldable pub tooShort : Tree → ℕ → Bool
-tooShort t cells = ltb cells (5 * size t)
+tooShort t cells = ltb cells (nodeCells * size t)
 
 unfoldable pub renumbered : Tree → ℕ → Renumbered
 renumbered t cells = pick (tooLarge t) TooLarge (pick (tooShort t cells) TooShort (Nodes (size t)))

@@ -1,4 +1,7 @@
 // Trees numbered anew.
+use tree::columns;
+use tree::offsets;
+use tree::sizes;
 use tree::table::cell;
 use tree::table::operand_number;
 use tree_labels::level::larger;
@@ -10,10 +13,14 @@ ghost use lib.Dec.{eqb};
 ghost use lib.ListN.{length};
 ghost use lib.Seq.{sets};
 ghost use Rattle.laws.specs.Choice.{pick};
+ghost use Rattle.tree.specs.Sizes.{nodeCells, mostNodes};
 ghost use Rattle.tree.specs.Table.{formAt, attributesAt, detailAt};
 ghost use Rattle.tree.specs.Trees.{treeAt, levels};
 ghost use Rattle.tree_numbering.specs.Numbered.{size, cellsFrom};
 ghost use Rattle.tree_numbering.specs.Renumbering.{renumbered, renumberedAfter};
+
+// Room for one node more than the most, so that too many show.
+const ROOM: u16 = sizes::MOST_NODES + 1;
 
 // What numbering anew answers.
 pub enum Renumbered {
@@ -43,10 +50,15 @@ fn room_after(table: &[u16], count: u16, node: u16, room: u16) -> u16
     let left = room_after(
         table,
         count,
-        operand_number(table, count, node, 3),
+        operand_number(table, count, node, columns::FIRST),
         room - 1,
     );
-    room_after(table, count, operand_number(table, count, node, 4), left)
+    room_after(
+        table,
+        count,
+        operand_number(table, count, node, columns::SECOND),
+        left,
+    )
 }
 
 // How many nodes the longest path from a node holds, list links not counted.
@@ -59,8 +71,16 @@ fn levels_at(table: &[u16], count: u16, node: u16) -> u16
     if count < node {
         return 0;
     }
-    let first = levels_at(table, count, operand_number(table, count, node, 3));
-    let second = levels_at(table, count, operand_number(table, count, node, 4));
+    let first = levels_at(
+        table,
+        count,
+        operand_number(table, count, node, columns::FIRST),
+    );
+    let second = levels_at(
+        table,
+        count,
+        operand_number(table, count, node, columns::SECOND),
+    );
     own_level(table, node) + larger(first, second)
 }
 
@@ -79,22 +99,22 @@ fn number_after(operand: u16, done: u16) -> u16
 
 // A node of the table into the five cells after so many nodes, with its operands' new numbers.
 fn store(table: &[u16], node: u16, done: u16, first: u16, second: u16, out: &mut [u16])
-    requires { ⌜ 5 * done + 5 ≤ length (now out) ⌝ }
-    ensures { λ _. ⌜ now (out .exit) ≡ sets (now (out .entry)) (5 * done) (formAt (now (table .entry)) node ∷ attributesAt (now (table .entry)) node ∷ detailAt (now (table .entry)) node ∷ first ∷ second ∷ []) ⌝ }
+    requires { ⌜ nodeCells * done + nodeCells ≤ length (now out) ⌝ }
+    ensures { λ _. ⌜ now (out .exit) ≡ sets (now (out .entry)) (nodeCells * done) (formAt (now (table .entry)) node ∷ attributesAt (now (table .entry)) node ∷ detailAt (now (table .entry)) node ∷ first ∷ second ∷ []) ⌝ }
 {
-    let at = 5 * (done as usize);
-    out[at] = cell(table, node, 0);
-    out[at + 1] = cell(table, node, 1);
-    out[at + 2] = cell(table, node, 2);
-    out[at + 3] = first;
-    out[at + 4] = second;
+    let at = sizes::NODE_CELLS * (done as usize);
+    out[at] = cell(table, node, columns::FORM);
+    out[at + offsets::ATTRIBUTES] = cell(table, node, columns::ATTRIBUTES);
+    out[at + offsets::DETAIL] = cell(table, node, columns::DETAIL);
+    out[at + offsets::FIRST] = first;
+    out[at + offsets::SECOND] = second;
 }
 
 // The nodes of the tree at a node after so many others; how many there are then. A node's own cells are known once its first operand has its numbers.
 fn number_from(table: &[u16], count: u16, node: u16, done: u16, out: &mut [u16]) -> u16
-    requires { ⌜ (done + size (treeAt (now table) count node) ≤ 4096) × (5 * (done + size (treeAt (now table) count node)) ≤ length (now out)) ⌝ }
+    requires { ⌜ (done + size (treeAt (now table) count node) ≤ mostNodes) × (nodeCells * (done + size (treeAt (now table) count node)) ≤ length (now out)) ⌝ }
     ensures nodes { λ r. ⌜ r ≡ done + size (treeAt (now (table .entry)) count node) ⌝ }
-    ensures out { λ _. ⌜ now (out .exit) ≡ sets (now (out .entry)) (5 * done) (cellsFrom (suc done) (treeAt (now (table .entry)) count node)) ⌝ }
+    ensures out { λ _. ⌜ now (out .exit) ≡ sets (now (out .entry)) (nodeCells * done) (cellsFrom (suc done) (treeAt (now (table .entry)) count node)) ⌝ }
 {
     if node == 0 {
         return done;
@@ -102,8 +122,8 @@ fn number_from(table: &[u16], count: u16, node: u16, done: u16, out: &mut [u16])
     if count < node {
         return done;
     }
-    let first = operand_number(table, count, node, 3);
-    let second = operand_number(table, count, node, 4);
+    let first = operand_number(table, count, node, columns::FIRST);
+    let second = operand_number(table, count, node, columns::SECOND);
     let after = number_from(table, count, first, done + 1, out);
     store(
         table,
@@ -121,15 +141,15 @@ pub fn renumber(table: &[u16], count: u16, node: u16, out: &mut [u16]) -> Renumb
     ensures reply { λ r. ⌜ r ≡ renumbered (treeAt (now (table .entry)) count node) (length (now (out .entry))) ⌝ }
     ensures out { λ _. ⌜ now (out .exit) ≡ renumberedAfter (treeAt (now (table .entry)) count node) (now (out .entry)) ⌝ }
 {
-    let left = room_after(table, count, node, 4097);
+    let left = room_after(table, count, node, ROOM);
     if left == 0 {
         return Renumbered::TooLarge;
     }
-    if levels_at(table, count, node) > 128 {
+    if levels_at(table, count, node) > sizes::MOST_LEVELS {
         return Renumbered::TooLarge;
     }
-    let nodes = 4097 - left;
-    if out.len() < 5 * (nodes as usize) {
+    let nodes = ROOM - left;
+    if out.len() < sizes::NODE_CELLS * (nodes as usize) {
         return Renumbered::TooShort;
     }
     Renumbered::Nodes(number_from(table, count, node, 0, out))

@@ -13,10 +13,11 @@ use borrow.Author.Tests.{eqb-false, eq-eqb, ne-eqb, lt-ltb, le-ltb, lt-leb, not-
 use Rattle.laws.specs.Choice.{pick, lookup}
 use Rattle.laws.specs.Each.{some}
 use Rattle.laws.proofs.Choice.{pick-true, pick-false, and-true}
+use Rattle.tree.specs.Sizes.{nodeCells, mostNodes, mostLevels}
 use Rattle.tree_places.specs.declared.place.Place.{Place}
 use Rattle.tree_places.specs.declared.place.Place.the-variants.{Nothing, Required, Optional, List as ListOf, Item, Next}
 use Rattle.tree.specs.Forms.{aLink, classOf, allowed}
-use Rattle.tree.specs.Table.{cellAt, formAt, firstAt, secondAt, classAt}
+use Rattle.tree.specs.Table.{cellAt, formAt, firstAt, secondAt, classAt, formColumn}
 use Rattle.tree.specs.Trees.{operandOf, treeAt, ownLevel, levels}
 use Rattle.tree_places.specs.Places.{firstPlaces, firstPlace, wrongClass, wrongList, wrongItem, wrongNext, wrongAt, badOperands}
 use Rattle.tree_places.specs.Steps.{isRequired, wrongPresent}
@@ -30,12 +31,12 @@ use Rattle.tree.proofs.Unfold.{operand-in, operand-zero, tree-zero, levels-most
 
 -- ---- cells, classes and marks as numbers
 
-pub cell-form : (cells : List ℕ) (n : ℕ) → 1 ≤ n → getD cells (5 * (n - 1)) 0 ≡ cellAt cells n 0
+pub cell-form : (cells : List ℕ) (n : ℕ) → 1 ≤ n → getD cells (nodeCells * (n - 1)) 0 ≡ cellAt cells n formColumn
 unfolding cellAt
 cell-form cells zero h = absurd (omega arith)
 cell-form cells (suc i) h = ap (λ (k : ℕ). getD cells k 0) (omega arith)
 
-pub cell-other : (cells : List ℕ) (n k : ℕ) → 1 ≤ n → getD cells (5 * (n - 1) + k) 0 ≡ cellAt cells n k
+pub cell-other : (cells : List ℕ) (n k : ℕ) → 1 ≤ n → getD cells (nodeCells * (n - 1) + k) 0 ≡ cellAt cells n k
 unfolding cellAt
 cell-other cells zero k h = absurd (omega arith)
 cell-other cells (suc i) k h = ap (λ (k : ℕ). getD cells k 0) (omega arith)
@@ -160,7 +161,7 @@ module _ (cells : List ℕ) (count : ℕ) where
 
   -- ---- one node more
 
-  module _ (n : ℕ) (low : 1 ≤ n) (high : n ≤ count) (most : count ≤ 4096) (done : (j : ℕ) → n < j → j ≤ count → Sound cells count j) where
+  module _ (n : ℕ) (low : 1 ≤ n) (high : n ≤ count) (most : count ≤ mostNodes) (done : (j : ℕ) → n < j → j ≤ count → Sound cells count j) where
     -- what the mark of an operand of node n says
     pub data Tells (o : ℕ) : ℕ → Type 0 where
       nothing : o ≡ 0 → Tells o 0
@@ -300,7 +301,7 @@ module _ (cells : List ℕ) (count : ℕ) where
       go (yes s) = rw (s, le-ltb n n (omega arith), lt-ltb (n - 1) n (omega arith), getD-set-same zs n r 0 l, ne-eqb r 0 f)
       go (no s) = rw (above s (decLe (suc n) j), getD-set-other zs n j r 0 s)
 
-  module _ (n : ℕ) (xs : List ℕ) (m : Marked cells count n xs) (low : 1 ≤ n) (high : n ≤ count) (most : count ≤ 4096)
+  module _ (n : ℕ) (xs : List ℕ) (m : Marked cells count n xs) (low : 1 ≤ n) (high : n ≤ count) (most : count ≤ mostNodes)
       (one : ℕ) (ys : List ℕ) (t : Took count n (firstAt cells n) xs one ys) (f : one ≡ 7 → ⊥) where
     tells-first : Tells n low high most (m .sound) (firstAt cells n) one
     tells-first = go one ys t f
@@ -396,7 +397,7 @@ module _ (cells : List ℕ) (count : ℕ) where
   none-some f zero h = refl
   none-some f (suc n) h = rw (none-some f n (λ i a b. h i a (omega arith)), h (suc n) (omega arith) (omega arith))
 
-  module _ (xs : List ℕ) (m : Marked cells count 0 xs) (low : 1 ≤ count) (kind : getD xs 1 0 % 8 ≡ 1) (depth : getD xs 1 0 / 8 ≤ 128)
+  module _ (xs : List ℕ) (m : Marked cells count 0 xs) (low : 1 ≤ count) (kind : getD xs 1 0 % 8 ≡ 1) (depth : getD xs 1 0 / 8 ≤ mostLevels)
       (free : (j : ℕ) → 2 ≤ j → j ≤ count → getD xs j 0 ≡ 0) where
     root : getD xs 1 0 ≡ markAt cells count 1
     root = m .marks 1 (omega arith) low (λ z. omega arith)
@@ -425,7 +426,7 @@ module _ (cells : List ℕ) (count : ℕ) where
         ∙ skip _ _ (rw (none-some (badOrder cells count) count (λ i a b. s i a b .order)) (none-some (badOwner cells count) count owned-well))
         ∙ skip _ _ (none-some (empty cells) count (λ i a b. s i a b .full))
         ∙ skip _ _ (none-some (badOutput cells) count (λ i a b. s i a b .output))
-        ∙ skip _ _ (le-ltb 128 (levels (treeAt cells count 1)) (rw d depth))
+        ∙ skip _ _ (le-ltb mostLevels (levels (treeAt cells count 1)) (rw d depth))
         ∙ no-more
 
 -- a new array

@@ -7,23 +7,26 @@ use marks::mark_with;
 use marks::take;
 use rows::rare_row;
 use rows::row_of;
+use tree::offsets;
+use tree::sizes;
 use tree_rules::refusal::is_bad_count;
 ghost use mathlib.Core.Path.{_≡_};
 ghost use mathlib.Core.Bool.{true};
 ghost use Prim.Native.Nat.{ℕ, _+_, _*_, _≤_, _<_};
 ghost use lib.ListN.{length, getD};
+ghost use Rattle.tree.specs.Sizes.{nodeCells, mostNodes};
 ghost use Rattle.tree_rules.specs.Refusals.{firstOf, nodeRefusals, refusal};
 ghost use Rattle.tree_one_pass.specs.Marks.{Marks};
 
 // The mark of a node whose operands have these marks; 0 where a rule is broken.
 fn mark_at(table: &[u16], node: u16, one: u16, two: u16) -> u16
-    requires { ⌜ (1 ≤ node) × (5 * node ≤ length (now table)) × (one ≤ 40000) × (two ≤ 40000) ⌝ }
+    requires { ⌜ (1 ≤ node) × (nodeCells * node ≤ length (now table)) × (one ≤ 40000) × (two ≤ 40000) ⌝ }
     ensures { λ r. ⌜ ((r ≡ 0 → ⊥) → Marks (now (table .entry)) node one two r) ⌝ }
 {
-    let at = 5 * ((node - 1) as usize);
+    let at = sizes::NODE_CELLS * ((node - 1) as usize);
     let form = table[at];
-    let attributes = table[at + 1];
-    let detail = table[at + 2];
+    let attributes = table[at + offsets::ATTRIBUTES];
+    let detail = table[at + offsets::DETAIL];
     let mark = mark_with(row_of(form), attributes, detail, one, two);
     if mark != 0 {
         return mark;
@@ -56,7 +59,7 @@ fn four_taken(marks: &[u16], at: usize) -> bool
 
 // Whether each node but 1 has been taken by an owner.
 fn all_taken(marks: &[u16], count: u16) -> bool
-    requires { ⌜ (count ≤ 4096) × (count < length (now marks)) ⌝ }
+    requires { ⌜ (count ≤ mostNodes) × (count < length (now marks)) ⌝ }
     ensures { λ r. ⌜ (r ≡ true → (j : ℕ) → 2 ≤ j → j ≤ count → getD (now (marks .entry)) j 0 ≡ 0) ⌝ }
 {
     let mut done: u16 = 1;
@@ -78,17 +81,17 @@ fn all_taken(marks: &[u16], count: u16) -> bool
 
 // Whether it is certain that none of 6 to 11 applies: from the last node to the first, as operands come after their owners.
 fn is_fine(table: &[u16], count: u16, marks: &mut [u16]) -> bool
-    requires { ⌜ (1 ≤ count) × (count ≤ 4096) × (5 * count ≤ length (now table)) × (count < length (now marks)) × ((j : ℕ) → getD (now marks) j 0 ≡ 0) ⌝ }
+    requires { ⌜ (1 ≤ count) × (count ≤ mostNodes) × (nodeCells * count ≤ length (now table)) × (count < length (now marks)) × ((j : ℕ) → getD (now marks) j 0 ≡ 0) ⌝ }
     ensures { λ r. ⌜ (r ≡ true → firstOf (nodeRefusals count (now (table .entry))) ≡ 0) ⌝ }
 {
     let mut node = count;
     while 0 < node {
-        let cells = 5 * ((node - 1) as usize);
-        let one = take(marks, count, table[cells + 3]);
+        let cells = sizes::NODE_CELLS * ((node - 1) as usize);
+        let one = take(marks, count, table[cells + offsets::FIRST]);
         if one == TAKEN {
             return false;
         }
-        let two = take(marks, count, table[cells + 4]);
+        let two = take(marks, count, table[cells + offsets::SECOND]);
         if two == TAKEN {
             return false;
         }
@@ -104,7 +107,7 @@ fn is_fine(table: &[u16], count: u16, marks: &mut [u16]) -> bool
     if root % 8 != 1 {
         return false;
     }
-    if 128 < root / 8 {
+    if sizes::MOST_LEVELS < root / 8 {
         return false;
     }
     all_taken(marks, count)
@@ -112,7 +115,7 @@ fn is_fine(table: &[u16], count: u16, marks: &mut [u16]) -> bool
 
 // The same for fewer than 64 nodes, with an array that is quickly made.
 fn is_small_fine(table: &[u16], count: u16) -> bool
-    requires { ⌜ (1 ≤ count) × (count < 64) × (5 * count ≤ length (now table)) ⌝ }
+    requires { ⌜ (1 ≤ count) × (count < 64) × (nodeCells * count ≤ length (now table)) ⌝ }
     ensures { λ r. ⌜ (r ≡ true → firstOf (nodeRefusals count (now (table .entry))) ≡ 0) ⌝ }
 {
     let mut marks = [0u16; 64];
@@ -121,10 +124,10 @@ fn is_small_fine(table: &[u16], count: u16) -> bool
 
 // The same for up to 4,096 nodes.
 fn is_large_fine(table: &[u16], count: u16) -> bool
-    requires { ⌜ (1 ≤ count) × (count ≤ 4096) × (5 * count ≤ length (now table)) ⌝ }
+    requires { ⌜ (1 ≤ count) × (count ≤ mostNodes) × (nodeCells * count ≤ length (now table)) ⌝ }
     ensures { λ r. ⌜ (r ≡ true → firstOf (nodeRefusals count (now (table .entry))) ≡ 0) ⌝ }
 {
-    let mut marks = [0u16; 4097];
+    let mut marks = [0u16; sizes::MOST_NODES as usize + 1];
     is_fine(table, count, &mut marks)
 }
 

@@ -4,6 +4,7 @@ mod place; // place.rt: the places of each form, and whether an operand does not
 use place::first_place;
 use place::is_wrong;
 use place::second_place;
+use tree::columns;
 use tree::table::cell;
 ghost use mathlib.Core.Path.{_≡_};
 ghost use Rattle.tree_places.specs.Places.{badOperands};
@@ -12,12 +13,18 @@ ghost use Rattle.tree_places.specs.Places.{badOperands};
 pub fn has_bad_operands(table: &[u16], count: u16, node: u16) -> bool
     ensures { λ r. ⌜ r ≡ badOperands (now (table .entry)) count node ⌝ }
 {
-    let form = cell(table, node, 0);
-    let detail = cell(table, node, 2);
+    let form = cell(table, node, columns::FORM);
+    let detail = cell(table, node, columns::DETAIL);
     let first = first_place(form, detail);
-    if is_wrong(table, count, node, first, cell(table, node, 3)) {
+    if is_wrong(table, count, node, first, cell(table, node, columns::FIRST)) {
         return true;
     }
     let second = second_place(form, detail);
-    is_wrong(table, count, node, second, cell(table, node, 4))
+    is_wrong(
+        table,
+        count,
+        node,
+        second,
+        cell(table, node, columns::SECOND),
+    )
 }

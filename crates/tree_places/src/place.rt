@@ -1,4 +1,5 @@
 // What may stand at the two operand places of a node, and whether an operand does not fit its place.
+use tree::columns;
 use tree::forms;
 use tree::table::cell;
 use tree_labels::form::class_of;
@@ -95,7 +96,7 @@ fn wrong_class(table: &[u16], count: u16, class: u16, operand: u16) -> bool
     if operand > count {
         return false;
     }
-    class_of(cell(table, operand, 0)) != class
+    class_of(cell(table, operand, columns::FORM)) != class
 }
 
 // An operand within the count that is no link, or a link whose item is of another class.
@@ -105,10 +106,10 @@ fn wrong_list(table: &[u16], count: u16, class: u16, operand: u16) -> bool
     if operand > count {
         return false;
     }
-    if class_of(cell(table, operand, 0)) != 3 {
+    if class_of(cell(table, operand, columns::FORM)) != 3 {
         return true;
     }
-    wrong_class(table, count, class, cell(table, operand, 3))
+    wrong_class(table, count, class, cell(table, operand, columns::FIRST))
 }
 
 // An item that is neither an expression nor a type.
@@ -126,11 +127,16 @@ fn wrong_item(table: &[u16], count: u16, operand: u16) -> bool
 fn wrong_next(table: &[u16], count: u16, node: u16, operand: u16) -> bool
     ensures { λ r. ⌜ r ≡ wrongNext (now (table .entry)) count node operand ⌝ }
 {
-    let item = cell(table, node, 3);
+    let item = cell(table, node, columns::FIRST);
     if item > count {
         return wrong_class(table, count, 3, operand);
     }
-    wrong_list(table, count, class_of(cell(table, item, 0)), operand)
+    wrong_list(
+        table,
+        count,
+        class_of(cell(table, item, columns::FORM)),
+        operand,
+    )
 }
 
 // Whether a place must have an operand.

@@ -13,10 +13,11 @@ use Rattle.laws.specs.Choice.{pick}
 use Rattle.laws.specs.Each.{some}
 use Rattle.laws.proofs.Choice.{pick-true, true-not-false, and-true, or-false}
 use Rattle.laws.proofs.Each.{some-none}
+use Rattle.tree.specs.Sizes.{nodeCells, mostNodes, mostLevels}
 use Rattle.tree_places.specs.declared.place.Place.{Place}
 use Rattle.tree_places.specs.declared.place.Place.the-variants.{Nothing, Required, Optional, List as ListOf, Item, Next}
 use Rattle.tree.specs.Forms.{ExprBlock, ExprClosure, anExpression, aType, aLink, allowed}
-use Rattle.tree.specs.Table.{cellAt, formAt, attributesAt, detailAt, firstAt, secondAt, classAt}
+use Rattle.tree.specs.Table.{cellAt, formAt, attributesAt, detailAt, firstAt, secondAt, classAt, firstColumn, secondColumn}
 use Rattle.tree.specs.Trees.{operandOf, operandAt, treeAt, levels}
 use Rattle.tree_places.specs.Places.{firstPlace, secondPlace, wrongClass, wrongList, wrongItem, wrongNext, wrongAt, badOperands}
 use Rattle.tree_places.specs.Steps.{isRequired, wrongPresent}
@@ -117,7 +118,7 @@ module _ (context count : ℕ) (cells : List ℕ) (ok : Accepted context count c
   context-most = ltb-false 3 context (passes context count cells ok .not3)
 
   -- at least one node, at most 4,096, all of them in the table
-  pub count-bounds : (1 ≤ count) × (count ≤ 4096) × (5 * count ≤ length cells)
+  pub count-bounds : (1 ≤ count) × (count ≤ mostNodes) × (nodeCells * count ≤ length cells)
   count-bounds = count-fits count (length cells) (passes context count cells ok .not4)
 
   -- node 1 is an expression
@@ -126,9 +127,9 @@ module _ (context count : ℕ) (cells : List ℕ) (ok : Accepted context count c
   root-expression = eqb-true (classAt cells 1) anExpression (not-false _ (or-false _ _ (passes context count cells ok .not7) .0))
 
   -- no path from node 1 holds more than 128 nodes
-  pub levels-bound : levels (treeAt cells count 1) ≤ 128
+  pub levels-bound : levels (treeAt cells count 1) ≤ mostLevels
   unfolding refusal11
-  levels-bound = ltb-false 128 (levels (treeAt cells count 1)) (passes context count cells ok .not11)
+  levels-bound = ltb-false mostLevels (levels (treeAt cells count 1)) (passes context count cells ok .not11)
 
   module _ (i : ℕ) (low : 1 ≤ i) (high : i ≤ count) where
     pub numbers-allowed : allowed (formAt cells i) (attributesAt cells i) (detailAt cells i) ≡ true
@@ -221,10 +222,10 @@ module _ (context count : ℕ) (cells : List ℕ) (ok : Accepted context count c
   standing-operand i o (inl z) = rw z (operand-zero count i)
   standing-operand i o (inr w) = operand-in count i o (w .0) (w .1)
 
-  pub first-operand : (i : ℕ) → 1 ≤ i → i ≤ count → operandAt cells count i 3 ≡ firstAt cells i
+  pub first-operand : (i : ℕ) → 1 ≤ i → i ≤ count → operandAt cells count i firstColumn ≡ firstAt cells i
   first-operand i low high = standing-operand i (firstAt cells i) (first-standing i low high)
 
-  pub second-operand : (i : ℕ) → 1 ≤ i → i ≤ count → operandAt cells count i 4 ≡ secondAt cells i
+  pub second-operand : (i : ℕ) → 1 ≤ i → i ≤ count → operandAt cells count i secondColumn ≡ secondAt cells i
   second-operand i low high = standing-operand i (secondAt cells i) (second-standing i low high)
 
   -- each node but 1 is counted once as an operand
@@ -246,6 +247,6 @@ module _ (context count : ℕ) (cells : List ℕ) (ok : Accepted context count c
       stands x e (inl z) = absurd (omega arith)
       stands x e (inr w) = let l = w .0 in omega arith
 
-      go : (k : ℕ) → (k ≡ 3) ⊎ (k ≡ 4) → cellAt cells (o .owner) k ≡ j → o .owner < j
+      go : (k : ℕ) → (k ≡ firstColumn) ⊎ (k ≡ secondColumn) → cellAt cells (o .owner) k ≡ j → o .owner < j
       go k (inl e) h = stands (firstAt cells (o .owner)) (rw e at h) (first-standing (o .owner) (o .owner-low) (o .owner-high))
       go k (inr e) h = stands (secondAt cells (o .owner)) (rw e at h) (second-standing (o .owner) (o .owner-low) (o .owner-high))

@@ -6,7 +6,8 @@ use native.Mathlib.Omega.{arith}
 use native.Mathlib.Decide.{decLe, ℕ-discrete}
 use lib.ListN.{length, getD, set, length-set, replicate, length-replicate, getD-replicate}
 use lib.Seq.{getD-set-same, getD-set-other}
-use Rattle.tree.specs.Table.{cellAt, formAt}
+use Rattle.tree.specs.Sizes.{mostNodes}
+use Rattle.tree.specs.Table.{cellAt, formAt, firstColumn, secondColumn}
 use Rattle.tree.specs.Trees.{Tree, none, node, labelAt, operandOf, operandAt, treeAt, ownLevel, levels}
 use Rattle.tree_rules.specs.Passes.{Levelled}
 use Rattle.tree.proofs.Unfold.{operand-range, operand-most, tree-zero, tree-past, unfolds, levels-most}
@@ -17,8 +18,8 @@ module _ (cells : List ℕ) (count : ℕ) where
   none-levels j e = rw e
 
   -- before the first node an array of zeros holds them: there are no trees but at 1 to the count
-  pub levelled-none : Levelled cells count count (replicate 4097 0)
-  levelled-none = record { size = length-replicate {A = ℕ} 4097 0; at = λ j h k. getD-replicate 4097 j 0 0 (omega arith) ∙ each j k }
+  pub levelled-none : Levelled cells count count (replicate (mostNodes + 1) 0)
+  levelled-none = record { size = length-replicate {A = ℕ} (mostNodes + 1) 0; at = λ j h k. getD-replicate (mostNodes + 1) j 0 0 (omega arith) ∙ each j k }
     where
       each : (j : ℕ) → (1 ≤ j → count < j) → 0 ≡ levels (treeAt cells count j)
       each zero k = none-levels 0 (tree-zero cells count)
@@ -26,11 +27,11 @@ module _ (cells : List ℕ) (count : ℕ) where
 
   -- the levels of a node, by its operands
   pub levels-node : (i : ℕ) → 1 ≤ i → i ≤ count
-      → levels (treeAt cells count i) ≡ ownLevel (formAt cells i) + max (levels (treeAt cells count (operandAt cells count i 3))) (levels (treeAt cells count (operandAt cells count i 4)))
+      → levels (treeAt cells count i) ≡ ownLevel (formAt cells i) + max (levels (treeAt cells count (operandAt cells count i firstColumn))) (levels (treeAt cells count (operandAt cells count i secondColumn)))
   unfolding levels labelAt
   levels-node i h k = rw (unfolds cells count i h k)
 
-  module _ (n : ℕ) (xs : List ℕ) (l : Levelled cells count n xs) (most : count ≤ 4096) where
+  module _ (n : ℕ) (xs : List ℕ) (l : Levelled cells count n xs) (most : count ≤ mostNodes) where
     -- an operand has a cell
     pub operand-cell : (o : ℕ) → operandOf count n o < length xs
     operand-cell o = let m = operand-most count n o in let z = l .size in omega arith
@@ -42,17 +43,17 @@ module _ (cells : List ℕ) (count : ℕ) where
 
     module _ (low : 1 ≤ n) (high : n ≤ count) where
       -- the levels of a node, from the cells of its operands
-      pub levels-from : ownLevel (formAt cells n) + max (getD xs (operandAt cells count n 3) 0) (getD xs (operandAt cells count n 4) 0) ≡ levels (treeAt cells count n)
-      levels-from = rw (operand-levels (cellAt cells n 3), operand-levels (cellAt cells n 4)) (sym (levels-node n low high))
+      pub levels-from : ownLevel (formAt cells n) + max (getD xs (operandAt cells count n firstColumn) 0) (getD xs (operandAt cells count n secondColumn) 0) ≡ levels (treeAt cells count n)
+      levels-from = rw (operand-levels (cellAt cells n firstColumn), operand-levels (cellAt cells n secondColumn)) (sym (levels-node n low high))
 
-      pub levels-fit : ownLevel (formAt cells n) + max (getD xs (operandAt cells count n 3) 0) (getD xs (operandAt cells count n 4) 0) ≤ 4096
+      pub levels-fit : ownLevel (formAt cells n) + max (getD xs (operandAt cells count n firstColumn) 0) (getD xs (operandAt cells count n secondColumn) 0) ≤ mostNodes
       levels-fit = let m = levels-most cells count n in rw levels-from (omega arith)
 
   -- one node more, downwards
-  pub levelled-more : (n : ℕ) (xs : List ℕ) (v : ℕ) → Levelled cells count n xs → 1 ≤ n → n ≤ 4096 → v ≡ levels (treeAt cells count n) → Levelled cells count (n - 1) (set xs n v)
+  pub levelled-more : (n : ℕ) (xs : List ℕ) (v : ℕ) → Levelled cells count n xs → 1 ≤ n → n ≤ mostNodes → v ≡ levels (treeAt cells count n) → Levelled cells count (n - 1) (set xs n v)
   levelled-more n xs v l p q e = record { size = length-set xs n v ∙ l .size; at = each }
     where
-      each : (j : ℕ) → j ≤ 4096 → (1 ≤ j → n - 1 < j) → getD (set xs n v) j 0 ≡ levels (treeAt cells count j)
+      each : (j : ℕ) → j ≤ mostNodes → (1 ≤ j → n - 1 < j) → getD (set xs n v) j 0 ≡ levels (treeAt cells count j)
       each j h k = go (ℕ-discrete j n)
         where
           go : Dec (j ≡ n) → getD (set xs n v) j 0 ≡ levels (treeAt cells count j)

@@ -9,7 +9,7 @@ use native.Mathlib.Decide.{decLe}
 use lib.Dec.{eqb}
 use borrow.Author.Tests.{eqb-true, eqb-false}
 use Rattle.laws.specs.Choice.{pick}
-use Rattle.tree.specs.Table.{cellAt, firstAt, secondAt}
+use Rattle.tree.specs.Table.{cellAt, firstAt, secondAt, firstColumn, secondColumn}
 use Rattle.tree_rules.specs.Refusals.{owners}
 
 -- node j is the operand of one node, at one place
@@ -20,7 +20,7 @@ pub record OwnedOnce (cells : List ℕ) (n j : ℕ) : Type 0 where
   pub owner-low : 1 ≤ owner
   pub owner-high : owner ≤ n
   pub owns : cellAt cells owner place ≡ j
-  pub only : (i k : ℕ) → 1 ≤ i → i ≤ n → (k ≡ 3) ⊎ (k ≡ 4) → cellAt cells i k ≡ j → (i ≡ owner) × (k ≡ place)
+  pub only : (i k : ℕ) → 1 ≤ i → i ≤ n → (k ≡ firstColumn) ⊎ (k ≡ secondColumn) → cellAt cells i k ≡ j → (i ≡ owner) × (k ≡ place)
 
 module _ (cells : List ℕ) (j : ℕ) where
   -- whether an operand is j
@@ -38,9 +38,9 @@ module _ (cells : List ℕ) (j : ℕ) where
 
   -- no operand of the nodes 1 to n is j
   abbrev None : ℕ → Type 0
-  None n = (i k : ℕ) → 1 ≤ i → i ≤ n → (k ≡ 3) ⊎ (k ≡ 4) → cellAt cells i k ≡ j → ⊥
+  None n = (i k : ℕ) → 1 ≤ i → i ≤ n → (k ≡ firstColumn) ⊎ (k ≡ secondColumn) → cellAt cells i k ≡ j → ⊥
 
-  at-place : (n k : ℕ) → (k ≡ 3) ⊎ (k ≡ 4) → (firstAt cells n ≡ j → ⊥) → (secondAt cells n ≡ j → ⊥) → cellAt cells n k ≡ j → ⊥
+  at-place : (n k : ℕ) → (k ≡ firstColumn) ⊎ (k ≡ secondColumn) → (firstAt cells n ≡ j → ⊥) → (secondAt cells n ≡ j → ⊥) → cellAt cells n k ≡ j → ⊥
   at-place n k (inl e) p q h = p (rw e at h)
   at-place n k (inr e) p q h = q (rw e at h)
 
@@ -70,14 +70,14 @@ module _ (cells : List ℕ) (j : ℕ) where
       let h = o .owner-high in
       record { owner = o .owner; place = o .place; is-place = o .is-place; owner-low = o .owner-low; owner-high = omega arith; owns = o .owns; only = each }
     where
-      each : (i k : ℕ) → 1 ≤ i → i ≤ suc n → (k ≡ 3) ⊎ (k ≡ 4) → cellAt cells i k ≡ j → (i ≡ o .owner) × (k ≡ o .place)
+      each : (i k : ℕ) → 1 ≤ i → i ≤ suc n → (k ≡ firstColumn) ⊎ (k ≡ secondColumn) → cellAt cells i k ≡ j → (i ≡ o .owner) × (k ≡ o .place)
       each i k a b c e = go (decLe i n)
         where
           go : Dec (i ≤ n) → (i ≡ o .owner) × (k ≡ o .place)
           go (yes d) = o .only i k a d c e
           go (no d) = absurd (let s : i ≡ suc n = omega arith in at-place (suc n) k c p q (rw s at e))
 
-  here : (n k : ℕ) → (k ≡ 3) ⊎ (k ≡ 4) → None n → cellAt cells (suc n) k ≡ j → ((m : ℕ) → (m ≡ 3) ⊎ (m ≡ 4) → cellAt cells (suc n) m ≡ j → m ≡ k) → OwnedOnce cells (suc n) j
+  here : (n k : ℕ) → (k ≡ firstColumn) ⊎ (k ≡ secondColumn) → None n → cellAt cells (suc n) k ≡ j → ((m : ℕ) → (m ≡ 3) ⊎ (m ≡ 4) → cellAt cells (suc n) m ≡ j → m ≡ k) → OwnedOnce cells (suc n) j
   here n k c h e u = record { owner = suc n; place = k; is-place = c; owner-low = omega arith; owner-high = omega arith; owns = e; only = each }
     where
       each : (i m : ℕ) → 1 ≤ i → i ≤ suc n → (m ≡ 3) ⊎ (m ≡ 4) → cellAt cells i m ≡ j → (i ≡ suc n) × (m ≡ k)

@@ -6,6 +6,7 @@ use Prim.Native.Nat.{ℕ, _+_, _≤_, _<_}
 use lib.Dec.{leb}
 use lib.ListN.{length, getD, set}
 use Rattle.laws.specs.Choice.{pick}
+use Rattle.tree.specs.Sizes.{mostNodes}
 use Rattle.tree.specs.Trees.{treeAt, levels}
 use Rattle.tree_places.specs.Places.{badOperands}
 use Rattle.tree_rules.specs.declared.refusal.Rule.{Rule}
@@ -24,14 +25,14 @@ breaks Output cells count i = badOutput cells i
 
 -- one more owner for node o, where there is a cell for it
 unfoldable pub counted : List ℕ → ℕ → List ℕ
-counted xs o = pick (leb o 4096) (set xs o (getD xs o 0 + 1)) xs
+counted xs o = pick (leb o mostNodes) (set xs o (getD xs o 0 + 1)) xs
 
 -- the array of 4,097 cells holds how many of the operands of the nodes 1 to n each number is
 pub record Counted (cells : List ℕ) (n : ℕ) (xs : List ℕ) : Type 0 where
-  pub size : length xs ≡ 4097
-  pub at : (j : ℕ) → j ≤ 4096 → getD xs j 0 ≡ owners cells n j
+  pub size : length xs ≡ mostNodes + 1
+  pub at : (j : ℕ) → j ≤ mostNodes → getD xs j 0 ≡ owners cells n j
 
 -- the array of 4,097 cells holds the levels of the tree at each number but 1 to n
 pub record Levelled (cells : List ℕ) (count n : ℕ) (xs : List ℕ) : Type 0 where
-  pub size : length xs ≡ 4097
-  pub at : (j : ℕ) → j ≤ 4096 → (1 ≤ j → n < j) → getD xs j 0 ≡ levels (treeAt cells count j)
+  pub size : length xs ≡ mostNodes + 1
+  pub at : (j : ℕ) → j ≤ mostNodes → (1 ≤ j → n < j) → getD xs j 0 ≡ levels (treeAt cells count j)

@@ -7,6 +7,7 @@ use lib.Dec.{eqb, ltb, leb}
 use lib.ListN.{length}
 use Rattle.laws.specs.Choice.{pick, isOneOf}
 use Rattle.laws.specs.Each.{some}
+use Rattle.tree.specs.Sizes.{nodeCells, mostNodes, mostLevels}
 use Rattle.tree.specs.Forms.{ExprBlock, ExprClosure, TypeImplTrait, TypePath, TypeTraitObject, anExpression, allowed}
 use Rattle.tree.specs.Table.{formAt, attributesAt, detailAt, firstAt, secondAt, classAt}
 use Rattle.tree.specs.Trees.{treeAt, levels}
@@ -18,7 +19,7 @@ refusal3 context = ltb 3 context
 
 -- 4. "The node count is 0 or above 4,096, or a lent table is shorter than that many nodes." `cells` is the lent table's length
 unfoldable pub refusal4 : ℕ → ℕ → Bool
-refusal4 count cells = eqb count 0 || (ltb 4096 count || ltb cells (5 * count))
+refusal4 count cells = eqb count 0 || (ltb mostNodes count || ltb cells (nodeCells * count))
 
 -- 6. "A form, attribute or detail number is not allowed below."
 unfoldable pub badNumbers : List ℕ → ℕ → Bool
@@ -68,7 +69,7 @@ refusal10 cells count = some (badOutput cells) count
 
 -- 11. "A path from node 1 holds more than 128 nodes, list links not counted."
 unfoldable pub refusal11 : List ℕ → ℕ → Bool
-refusal11 cells count = ltb 128 (levels (treeAt cells count 1))
+refusal11 cells count = ltb mostLevels (levels (treeAt cells count 1))
 
 -- ---- the first that applies
 

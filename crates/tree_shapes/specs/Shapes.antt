@@ -7,6 +7,7 @@ use Rattle.tree.specs.declared.table.Operand.the-variants.{Absent, Present}
 use Rattle.tree_shapes.specs.declared.Shape.{Shape}
 use Rattle.tree_shapes.specs.declared.Shape.the-variants.{Closed, One, Two}
 use Rattle.tree.specs.Forms.{ExprAssign, ExprAwait, ExprBinary, ExprBreak, ExprCall, ExprCast, ExprClosure, ExprField, ExprGroup, ExprIndex, ExprLet, ExprMethodCall, ExprParen, ExprRange, ExprRawAddr, ExprReference, ExprReturn, ExprTry, ExprUnary, ExprYield, TypeFnPtr, TypeImplTrait, TypePath, TypePtr, TypeReference, TypeTraitObject, Link}
+use Rattle.tree.specs.Table.{firstColumn, secondColumn}
 use Rattle.tree.specs.Trees.{operandAt}
 use Rattle.tree.specs.Operands.{presence, formIn}
 
@@ -25,7 +26,7 @@ shapeLines first second =
 
 unfoldable pub shapeAt : List ℕ → ℕ → ℕ → Shape
 shapeAt cells count i =
-    lookup (shapeLines (presence (operandAt cells count i 3)) (presence (operandAt cells count i 4))) Closed (formIn cells count i)
+    lookup (shapeLines (presence (operandAt cells count i firstColumn)) (presence (operandAt cells count i secondColumn))) Closed (formIn cells count i)
 
 unfoldable pub firstInShape : Shape → Operand
 firstInShape Closed = Absent

@@ -1,4 +1,5 @@
 // The shape of a node: per place of its form, an operand present or absent.
+use tree::columns;
 use tree::forms;
 use tree::table::Operand;
 use tree::table::form_at;
@@ -41,8 +42,8 @@ impl Shape {
 pub fn shape_at(table: &[u16], count: u16, node: u16) -> Shape
     ensures { λ r. ⌜ r ≡ shapeAt (now (table .entry)) count node ⌝ }
 {
-    let first = operand_at(table, count, node, 3);
-    let second = operand_at(table, count, node, 4);
+    let first = operand_at(table, count, node, columns::FIRST);
+    let second = operand_at(table, count, node, columns::SECOND);
     match form_at(table, count, node) {
         forms::EXPR_ASSIGN
         | forms::EXPR_BINARY

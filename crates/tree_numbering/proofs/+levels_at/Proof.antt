@@ -6,7 +6,7 @@ use Rattle.tree.proofs.Unfold.{left, left-falls, tree-zero, tree-past, levels-m
 use Rattle.tree_rules.proofs.Depth.{none-levels, levels-node}
 use mathlib.Core.List.{List}
 use Prim.Native.Nat.{ℕ, _+_, _≤_, _<_, max}
-use Rattle.tree.specs.Table.{formAt}
+use Rattle.tree.specs.Table.{formAt, firstColumn, secondColumn}
 use Rattle.tree.specs.Trees.{operandAt, treeAt, ownLevel, levels}
 use borrow.Fn.Kinds.{In}
 use borrow.Fn.PlainCycle.{Measures, is, falls, and}
@@ -21,7 +21,7 @@ use Rattle.tree_numbering.proofs.+levels_at.Tie.{close}
 
 -- the levels of a node by steps: its operands', its own, the larger
 levels-by : (cells : List ℕ) (count i : ℕ) → 1 ≤ i → i ≤ count
-    → (o : ℕ) → o ≡ operandAt cells count i 3 → (p : ℕ) → p ≡ operandAt cells count i 4
+    → (o : ℕ) → o ≡ operandAt cells count i firstColumn → (p : ℕ) → p ≡ operandAt cells count i secondColumn
     → (first : ℕ) → first ≡ levels (treeAt cells count o) → (second : ℕ) → second ≡ levels (treeAt cells count p)
     → (own : ℕ) → own ≡ ownLevel (formAt cells i) → (most : ℕ) → most ≡ max first second
     → own + most ≡ levels (treeAt cells count i)

@@ -3,6 +3,7 @@ use Prim.Native.Nat.{_*_}
 use native.Mathlib.Omega.{arith}
 use lib.ListN.{length-set}
 use Rattle.tree_numbering.proofs.Stores.{five-stores}
+use Rattle.tree.specs.Sizes.{nodeCells}
 use borrow.Author.Needs.{needs}
 use Rattle.tree_numbering.proofs.store.Statement.{statement}
 use Rattle.tree_numbering.proofs.store.Tie as tie
@@ -68,7 +69,7 @@ returns : tie.Need-returns
 returns c =
     let a = c .before .before .before .before .before .args in
     rw (← c .before .before .cell .ensures, ← c .before .cell2 .ensures, ← c .cell3 .ensures)
-    (five-stores (a .out .now) (5 * a .done) (c .before .before .cell .result) (c .before .cell2 .result) (c .cell3 .result) (a .first) (a .second))
+    (five-stores (a .out .now) (nodeCells * a .done) (c .before .before .cell .result) (c .before .cell2 .result) (c .cell3 .result) (a .first) (a .second))
 
 pub store-spec : {M : Type 1} → statement M
 store-spec =

@@ -8,6 +8,7 @@ use borrow.Author.Tests.{not-false}
 use borrow.Author.Needs.{needs}
 use lib.ListN.{getD}
 use Rattle.laws.proofs.Choice.{true-not-false}
+use Rattle.tree.specs.Sizes.{mostNodes}
 use Rattle.tree_one_pass.proofs.all_taken.Statement.{statement}
 use Rattle.tree_one_pass.proofs.all_taken.Tie as tie
 
@@ -20,13 +21,13 @@ none-more xs n m f g j h k = go (decLe j n)
     go (no p) = g j (omega arith) k
 
 abbrev Inv-loop : tie.InvT-loop
-Inv-loop marks count done₀ done = (1 ≤ done) × (done ≤ 4096) × ((j : ℕ) → 2 ≤ j → j ≤ done → getD marks j 0 ≡ 0)
+Inv-loop marks count done₀ done = (1 ≤ done) × (done ≤ mostNodes) × ((j : ℕ) → 2 ≤ j → j ≤ done → getD marks j 0 ≡ 0)
 
 abbrev μ-loop : tie.MeasureT-loop
 μ-loop marks count done₀ done = count - done
 
 abbrev Inv-loop2 : tie.InvT-loop2
-Inv-loop2 marks count done₀ done = (1 ≤ done) × (done ≤ 4096) × ((j : ℕ) → 2 ≤ j → j ≤ done → getD marks j 0 ≡ 0)
+Inv-loop2 marks count done₀ done = (1 ≤ done) × (done ≤ mostNodes) × ((j : ℕ) → 2 ≤ j → j ≤ done → getD marks j 0 ≡ 0)
 
 abbrev μ-loop2 : tie.MeasureT-loop2
 μ-loop2 marks count done₀ done = count - done

@@ -5,7 +5,7 @@ use native.Mathlib.Omega.{arith}
 use borrow.Author.Needs.{needs}
 use lib.ListN.{length}
 use Rattle.laws.proofs.Choice.{true-not-false}
-use Rattle.tree.specs.Table.{cellAt}
+use Rattle.tree.specs.Table.{cellAt, firstColumn, secondColumn}
 use Rattle.tree_one_pass.specs.Marks.{Marked}
 use Rattle.tree_one_pass.proofs.Fine.{cell-other, took-after, takes-length, took-fresh, first-most, second-most, second-size, length-more, marked-more, marked-none, nothing-refused}
 use Rattle.tree_one_pass.proofs.is_fine.Statement.{statement}
@@ -106,8 +106,8 @@ mark-at-requires c κs =
     let l = c .before .before .before .before .before .before .before .before .before .before .before .before .before .loop in
     let i = l .inv in
     let j = c .before .before .before .before .before .before .before .before .before .before .before .before .loop-test in
-    let t = took-after (a .count) (l .node) _ (cellAt (a .table .now) (l .node) 3) _ _ _ (cell-other (a .table .now) (l .node) 3 (omega arith)) (i .2 .fresh) (c .before .before .before .before .before .before .before .before .before .take .ensures) in
-    let u = took-after (a .count) (l .node) _ (cellAt (a .table .now) (l .node) 4) _ _ _ (cell-other (a .table .now) (l .node) 4 (omega arith)) (took-fresh (a .table .now) (a .count) (l .node) _ _ _ _ t (i .2 .fresh)) (c .before .before .before .take2 .ensures) in
+    let t = took-after (a .count) (l .node) _ (cellAt (a .table .now) (l .node) firstColumn) _ _ _ (cell-other (a .table .now) (l .node) 3 (omega arith)) (i .2 .fresh) (c .before .before .before .before .before .before .before .before .before .take .ensures) in
+    let u = took-after (a .count) (l .node) _ (cellAt (a .table .now) (l .node) secondColumn) _ _ _ (cell-other (a .table .now) (l .node) 4 (omega arith)) (took-fresh (a .table .now) (a .count) (l .node) _ _ _ _ t (i .2 .fresh)) (c .before .before .before .take2 .ensures) in
     let f = c .before .before .before .before .before .before .if1 .left in
     let g = c .if2 .left in
     (omega arith, omega arith, first-most _ _ _ _ (i .2) (omega arith) (i .0) (p .1) _ _ t f, second-most _ _ _ _ (i .2) (omega arith) (i .0) (p .1) _ _ t f _ _ u g)
@@ -136,8 +136,8 @@ slice-write-marks c =
     let l = c .before .before .before .before .before .before .before .before .before .before .before .before .before .before .before .loop in
     let i = l .inv in
     let j = c .before .before .before .before .before .before .before .before .before .before .before .before .before .before .loop-test in
-    let t = took-after (a .count) (l .node) _ (cellAt (a .table .now) (l .node) 3) _ _ _ (cell-other (a .table .now) (l .node) 3 (omega arith)) (i .2 .fresh) (c .before .before .before .before .before .before .before .before .before .before .before .take .ensures) in
-    let u = took-after (a .count) (l .node) _ (cellAt (a .table .now) (l .node) 4) _ _ _ (cell-other (a .table .now) (l .node) 4 (omega arith)) (took-fresh (a .table .now) (a .count) (l .node) _ _ _ _ t (i .2 .fresh)) (c .before .before .before .before .before .take2 .ensures) in
+    let t = took-after (a .count) (l .node) _ (cellAt (a .table .now) (l .node) firstColumn) _ _ _ (cell-other (a .table .now) (l .node) 3 (omega arith)) (i .2 .fresh) (c .before .before .before .before .before .before .before .before .before .before .before .take .ensures) in
+    let u = took-after (a .count) (l .node) _ (cellAt (a .table .now) (l .node) secondColumn) _ _ _ (cell-other (a .table .now) (l .node) 4 (omega arith)) (took-fresh (a .table .now) (a .count) (l .node) _ _ _ _ t (i .2 .fresh)) (c .before .before .before .before .before .take2 .ensures) in
     let f = c .before .before .before .before .before .before .before .before .if1 .left in
     let g = c .before .before .if2 .left in
     let z = second-size _ _ _ _ (i .2) (omega arith) (i .0) (p .1) _ _ t f _ _ u g in
@@ -168,8 +168,8 @@ loop-again c =
     let l = c .before .before .before .before .before .before .before .before .before .before .before .before .before .before .before .loop in
     let i = l .inv in
     let j = c .before .before .before .before .before .before .before .before .before .before .before .before .before .before .loop-test in
-    let t = took-after (a .count) (l .node) _ (cellAt (a .table .now) (l .node) 3) _ _ _ (cell-other (a .table .now) (l .node) 3 (omega arith)) (i .2 .fresh) (c .before .before .before .before .before .before .before .before .before .before .before .take .ensures) in
-    let u = took-after (a .count) (l .node) _ (cellAt (a .table .now) (l .node) 4) _ _ _ (cell-other (a .table .now) (l .node) 4 (omega arith)) (took-fresh (a .table .now) (a .count) (l .node) _ _ _ _ t (i .2 .fresh)) (c .before .before .before .before .before .take2 .ensures) in
+    let t = took-after (a .count) (l .node) _ (cellAt (a .table .now) (l .node) firstColumn) _ _ _ (cell-other (a .table .now) (l .node) 3 (omega arith)) (i .2 .fresh) (c .before .before .before .before .before .before .before .before .before .before .before .take .ensures) in
+    let u = took-after (a .count) (l .node) _ (cellAt (a .table .now) (l .node) secondColumn) _ _ _ (cell-other (a .table .now) (l .node) 4 (omega arith)) (took-fresh (a .table .now) (a .count) (l .node) _ _ _ _ t (i .2 .fresh)) (c .before .before .before .before .before .take2 .ensures) in
     let f = c .before .before .before .before .before .before .before .before .if1 .left in
     let g = c .before .before .if2 .left in
     let h = c .if3 .left in (

@@ -1,5 +1,7 @@
 -- `one_pass::is_large_fine` meets its contract. Assumes nothing.
+use Prim.Native.Nat.{_+_}
 use Rattle.tree_one_pass.proofs.Fine.{none-yet}
+use Rattle.tree.specs.Sizes.{mostNodes}
 use borrow.Author.Needs.{needs}
 use Rattle.tree_one_pass.proofs.is_large_fine.Statement.{statement}
 use Rattle.tree_one_pass.proofs.is_large_fine.Tie as tie
@@ -8,7 +10,7 @@ slice-aggregate-is-fine : tie.Need-slice-aggregate-is-fine
 slice-aggregate-is-fine c = search needs
 
 is-fine-requires : tie.Need-is-fine-requires
-is-fine-requires c κs = let p = c .before .before .pre in (p .0, search needs, p .2, search needs, none-yet 4097)
+is-fine-requires c κs = let p = c .before .before .pre in (p .0, search needs, p .2, search needs, none-yet (mostNodes + 1))
 
 returns : tie.Need-returns
 returns c = search needs

@@ -4,13 +4,14 @@ use mathlib.Core.List.{List}
 use Prim.Native.Nat.{ℕ, zero, suc, _+_, _*_, _-_, _≤_}
 use native.Mathlib.Omega.{arith}
 use lib.ListN.{length, getD, List·getD-eq-default}
-use borrow.Author.Needs.{needs}
+use Rattle.tree.specs.Sizes.{nodeCells}
 use Rattle.tree.specs.Table.{cellAt}
+use borrow.Author.Needs.{needs}
 use Rattle.tree.proofs.table.cell.Statement.{statement}
 use Rattle.tree.proofs.table.cell.Tie as tie
 
 -- a node's cell by its index
-cell-in : (cells : List ℕ) (i k : ℕ) → (i ≡ 0 → ⊥) → getD cells (5 * (i - 1) + k) 0 ≡ cellAt cells i k
+cell-in : (cells : List ℕ) (i k : ℕ) → (i ≡ 0 → ⊥) → getD cells (nodeCells * (i - 1) + k) 0 ≡ cellAt cells i k
 unfolding cellAt
 cell-in cells zero k h = absurd (h refl)
 cell-in cells (suc i) k h = let e : suc i - 1 ≡ i = omega arith in rw e

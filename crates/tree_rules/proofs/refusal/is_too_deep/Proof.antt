@@ -4,6 +4,7 @@ use Prim.Native.Nat.{_-_, _≤_}
 use native.Mathlib.Omega.{arith}
 use borrow.Author.Needs.{needs}
 use lib.Dec.{ltb}
+use Rattle.tree.specs.Sizes.{mostLevels}
 use Rattle.tree_rules.specs.Refusals.{refusal11}
 use Rattle.tree_rules.specs.Passes.{Levelled}
 use Rattle.tree_rules.proofs.Depth.{levelled-none, levelled-more}
@@ -50,7 +51,7 @@ array-read-result c = search needs
 
 returns : tie.Need-returns Inv-loop μ-loop
 unfolding refusal11
-returns c = ap (ltb 128) (c .before .loop .inv .1 .at 1 (omega arith) (λ p. omega arith))
+returns c = ap (ltb mostLevels) (c .before .loop .inv .1 .at 1 (omega arith) (λ p. omega arith))
 
 pub is-too-deep-spec : {M : Type 1} → statement M
 is-too-deep-spec =

@@ -1,0 +1,33 @@
+// The sizes of document 01, by name: specs/Sizes.antt says where each stands.
+// The numbers of a node: form, attributes, detail, first, second.
+pub const NODE_CELLS: usize = 5;
+
+// The numbers of a row: pair, precedence, previous operator, next operator, flags.
+pub const ROW_CELLS: usize = 5;
+
+// The cells of scratch that the walk asks for, a node.
+pub const SCRATCH_CELLS: usize = 3;
+
+// The numbers of a token: its code.
+pub const TOKEN_CELLS: usize = 1;
+
+// The tokens that the writer asks room for, a node.
+pub const TOKENS_PER_NODE: usize = 6;
+
+// The most nodes of a table.
+pub const MOST_NODES: u16 = 4096;
+
+// The most tokens of a list.
+pub const MOST_TOKENS: usize = 24_576;
+
+// The most nodes on a path from the root, list links not counted.
+pub const MOST_LEVELS: u16 = 128;
+
+// The most bytes of a tree file.
+pub const MOST_FILE_BYTES: usize = 65_536;
+
+// The last code of a token.
+pub const LAST_CODE: u16 = 45;
+
+// What is read behind a token list's last code.
+pub const LIST_END: u16 = 46;
