@@ -9,6 +9,7 @@ use lib.ListN.{length, drop, length-drop}
 use borrow.Author.Tests.{eq-eqb, ne-eqb, lt-ltb, le-ltb, ltb-false}
 use Rattle.laws.specs.Lists.{over}
 use Rattle.laws.proofs.Choice.{pick-true, pick-false, true-not-false, or-false}
+use Rattle.tree.specs.Sizes.{nodeCells, mostNodes, mostFileBytes}
 use Rattle.tree_rules.specs.Refusals.{refusal3, refusal4, refuse, firstOf, nodeRefusals, refusal, Accepted as Table}
 use Rattle.tree_rules.proofs.First.{stop, skip, passed}
 use Rattle.tree_rules.proofs.Count.{count-fits, fits-count}
@@ -37,17 +38,17 @@ module _ (file table : List ℕ) where
 -- ---- the header
 
 module _ (file : List ℕ) (lent : ℕ) where
-  pub too-long : 65536 < length file → fileRefusal file lent ≡ 1
+  pub too-long : mostFileBytes < length file → fileRefusal file lent ≡ 1
   unfolding fileRefusal refusal1
-  too-long h = stop _ _ (lt-ltb 65536 (length file) h)
+  too-long h = stop _ _ (lt-ltb mostFileBytes (length file) h)
 
-  pub bad-header : length file ≤ 65536 → header file ≡ broken → fileRefusal file lent ≡ 2
+  pub bad-header : length file ≤ mostFileBytes → header file ≡ broken → fileRefusal file lent ≡ 2
   unfolding fileRefusal refusal1 refusal2 isBroken
-  bad-header h e = skip _ _ (le-ltb 65536 (length file) h) ∙ stop _ _ (rw e)
+  bad-header h e = skip _ _ (le-ltb mostFileBytes (length file) h) ∙ stop _ _ (rw e)
 
-pub begun : (file : List ℕ) (context count at : ℕ) → length file ≤ 65536 → header file ≡ numbers (context ∷ count ∷ []) (drop at file) → Begun file context count at
+pub begun : (file : List ℕ) (context count at : ℕ) → length file ≤ mostFileBytes → header file ≡ numbers (context ∷ count ∷ []) (drop at file) → Begun file context count at
 unfolding refusal1 refusal2 contextIn countIn body isBroken valuesIn bytesAfter
-begun file context count at h e = record { short = le-ltb 65536 (length file) h; formed = rw e; is-context = rw e; is-count = rw e; is-body = rw e }
+begun file context count at h e = record { short = le-ltb mostFileBytes (length file) h; formed = rw e; is-context = rw e; is-count = rw e; is-body = rw e }
 
 -- ---- the nodes
 
@@ -70,11 +71,11 @@ module _ (file : List ℕ) (lent context count at : ℕ) (b : Begun file context
       unfolding refusal3
       after-count = after-header ∙ skip _ _ (le-ltb 3 context ok) ∙ skip _ _ fits
 
-      pub bad-body : numbersOf (5 * count) (drop at file) ≡ broken → fileRefusal file lent ≡ 5
+      pub bad-body : numbersOf (nodeCells * count) (drop at file) ≡ broken → fileRefusal file lent ≡ 5
       unfolding refusal5 isBroken
       bad-body e = after-count ∙ stop _ _ (rw (b .is-body, e))
 
-      module _ (cells : List ℕ) (end : ℕ) (read : numbersOf (5 * count) (drop at file) ≡ numbers cells (drop end file)) where
+      module _ (cells : List ℕ) (end : ℕ) (read : numbersOf (nodeCells * count) (drop at file) ≡ numbers cells (drop end file)) where
         are-cells : cellsIn file ≡ cells
         unfolding cellsIn valuesIn
         are-cells = rw (b .is-body, read)
@@ -87,7 +88,7 @@ module _ (file : List ℕ) (lent context count at : ℕ) (b : Begun file context
         trailing h = after-count ∙ stop _ _ (trails ∙ lt-ltb 0 (length file - end) (omega arith))
 
         -- the table that was read is checked as any other
-        checked : length file ≤ end → length cells ≡ 5 * count → fileRefusal file lent ≡ refusal context count cells
+        checked : length file ≤ end → length cells ≡ nodeCells * count → fileRefusal file lent ≡ refusal context count cells
         checked h l =
             let f = count-fits count lent fits in
             after-count
@@ -96,7 +97,7 @@ module _ (file : List ℕ) (lent context count at : ℕ) (b : Begun file context
 
 -- the answer once all the numbers are read and the table is checked
 module _ (file table : List ℕ) (context count at : ℕ) (b : Begun file context count at) (ok : context ≤ 3) (fits : refusal4 count (length table) ≡ false)
-    (cells : List ℕ) (end : ℕ) (read : numbersOf (5 * count) (drop at file) ≡ numbers cells (drop end file)) (all : length file ≤ end) (long : length cells ≡ 5 * count) where
+    (cells : List ℕ) (end : ℕ) (read : numbersOf (nodeCells * count) (drop at file) ≡ numbers cells (drop end file)) (all : length file ≤ end) (long : length cells ≡ nodeCells * count) where
   pub refused-nodes : (n : ℕ) → n ≡ refusal context count cells → (n ≡ 0 → ⊥) → (Refused n ≡ loaded file (length table)) × (table ≡ loadedTable file table)
   refused-nodes n e h = refused file table n (checked file (length table) context count at b ok fits cells end read all long ∙ sym e) h
 
@@ -109,22 +110,22 @@ module _ (file table : List ℕ) (context count at : ℕ) (b : Begun file contex
 -- ---- the loader's own array
 
 -- it has room for every count that is not refused
-pub own-room : (count lent room : ℕ) → refusal4 count lent ≡ false → room ≡ 20480 → 5 * count ≤ room
+pub own-room : (count lent room : ℕ) → refusal4 count lent ≡ false → room ≡ nodeCells * mostNodes → nodeCells * count ≤ room
 own-room count lent room e l = let f = count-fits count lent e in omega arith
 
 -- ---- accepted files
 
 -- a file of which none is refused, one number for each cell
-body-length : (file : List ℕ) → isBroken (body file) ≡ false → length (cellsIn file) ≡ 5 * countIn file
+body-length : (file : List ℕ) → isBroken (body file) ≡ false → length (cellsIn file) ≡ nodeCells * countIn file
 unfolding cellsIn body isBroken valuesIn
-body-length file e = go (numbersOf (5 * countIn file) (bytesAfter (header file))) refl (e)
+body-length file e = go (numbersOf (nodeCells * countIn file) (bytesAfter (header file))) refl (e)
   where
-    go : (x : Numbers) → numbersOf (5 * countIn file) (bytesAfter (header file)) ≡ x → isBroken x ≡ false → length (valuesIn x) ≡ 5 * countIn file
+    go : (x : Numbers) → numbersOf (nodeCells * countIn file) (bytesAfter (header file)) ≡ x → isBroken x ≡ false → length (valuesIn x) ≡ nodeCells * countIn file
     go broken p q = true-not-false q
-    go (numbers ns bytes) p q = numbers-length (5 * countIn file) (bytesAfter (header file)) ns bytes p
+    go (numbers ns bytes) p q = numbers-length (nodeCells * countIn file) (bytesAfter (header file)) ns bytes p
 
 -- its nodes are at most 4,096 and have five cells each, and they are an accepted table
-pub accepted-cells : (file : List ℕ) (lent : ℕ) → fileRefusal file lent ≡ 0 → (countIn file ≤ 4096) × (length (cellsIn file) ≡ 5 * countIn file) × Table (contextIn file) (countIn file) (cellsIn file)
+pub accepted-cells : (file : List ℕ) (lent : ℕ) → fileRefusal file lent ≡ 0 → (countIn file ≤ mostNodes) × (length (cellsIn file) ≡ nodeCells * countIn file) × Table (contextIn file) (countIn file) (cellsIn file)
 unfolding fileRefusal refusal3 refusal5
 accepted-cells file lent e =
     let r1 = passed 1 _ _ (omega arith) e in

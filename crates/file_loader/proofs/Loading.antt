@@ -12,6 +12,7 @@ use Rattle.laws.specs.Choice.{pick}
 use Rattle.laws.specs.Lists.{over}
 use Rattle.laws.proofs.Choice.{pick-true}
 use Rattle.laws.proofs.Lists.{length-over}
+use Rattle.tree.specs.Sizes.{nodeCells, mostNodes}
 use Rattle.tree_rules.specs.Refusals.{refusal}
 use Rattle.file_loader.specs.declared.Loaded.the-variants.{Refused, Accepted}
 use Rattle.file_loader.specs.Files.{contextIn, countIn, cellsIn, fileRefusal, loaded, loadedTable}
@@ -26,25 +27,25 @@ are-header file lent context count e = go (eqb (fileRefusal file lent) 0) refl e
     go true p q = (eqb-true _ 0 p, cc, cc)
     go false p q = absurd (let z : _≡_ {A = ℕ} 0 1 = cc in omega arith)
 
-module _ (file table : List ℕ) (context count : ℕ) (e : Accepted context count ≡ loaded file (length table)) (room : 20480 ≤ length table) where
-  parts : (count ≤ 4096) × (length (cellsIn file) ≡ 5 * count) × (refusal context count (cellsIn file) ≡ 0)
+module _ (file table : List ℕ) (context count : ℕ) (e : Accepted context count ≡ loaded file (length table)) (room : nodeCells * mostNodes ≤ length table) where
+  parts : (count ≤ mostNodes) × (length (cellsIn file) ≡ nodeCells * count) × (refusal context count (cellsIn file) ≡ 0)
   parts =
       let h = are-header file (length table) context count e in
       rw (h .1, h .2) (accepted-cells file (length table) (h .0))
 
-  pub count-most : count ≤ 4096
+  pub count-most : count ≤ mostNodes
   count-most = parts .0
 
   is-over : loadedTable file table ≡ over (cellsIn file) table
   unfolding loadedTable
   is-over = pick-true _ _ (eq-eqb _ 0 (are-header file (length table) context count e .0))
 
-  pub stored-room : 5 * count ≤ length (loadedTable file table)
+  pub stored-room : nodeCells * count ≤ length (loadedTable file table)
   stored-room = let p = parts in rw (is-over, length-over (cellsIn file) table (omega arith)) (omega arith)
 
-  pub stored-cells : take (5 * count) (loadedTable file table) ≡ cellsIn file
+  pub stored-cells : take (nodeCells * count) (loadedTable file table) ≡ cellsIn file
   unfolding over
-  stored-cells = rw is-over (take-at _ _ (5 * count) (parts .1))
+  stored-cells = rw is-over (take-at _ _ (nodeCells * count) (parts .1))
 
-  pub not-refused : refusal context count (take (5 * count) (loadedTable file table)) ≡ 0
+  pub not-refused : refusal context count (take (nodeCells * count) (loadedTable file table)) ≡ 0
   not-refused = rw stored-cells (parts .2)

@@ -6,6 +6,7 @@ use lib.Dec.{eqb, ltb}
 use lib.ListN.{length, getD}
 use Rattle.laws.specs.Choice.{pick}
 use Rattle.laws.specs.Lists.{over}
+use Rattle.tree.specs.Sizes.{nodeCells, mostFileBytes}
 use Rattle.tree_rules.specs.Refusals.{refusal3, refusal4, Refusal, refuse, firstOf, nodeRefusals}
 use Rattle.file_loader.specs.declared.Loaded.{Loaded}
 use Rattle.file_loader.specs.declared.Loaded.the-variants.{Refused, Accepted}
@@ -23,7 +24,7 @@ unfoldable pub countIn : List ℕ → ℕ
 countIn file = getD (valuesIn (header file)) 1 0
 
 unfoldable pub body : List ℕ → Numbers
-body file = numbersOf (5 * countIn file) (bytesAfter (header file))
+body file = numbersOf (nodeCells * countIn file) (bytesAfter (header file))
 
 -- the five numbers of each node
 unfoldable pub cellsIn : List ℕ → List ℕ
@@ -33,7 +34,7 @@ cellsIn file = valuesIn (body file)
 
 -- 1. "The tree file is longer than 65,536 bytes."
 unfoldable pub refusal1 : List ℕ → Bool
-refusal1 file = ltb 65536 (length file)
+refusal1 file = ltb mostFileBytes (length file)
 
 -- 2. "A header number is malformed."
 unfoldable pub refusal2 : List ℕ → Bool

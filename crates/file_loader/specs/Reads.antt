@@ -4,6 +4,7 @@ use mathlib.Core.List.{List, [], _∷_}
 use mathlib.Core.Path.{_≡_}
 use Prim.Native.Nat.{ℕ, _*_}
 use lib.ListN.{take, drop}
+use Rattle.tree.specs.Sizes.{nodeCells}
 use Rattle.file_loader.specs.declared.Header.{Header}
 use Rattle.file_loader.specs.declared.Header.the-variants.{Malformed as NoHeader, Read}
 use Rattle.file_loader.specs.declared.Body.{Body}
@@ -27,4 +28,4 @@ pub record Begun (file : List ℕ) (context count at : ℕ) : Type 0 where
   pub formed : refusal2 file ≡ false
   pub is-context : contextIn file ≡ context
   pub is-count : countIn file ≡ count
-  pub is-body : body file ≡ numbersOf (5 * count) (drop at file)
+  pub is-body : body file ≡ numbersOf (nodeCells * count) (drop at file)

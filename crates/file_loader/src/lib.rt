@@ -1,6 +1,7 @@
 // Tree files: the loader of a file into a lent node table.
 use file_numbers::Number;
 use file_numbers::number_at;
+use tree::sizes;
 ghost use mathlib.Core.Path.{_≡_};
 ghost use Prim.Native.Nat.{_≤_};
 ghost use lib.ListN.{length, take};
@@ -89,8 +90,8 @@ fn load_nodes(file: &[u8], context: u16, count: u16, at: usize, table: &mut [u16
     if tree_rules::refusal::is_bad_count(count, table.len()) {
         return Loaded::Refused(4);
     }
-    let cells = 5 * (count as usize);
-    let mut own = [0u16; 20480];
+    let cells = sizes::NODE_CELLS * (count as usize);
+    let mut own = [0u16; sizes::NODE_CELLS * (sizes::MOST_NODES as usize)];
     let Body::End(end) = read_body(file, at, cells, &mut own) else {
         return Loaded::Refused(5);
     };
@@ -110,7 +111,7 @@ pub fn load(file: &[u8], table: &mut [u16]) -> Loaded
     ensures reply { λ r. ⌜ r ≡ loaded (now (file .entry)) (length (now (table .entry))) ⌝ }
     ensures table { λ r. ⌜ now (table .exit) ≡ loadedTable (now (file .entry)) (now (table .entry)) ⌝ }
 {
-    if file.len() > 65536 {
+    if file.len() > sizes::MOST_FILE_BYTES {
         return Loaded::Refused(1);
     }
     let Header::Read(context, count, at) = read_header(file) else {

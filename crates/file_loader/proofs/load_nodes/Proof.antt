@@ -1,11 +1,12 @@
 -- `tree_file::load_nodes` meets its contract. Assumes nothing.
 use mathlib.Core.Path.{_≡_, refl, sym, ap, _∙_}
-use Prim.Native.Nat.{ℕ, _≤_}
+use Prim.Native.Nat.{ℕ, _*_, _≤_}
 use native.Mathlib.Omega.{arith}
 use lib.ListN.{length-replicate}
 use lib.Seq.{length-take-le}
 use Rattle.tree_rules.proofs.Count.{count-fits}
 use Rattle.file_loader.proofs.Files.{refused, bad-context, bad-count, bad-body, trailing, refused-nodes, accepted-nodes, own-room}
+use Rattle.tree.specs.Sizes.{nodeCells, mostNodes}
 use borrow.Author.Needs.{needs}
 use Rattle.file_loader.proofs.load_nodes.Statement.{statement}
 use Rattle.file_loader.proofs.load_nodes.Tie as tie
@@ -23,10 +24,10 @@ mul-cells : tie.Need-mul-cells
 mul-cells c = search needs
 
 slice-aggregate-read-body : tie.Need-slice-aggregate-read-body
-slice-aggregate-read-body c = sym (length-replicate {A = ℕ} 20480 0)
+slice-aggregate-read-body c = sym (length-replicate {A = ℕ} (nodeCells * mostNodes) 0)
 
 read-body-requires : tie.Need-read-body-requires
-read-body-requires c κs = own-room _ _ _ (sym (c .before .before .is-bad-count .ensures) ∙ c .before .if2 .left) (length-replicate {A = ℕ} 20480 0)
+read-body-requires c κs = own-room _ _ _ (sym (c .before .before .is-bad-count .ensures) ∙ c .before .if2 .left) (length-replicate {A = ℕ} (nodeCells * mostNodes) 0)
 
 enum-known-end : tie.Need-enum-known-end
 enum-known-end c = search needs
@@ -47,10 +48,10 @@ returns-4 c =
     (λ z. omega arith)
 
 array-share-prefix-own : tie.Need-array-share-prefix-own
-array-share-prefix-own c = own-room _ _ _ (sym (c .before .before .before .before .before .before .before .before .is-bad-count .ensures) ∙ c .before .before .before .before .before .before .before .if2 .left) (c .before .before .before .before .before .read-body .ensures .1 ∙ length-replicate {A = ℕ} 20480 0)
+array-share-prefix-own c = own-room _ _ _ (sym (c .before .before .before .before .before .before .before .before .is-bad-count .ensures) ∙ c .before .before .before .before .before .before .before .if2 .left) (c .before .before .before .before .before .read-body .ensures .1 ∙ length-replicate {A = ℕ} (nodeCells * mostNodes) 0)
 
 slice-aggregate-check : tie.Need-slice-aggregate-check
-slice-aggregate-check c = sym (length-take-le _ _ (own-room _ _ _ (sym (c .before .before .before .before .before .before .before .before .before .is-bad-count .ensures) ∙ c .before .before .before .before .before .before .before .before .if2 .left) (c .before .before .before .before .before .before .read-body .ensures .1 ∙ length-replicate {A = ℕ} 20480 0)))
+slice-aggregate-check c = sym (length-take-le _ _ (own-room _ _ _ (sym (c .before .before .before .before .before .before .before .before .before .is-bad-count .ensures) ∙ c .before .before .before .before .before .before .before .before .if2 .left) (c .before .before .before .before .before .before .read-body .ensures .1 ∙ length-replicate {A = ℕ} (nodeCells * mostNodes) 0)))
 
 check-requires : tie.Need-check-requires
 check-requires c κs = search needs
@@ -59,7 +60,7 @@ returns-5 : tie.Need-returns-5
 returns-5 c =
     let g = c .before .before .before .before .before .before .before .before .before .before .before .before .before .before .before in
     let e = sym (c .before .before .before .before .before .before .before .before .before .before .before .is-bad-count .ensures) ∙ c .before .before .before .before .before .before .before .before .before .before .if2 .left in
-    let l = own-room _ _ _ e (c .before .before .before .before .before .before .before .before .read-body .ensures .1 ∙ length-replicate {A = ℕ} 20480 0) in
+    let l = own-room _ _ _ e (c .before .before .before .before .before .before .before .before .read-body .ensures .1 ∙ length-replicate {A = ℕ} (nodeCells * mostNodes) 0) in
     refused-nodes (g .args .file .now) (g .args .table .now) _ _ _ (g .pre) (c .before .before .before .before .before .before .before .before .before .before .before .before .if1 .left) e _ _
     (rw (c .before .before .before .before .before .end .given .1) at (c .before .before .before .before .before .before .before .before .read-body .ensures .0))
     (c .before .before .before .if3 .left)
@@ -69,12 +70,12 @@ returns-5 c =
     (c .if4 .taken)
 
 slice-aggregate-store : tie.Need-slice-aggregate-store
-slice-aggregate-store c = sym (c .before .before .before .before .before .before .before .before .before .read-body .ensures .1 ∙ length-replicate {A = ℕ} 20480 0)
+slice-aggregate-store c = sym (c .before .before .before .before .before .before .before .before .before .read-body .ensures .1 ∙ length-replicate {A = ℕ} (nodeCells * mostNodes) 0)
 
 store-requires : tie.Need-store-requires
 store-requires c κs =
     let e = sym (c .before .before .before .before .before .before .before .before .before .before .before .before .before .is-bad-count .ensures) ∙ c .before .before .before .before .before .before .before .before .before .before .before .before .if2 .left in
-    (own-room _ _ _ e (c .before .before .before .before .before .before .before .before .before .before .read-body .ensures .1 ∙ length-replicate {A = ℕ} 20480 0), count-fits _ _ e .2)
+    (own-room _ _ _ e (c .before .before .before .before .before .before .before .before .before .before .read-body .ensures .1 ∙ length-replicate {A = ℕ} (nodeCells * mostNodes) 0), count-fits _ _ e .2)
 
 same-length : tie.Need-same-length
 same-length c = search needs
@@ -83,7 +84,7 @@ returns-6 : tie.Need-returns-6
 returns-6 c =
     let g = c .before .before .before .before .before .before .before .before .before .before .before .before .before .before .before .before .before .before .before .before in
     let e = sym (c .before .before .before .before .before .before .before .before .before .before .before .before .before .before .before .before .is-bad-count .ensures) ∙ c .before .before .before .before .before .before .before .before .before .before .before .before .before .before .before .if2 .left in
-    let l = own-room _ _ _ e (c .before .before .before .before .before .before .before .before .before .before .before .before .before .read-body .ensures .1 ∙ length-replicate {A = ℕ} 20480 0) in
+    let l = own-room _ _ _ e (c .before .before .before .before .before .before .before .before .before .before .before .before .before .read-body .ensures .1 ∙ length-replicate {A = ℕ} (nodeCells * mostNodes) 0) in
     let a =
     accepted-nodes (g .args .file .now) (g .args .table .now) _ _ _ (g .pre) (c .before .before .before .before .before .before .before .before .before .before .before .before .before .before .before .before .before .if1 .left) e _ _
     (rw (c .before .before .before .before .before .before .before .before .before .before .end .given .1) at (c .before .before .before .before .before .before .before .before .before .before .before .before .before .read-body .ensures .0))
