@@ -1,4 +1,5 @@
 // prettyplease's classify.rs, but for the brace at an end (crate braces): questions about the ends of an expression, each a walk over node numbers.
+use tree::columns;
 use tree::forms;
 use tree::table::Operand;
 use tree::table::cell;
@@ -31,7 +32,7 @@ pub fn requires_semi_to_be_stmt(table: &[u16], count: u16, node: u16) -> bool
     ensures { λ r. ⌜ r ≡ requiresSemi (treeAt (now (table .entry)) count node) ⌝ }
 {
     match form_at(table, count, node) {
-        forms::EXPR_MACRO => cell(table, node, 2) != 2,
+        forms::EXPR_MACRO => cell(table, node, columns::DETAIL) != 2,
         _ => requires_comma_to_be_match_arm(table, count, node),
     }
 }
@@ -87,7 +88,7 @@ fn path_step(table: &[u16], count: u16, node: u16) -> ControlFlow
         forms::TYPE_FN_PTR | forms::TYPE_PTR => go_on(false, shape.first()),
         forms::TYPE_REFERENCE => go_on(false, shape.first()),
         forms::TYPE_IMPL_TRAIT | forms::TYPE_PATH | forms::TYPE_TRAIT_OBJECT => {
-            last_type_in_path(cell(table, node, 2), shape.first())
+            last_type_in_path(cell(table, node, columns::DETAIL), shape.first())
         }
         _ => ControlFlow::Break(false),
     }
@@ -122,7 +123,7 @@ fn label_step(table: &[u16], count: u16, node: u16) -> ControlFlow
     let shape = shape_at(table, count, node);
     match form_at(table, count, node) {
         forms::EXPR_BLOCK | forms::EXPR_FOR_LOOP | forms::EXPR_LOOP | forms::EXPR_WHILE => {
-            ControlFlow::Break(cell(table, node, 2) == 1)
+            ControlFlow::Break(cell(table, node, columns::DETAIL) == 1)
         }
         forms::EXPR_ASSIGN
         | forms::EXPR_AWAIT
@@ -133,7 +134,7 @@ fn label_step(table: &[u16], count: u16, node: u16) -> ControlFlow
         | forms::EXPR_RANGE
         | forms::EXPR_TRY => go_on(false, shape.first()),
         forms::EXPR_BINARY | forms::EXPR_CAST => go_on(false, shape.first()),
-        forms::EXPR_GROUP => group_label(cell(table, node, 1), shape.first()),
+        forms::EXPR_GROUP => group_label(cell(table, node, columns::ATTRIBUTES), shape.first()),
         _ => ControlFlow::Break(false),
     }
 }

@@ -1,6 +1,7 @@
 // prettyplease's classify.rs: whether an expression or a type ends in a brace, each a walk over node numbers.
 use classify::ControlFlow;
 use classify::go_on;
+use tree::columns;
 use tree::forms;
 use tree::table::Operand;
 use tree::table::cell;
@@ -42,11 +43,11 @@ fn type_brace_step(table: &[u16], count: u16, node: u16) -> ControlFlow
         forms::TYPE_FN_PTR | forms::TYPE_PTR => go_on(false, shape.first()),
         forms::TYPE_REFERENCE => go_on(false, shape.first()),
         forms::TYPE_IMPL_TRAIT | forms::TYPE_TRAIT_OBJECT => {
-            brace_in_bounds(cell(table, node, 2), shape.first())
+            brace_in_bounds(cell(table, node, columns::DETAIL), shape.first())
         }
-        forms::TYPE_MACRO => ControlFlow::Break(cell(table, node, 2) == 2),
-        forms::TYPE_PATH => brace_in_path(cell(table, node, 2), shape.first()),
-        forms::TYPE_VERBATIM => ControlFlow::Break(cell(table, node, 2) == 1),
+        forms::TYPE_MACRO => ControlFlow::Break(cell(table, node, columns::DETAIL) == 2),
+        forms::TYPE_PATH => brace_in_path(cell(table, node, columns::DETAIL), shape.first()),
+        forms::TYPE_VERBATIM => ControlFlow::Break(cell(table, node, columns::DETAIL) == 1),
         _ => ControlFlow::Break(false),
     }
 }
@@ -104,8 +105,8 @@ fn brace_step(table: &[u16], count: u16, node: u16) -> ControlFlow
         | forms::EXPR_YIELD => go_on(false, shape.first()),
         forms::EXPR_REFERENCE => go_on(false, shape.first()),
         forms::EXPR_CAST => ControlFlow::Break(cast_brace(table, count, shape.second())),
-        forms::EXPR_MACRO => ControlFlow::Break(cell(table, node, 2) == 2),
-        forms::EXPR_VERBATIM => ControlFlow::Break(cell(table, node, 2) == 1),
+        forms::EXPR_MACRO => ControlFlow::Break(cell(table, node, columns::DETAIL) == 2),
+        forms::EXPR_VERBATIM => ControlFlow::Break(cell(table, node, columns::DETAIL) == 1),
         _ => ControlFlow::Break(false),
     }
 }

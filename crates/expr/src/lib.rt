@@ -2,6 +2,7 @@
 use bools::both;
 use fixup::context::FixupContext;
 use precedence::Precedence;
+use tree::columns;
 use tree::forms;
 use tree::table::Operand;
 use tree::table::cell;
@@ -204,7 +205,7 @@ fn call_test(table: &[u16], count: u16, func: Operand) -> u16
         return Precedence::Unambiguous.rank();
     };
     match form_at(table, count, number) {
-        forms::EXPR_FIELD => grouped(cell(table, number, 2) == 0),
+        forms::EXPR_FIELD => grouped(cell(table, number, columns::DETAIL) == 0),
         _ => Precedence::Unambiguous.rank(),
     }
 }
@@ -228,7 +229,7 @@ pub fn first_operand(fixup: FixupContext, table: &[u16], count: u16, node: u16) 
             before_dot(fixup, Precedence::Unambiguous.rank())
         }
         // expr_binary
-        forms::EXPR_BINARY => binary_left(fixup, cell(table, node, 2)),
+        forms::EXPR_BINARY => binary_left(fixup, cell(table, node, columns::DETAIL)),
         // expr_break
         forms::EXPR_BREAK => at_end(
             fixup,
@@ -236,7 +237,7 @@ pub fn first_operand(fixup: FixupContext, table: &[u16], count: u16, node: u16) 
             true,
             Precedence::Jump,
             break_test(
-                cell(table, node, 2),
+                cell(table, node, columns::DETAIL),
                 table,
                 count,
                 first_at(table, count, node),
@@ -304,7 +305,7 @@ pub fn second_operand(fixup: FixupContext, table: &[u16], count: u16, node: u16)
         // expr_assign
         forms::EXPR_ASSIGN => at_end(fixup, false, false, Precedence::Assign, NEVER),
         // expr_binary
-        forms::EXPR_BINARY => binary_right(fixup, cell(table, node, 2)),
+        forms::EXPR_BINARY => binary_right(fixup, cell(table, node, columns::DETAIL)),
         // expr_index: the index
         forms::EXPR_INDEX => neither(none),
         // expr_range: the end

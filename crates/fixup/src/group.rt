@@ -5,6 +5,7 @@ use bools::either;
 use fixup_look::Look;
 use fixup_look::looks;
 use precedence::Precedence;
+use tree::columns;
 use tree::forms;
 use tree::table::Operand;
 use tree::table::cell;
@@ -167,7 +168,10 @@ pub fn scan_left(table: &[u16], count: u16, node: u16, fixup: FixupContext) -> b
     match form_at(table, count, node) {
         forms::EXPR_ASSIGN => previous.is_at_most(Precedence::Assign),
         forms::EXPR_BINARY => {
-            left_of_binary(previous, Precedence::of_binop(cell(table, node, 2)))
+            left_of_binary(
+                previous,
+                Precedence::of_binop(cell(table, node, columns::DETAIL)),
+            )
         }
         forms::EXPR_CAST => previous.is_below(Precedence::Cast),
         forms::EXPR_RANGE => {

@@ -1,5 +1,6 @@
 // What an expression looks like from outside: the tests that fixup.rs makes of it.
 use bools::both;
+use tree::columns;
 use tree::forms;
 use tree::table::Operand;
 use tree::table::cell;
@@ -70,7 +71,10 @@ fn is_plain_block(table: &[u16], count: u16, node: u16) -> bool
     ensures { λ r. ⌜ r ≡ isPlainBlock (treeAt (now (table .entry)) count node) ⌝ }
 {
     match form_at(table, count, node) {
-        forms::EXPR_BLOCK => both(cell(table, node, 1) == 0, cell(table, node, 2) == 0),
+        forms::EXPR_BLOCK => both(
+            cell(table, node, columns::ATTRIBUTES) == 0,
+            cell(table, node, columns::DETAIL) == 0,
+        ),
         _ => false,
     }
 }

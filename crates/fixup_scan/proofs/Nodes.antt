@@ -8,6 +8,7 @@ use native.Mathlib.Decide.{decLe}
 use Rattle.laws.specs.Choice.{pick}
 use Rattle.laws.proofs.Choice.{pick-true, pick-false}
 use Rattle.tree.specs.declared.table.Operand.the-variants.{Absent, Present}
+use Rattle.tree.specs.Table.{firstColumn, secondColumn}
 use Rattle.tree.specs.Trees.{Tree, none, operandAt, treeAt, levels}
 use Rattle.tree.specs.Operands.{presence}
 use Rattle.tree.specs.Walks.{isThere, atRoot}
@@ -33,7 +34,7 @@ use Rattle.fixup_scan.proofs.Levels.{fewer-levels}
 
 module _ (cells : List ℕ) (count : ℕ) where
   -- an arm's operand is its number's tree
-  operand-tree : (arm : Arm) (i : ℕ) → operandBy arm none (treeAt cells count (operandAt cells count i 3)) (treeAt cells count (operandAt cells count i 4)) ≡ treeAt cells count (operandNumber arm cells count i)
+  operand-tree : (arm : Arm) (i : ℕ) → operandBy arm none (treeAt cells count (operandAt cells count i firstColumn)) (treeAt cells count (operandAt cells count i secondColumn)) ≡ treeAt cells count (operandNumber arm cells count i)
   operand-tree Assign i = refl
   operand-tree (Binary q) i = refl
   operand-tree Prefix i = refl

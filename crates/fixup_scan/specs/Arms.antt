@@ -5,6 +5,7 @@ use Prim.Native.Nat.{ℕ}
 use lib.Dec.{eqb, leb}
 use Rattle.laws.specs.Choice.{pick, Line, line}
 use Rattle.tree.specs.Forms.{ExprAssign, ExprBinary, ExprBreak, ExprClosure, ExprGroup, ExprLet, ExprRange, ExprRawAddr, ExprReference, ExprReturn, ExprUnary, ExprYield}
+use Rattle.tree.specs.Table.{firstColumn, secondColumn}
 use Rattle.tree.specs.Trees.{Label, Tree, operandAt}
 use Rattle.tree.specs.Walks.{isThere, atRoot}
 use Rattle.precedence.specs.declared.Precedence.{Precedence}
@@ -69,7 +70,7 @@ operandBy Closed nothing first second = nothing
 
 -- the number of that operand; 0 where it is absent
 abbrev pub operandNumber : Arm → List ℕ → ℕ → ℕ → ℕ
-operandNumber arm cells count i = operandBy arm 0 (operandAt cells count i 3) (operandAt cells count i 4)
+operandNumber arm cells count i = operandBy arm 0 (operandAt cells count i firstColumn) (operandAt cells count i secondColumn)
 
 -- ---- the answer where there is no operand
 

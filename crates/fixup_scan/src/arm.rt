@@ -1,6 +1,7 @@
 // The arms of scan_right's `match`, and the operand that each goes on with.
 use bools::both;
 use precedence::Precedence;
+use tree::columns;
 use tree::forms;
 use tree::table::Operand;
 use tree::table::cell;
@@ -53,16 +54,16 @@ pub fn arm_at(table: &[u16], count: u16, node: u16) -> Arm
     ensures { λ r. ⌜ r ≡ armOf (treeAt (now (table .entry)) count node) ⌝ }
 {
     match form_at(table, count, node) {
-        forms::EXPR_ASSIGN => unattributed(cell(table, node, 1), Arm::Assign),
+        forms::EXPR_ASSIGN => unattributed(cell(table, node, columns::ATTRIBUTES), Arm::Assign),
         forms::EXPR_BINARY => unattributed(
-            cell(table, node, 1),
-            Arm::Binary(Precedence::of_binop(cell(table, node, 2))),
+            cell(table, node, columns::ATTRIBUTES),
+            Arm::Binary(Precedence::of_binop(cell(table, node, columns::DETAIL))),
         ),
         forms::EXPR_RAW_ADDR | forms::EXPR_UNARY => Arm::Prefix,
         forms::EXPR_REFERENCE => Arm::Prefix,
-        forms::EXPR_RANGE => unattributed(cell(table, node, 1), Arm::Range),
+        forms::EXPR_RANGE => unattributed(cell(table, node, columns::ATTRIBUTES), Arm::Range),
         forms::EXPR_BREAK => Arm::Break(both(
-            cell(table, node, 2) == 0,
+            cell(table, node, columns::DETAIL) == 0,
             leading_label(table, count, first_at(table, count, node)),
         )),
         forms::EXPR_RETURN | forms::EXPR_YIELD => Arm::Return,
@@ -78,15 +79,15 @@ pub fn operand_of(arm: Arm, table: &[u16], count: u16, node: u16) -> Operand
     ensures { λ r. ⌜ r ≡ presence (operandNumber arm (now (table .entry)) count node) ⌝ }
 {
     match arm {
-        Arm::Assign => operand_at(table, count, node, 4),
-        Arm::Binary(_) => operand_at(table, count, node, 4),
-        Arm::Prefix => operand_at(table, count, node, 3),
-        Arm::Range => operand_at(table, count, node, 4),
-        Arm::Break(_) => operand_at(table, count, node, 3),
-        Arm::Return => operand_at(table, count, node, 3),
+        Arm::Assign => operand_at(table, count, node, columns::SECOND),
+        Arm::Binary(_) => operand_at(table, count, node, columns::SECOND),
+        Arm::Prefix => operand_at(table, count, node, columns::FIRST),
+        Arm::Range => operand_at(table, count, node, columns::SECOND),
+        Arm::Break(_) => operand_at(table, count, node, columns::FIRST),
+        Arm::Return => operand_at(table, count, node, columns::FIRST),
         Arm::Closure => Operand::Absent,
-        Arm::Let => operand_at(table, count, node, 3),
-        Arm::Group => operand_at(table, count, node, 3),
+        Arm::Let => operand_at(table, count, node, columns::FIRST),
+        Arm::Group => operand_at(table, count, node, columns::FIRST),
         Arm::Closed => Operand::Absent,
     }
 }

@@ -1,4 +1,5 @@
 // prettyplease's precedence.rs: the precedences of expressions, loosest first.
+use tree::columns;
 use tree::forms;
 use tree::table::Operand;
 use tree::table::cell;
@@ -105,7 +106,7 @@ fn closed_of(table: &[u16], count: u16, node: u16) -> Precedence
     if form == forms::EXPR_VERBATIM {
         return Precedence::Unambiguous;
     }
-    prefix_attrs(cell(table, node, 1))
+    prefix_attrs(cell(table, node, columns::ATTRIBUTES))
 }
 
 // One step of Precedence::of.
@@ -113,13 +114,16 @@ fn level_at(table: &[u16], count: u16, node: u16) -> Level
     ensures { λ r. ⌜ r ≡ levelBy (ofStep (now (table .entry)) count node) ⌝ }
 {
     match form_at(table, count, node) {
-        forms::EXPR_CLOSURE => Level::Of(closure_of(cell(table, node, 2), cell(table, node, 1))),
+        forms::EXPR_CLOSURE => Level::Of(closure_of(
+            cell(table, node, columns::DETAIL),
+            cell(table, node, columns::ATTRIBUTES),
+        )),
         forms::EXPR_BREAK | forms::EXPR_RETURN | forms::EXPR_YIELD => {
             Level::Of(jump_of(first_at(table, count, node)))
         }
         forms::EXPR_ASSIGN => Level::Of(Precedence::Assign),
         forms::EXPR_RANGE => Level::Of(Precedence::Range),
-        forms::EXPR_BINARY => Level::Of(Precedence::of_binop(cell(table, node, 2))),
+        forms::EXPR_BINARY => Level::Of(Precedence::of_binop(cell(table, node, columns::DETAIL))),
         forms::EXPR_LET => Level::Of(Precedence::Let),
         forms::EXPR_CAST => Level::Of(Precedence::Cast),
         forms::EXPR_RAW_ADDR | forms::EXPR_UNARY => Level::Of(Precedence::Prefix),
