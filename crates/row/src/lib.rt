@@ -6,6 +6,7 @@ use fixup::context::FixupContext;
 use fixup_scan::right::leftmost_subexpression_precedence;
 use fixup_scan::right::rightmost_subexpression_precedence;
 use precedence::Precedence;
+use tree::columns;
 use tree::forms;
 use tree::table::cell;
 use tree::table::form_at;
@@ -68,7 +69,7 @@ fn has_inner_pair(table: &[u16], count: u16, node: u16) -> bool
 {
     match form_at(table, count, node) {
         forms::EXPR_ASSIGN | forms::EXPR_BINARY | forms::EXPR_CAST | forms::EXPR_RANGE => {
-            cell(table, node, 1) != 0
+            cell(table, node, columns::ATTRIBUTES) != 0
         }
         _ => false,
     }

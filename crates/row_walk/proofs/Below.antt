@@ -4,7 +4,7 @@ use mathlib.Core.List.{List, [], _∷_}
 use mathlib.Core.Logic.{_⊎_, inl, inr}
 use Prim.Native.Nat.{ℕ, zero, suc, _≤_, _<_}
 use native.Mathlib.Omega.{arith}
-use Rattle.tree.specs.Table.{cellAt}
+use Rattle.tree.specs.Table.{cellAt, firstColumn, secondColumn}
 use Rattle.tree.specs.Trees.{operandOf, operandAt}
 use Rattle.tree_rules.specs.Refusals.{Accepted}
 use Rattle.tree.proofs.Unfold.{Standing, absent, present, standing, operand-range, operand-zero}
@@ -17,7 +17,7 @@ module _ (cells : List ℕ) (count : ℕ) where
   pub record Owns (o k j : ℕ) : Type 0 where
     pub low : 1 ≤ o
     pub high : o ≤ count
-    pub place : (k ≡ 3) ⊎ (k ≡ 4)
+    pub place : (k ≡ firstColumn) ⊎ (k ≡ secondColumn)
     pub operand : operandAt cells count o k ≡ j
     pub there : 1 ≤ j
 
@@ -72,7 +72,7 @@ module _ (cells : List ℕ) (count : ℕ) where
         omega arith
 
     -- no node is below both operands of a node
-    pub apart : {i m n j : ℕ} → Owns i 3 m → Owns i 4 n → Below m j → Below n j → ⊥
+    pub apart : {i m n j : ℕ} → Owns i firstColumn m → Owns i secondColumn n → Below m j → Below n j → ⊥
     apart {i} {m} {n} {j} w v b d = go (split b d)
       where
         go : Below m n ⊎ Below n m → ⊥
@@ -88,7 +88,7 @@ module _ (cells : List ℕ) (count : ℕ) where
   number-zero (second ∷ p) = rw (operand-zero count 0) (number-zero p)
 
   -- a number that a path leads to from an operand: the operand is there
-  pub owns : (i k : ℕ) (p : List Branch) → 1 ≤ i → i ≤ count → (k ≡ 3) ⊎ (k ≡ 4) → 1 ≤ numberAt cells count (operandAt cells count i k) p → Owns i k (operandAt cells count i k)
+  pub owns : (i k : ℕ) (p : List Branch) → 1 ≤ i → i ≤ count → (k ≡ firstColumn) ⊎ (k ≡ secondColumn) → 1 ≤ numberAt cells count (operandAt cells count i k) p → Owns i k (operandAt cells count i k)
   owns i k p low high place h = go (operandAt cells count i k) refl
     where
       go : (o : ℕ) → operandAt cells count i k ≡ o → Owns i k (operandAt cells count i k)
@@ -98,11 +98,11 @@ module _ (cells : List ℕ) (count : ℕ) where
   pub path-below : (i : ℕ) (p : List Branch) → 1 ≤ i → i ≤ count → 1 ≤ numberAt cells count i p → Below i (numberAt cells count i p)
   path-below i [] low high h = same low
   path-below i (first ∷ p) low high h =
-      let w = owns i 3 p low high (inl refl) h in
-      below-first 3 w (path-below (operandAt cells count i 3) p (w .there) (owned-range w .1) h)
+      let w = owns i firstColumn p low high (inl refl) h in
+      below-first firstColumn w (path-below (operandAt cells count i firstColumn) p (w .there) (owned-range w .1) h)
   path-below i (second ∷ p) low high h =
-      let w = owns i 4 p low high (inr refl) h in
-      below-first 4 w (path-below (operandAt cells count i 4) p (w .there) (owned-range w .1) h)
+      let w = owns i secondColumn p low high (inr refl) h in
+      below-first secondColumn w (path-below (operandAt cells count i secondColumn) p (w .there) (owned-range w .1) h)
 
   pub operand-most : {o k j : ℕ} → Owns o k j → (o < j) × (j ≤ count)
   operand-most w = owned-range w

@@ -9,7 +9,8 @@ use native.Mathlib.Decide.{decLe}
 use lib.ListN.{length, getD, set, length-set}
 use lib.Seq.{getD-set-same, getD-set-other}
 use Rattle.laws.proofs.Choice.{true-not-false}
-use Rattle.tree.specs.Table.{cellAt}
+use Rattle.tree.specs.Sizes.{rowCells}
+use Rattle.tree.specs.Table.{cellAt, firstColumn, secondColumn}
 use Rattle.tree.specs.Trees.{Label, Tree, none, node, labelAt, operandAt, treeAt}
 use Rattle.tree.specs.Walks.{isThere}
 use Rattle.tree_rules.specs.Refusals.{Accepted}
@@ -29,7 +30,7 @@ use Rattle.row_walk.proofs.Below.{Owns, Below, below-least, apart, owns
 
 module _ (i : ℕ) (r : Row) (cells : List ℕ) where
   abbrev at : ℕ
-  at = 5 * (i - 1)
+  at = rowCells * (i - 1)
 
   -- the cells after each of the five numbers is written
   abbrev c1 : List ℕ
@@ -45,7 +46,7 @@ module _ (i : ℕ) (r : Row) (cells : List ℕ) where
   c4 = set c3 (at + 3) (r .next)
 
   -- cells outside a node's five
-  stored-other : (n : ℕ) → (n < at) ⊎ (at + 5 ≤ n) → getD (rowStored i r cells) n 0 ≡ getD cells n 0
+  stored-other : (n : ℕ) → (n < at) ⊎ (at + rowCells ≤ n) → getD (rowStored i r cells) n 0 ≡ getD cells n 0
   unfolding rowStored
   stored-other n h =
       getD-set-other c4 (at + 4) n (r .flags) 0 (off (at + 4) (omega arith) (omega arith))
@@ -54,24 +55,24 @@ module _ (i : ℕ) (r : Row) (cells : List ℕ) where
       ∙ getD-set-other c1 (at + 1) n (r .precedence) 0 (off (at + 1) (omega arith) (omega arith))
       ∙ getD-set-other cells at n (r .pair) 0 (off at (omega arith) (omega arith))
     where
-      off : (m : ℕ) → at ≤ m → m < at + 5 → n ≡ m → ⊥
+      off : (m : ℕ) → at ≤ m → m < at + rowCells → n ≡ m → ⊥
       off m a b e = go h
         where
-          go : (n < at) ⊎ (at + 5 ≤ n) → ⊥
+          go : (n < at) ⊎ (at + rowCells ≤ n) → ⊥
           go (inl x) = omega arith
           go (inr x) = omega arith
 
   row-other : (j : ℕ) → 1 ≤ i → 1 ≤ j → (i ≡ j → ⊥) → rowIn (rowStored i r cells) j ≡ rowIn cells j
   row-other j low there ne =
       rw (
-        stored-other (5 * (j - 1)) (side (5 * (j - 1)) (omega arith) (omega arith)),
-        stored-other (5 * (j - 1) + 1) (side (5 * (j - 1) + 1) (omega arith) (omega arith)),
-        stored-other (5 * (j - 1) + 2) (side (5 * (j - 1) + 2) (omega arith) (omega arith)),
-        stored-other (5 * (j - 1) + 3) (side (5 * (j - 1) + 3) (omega arith) (omega arith)),
-        stored-other (5 * (j - 1) + 4) (side (5 * (j - 1) + 4) (omega arith) (omega arith)),
+        stored-other (rowCells * (j - 1)) (side (rowCells * (j - 1)) (omega arith) (omega arith)),
+        stored-other (rowCells * (j - 1) + 1) (side (rowCells * (j - 1) + 1) (omega arith) (omega arith)),
+        stored-other (rowCells * (j - 1) + 2) (side (rowCells * (j - 1) + 2) (omega arith) (omega arith)),
+        stored-other (rowCells * (j - 1) + 3) (side (rowCells * (j - 1) + 3) (omega arith) (omega arith)),
+        stored-other (rowCells * (j - 1) + 4) (side (rowCells * (j - 1) + 4) (omega arith) (omega arith)),
       )
     where
-      side : (n : ℕ) → 5 * (j - 1) ≤ n → n < 5 * (j - 1) + 5 → (n < at) ⊎ (at + 5 ≤ n)
+      side : (n : ℕ) → rowCells * (j - 1) ≤ n → n < rowCells * (j - 1) + rowCells → (n < at) ⊎ (at + rowCells ≤ n)
       side n a b = go (decLe j i)
         where
           before : j ≤ i → (i ≡ j → ⊥) → n < at
@@ -81,11 +82,11 @@ module _ (i : ℕ) (r : Row) (cells : List ℕ) where
               go′ (yes k) = absurd (q (omega arith))
               go′ (no k) = omega arith
 
-          go : Dec (j ≤ i) → (n < at) ⊎ (at + 5 ≤ n)
+          go : Dec (j ≤ i) → (n < at) ⊎ (at + rowCells ≤ n)
           go (yes h) = inl (before h ne)
           go (no h) = inr (omega arith)
 
-  row-same : 1 ≤ i → 5 * i ≤ length cells → rowIn (rowStored i r cells) i ≡ r
+  row-same : 1 ≤ i → rowCells * i ≤ length cells → rowIn (rowStored i r cells) i ≡ r
   unfolding rowStored
   row-same low room =
       let a : getD (rowStored i r cells) at 0 ≡ r .pair =
@@ -123,11 +124,11 @@ module _ (cells : List ℕ) (count : ℕ) where
   pub tree-at : (i : ℕ) (p : List Branch) → 1 ≤ i → i ≤ count → 1 ≤ numberAt cells count i p → treeAt cells count (numberAt cells count i p) ≡ treeBy (treeAt cells count i) p
   tree-at i [] low high h = sym (tree-here _)
   tree-at i (first ∷ p) low high h =
-      let w = owns cells count i 3 p low high (inl refl) h in
-      tree-at (operandAt cells count i 3) p (w .there) (operand-most cells count w .1) h ∙ rw (unfolds cells count i low high)
+      let w = owns cells count i firstColumn p low high (inl refl) h in
+      tree-at (operandAt cells count i firstColumn) p (w .there) (operand-most cells count w .1) h ∙ rw (unfolds cells count i low high)
   tree-at i (second ∷ p) low high h =
-      let w = owns cells count i 4 p low high (inr refl) h in
-      tree-at (operandAt cells count i 4) p (w .there) (operand-most cells count w .1) h ∙ rw (unfolds cells count i low high)
+      let w = owns cells count i secondColumn p low high (inr refl) h in
+      tree-at (operandAt cells count i secondColumn) p (w .there) (operand-most cells count w .1) h ∙ rw (unfolds cells count i low high)
 
   -- a path to a tree that stands leads to a node
   nowhere : {A : Type 0} (i : ℕ) (p : List Branch) → ((1 ≤ i) × (i ≤ count) → ⊥) → isThere (treeBy (treeAt cells count i) p) ≡ true → A
@@ -157,10 +158,10 @@ module _ (cells : List ℕ) (count : ℕ) where
   there-at i [] e = in-range i [] e .0
   there-at i (first ∷ p) e =
       let r = in-range i (first ∷ p) e in
-      there-at (operandAt cells count i 3) p (rw (unfolds cells count i (r .0) (r .1)) at e)
+      there-at (operandAt cells count i firstColumn) p (rw (unfolds cells count i (r .0) (r .1)) at e)
   there-at i (second ∷ p) e =
       let r = in-range i (second ∷ p) e in
-      there-at (operandAt cells count i 4) p (rw (unfolds cells count i (r .0) (r .1)) at e)
+      there-at (operandAt cells count i secondColumn) p (rw (unfolds cells count i (r .0) (r .1)) at e)
 
   -- ---- cells of nodes that are not below a node are not written from it
 
@@ -180,11 +181,11 @@ module _ (cells : List ℕ) (count : ℕ) where
       inside : 1 ≤ i → i ≤ count → rowIn (placed cells count i (rowsOf h (treeAt cells count i)) into) j ≡ rowIn into j
       inside low high =
           let u = sym (unfolds cells count i low high) ∙ e in
-          let ea : treeAt cells count (operandAt cells count i 3) ≡ a = cc in
-          let eb : treeAt cells count (operandAt cells count i 4) ≡ b = cc in
+          let ea : treeAt cells count (operandAt cells count i firstColumn) ≡ a = cc in
+          let eb : treeAt cells count (operandAt cells count i secondColumn) ≡ b = cc in
           ap (λ (r : List ℕ). rowIn r j) (placed-node cells count i h into low high)
-          ∙ below-b (operandAt cells count i 4) eb _ _ j there (λ p. far (second ∷ p))
-          ∙ below-a (operandAt cells count i 3) ea _ _ j there (λ p. far (first ∷ p))
+          ∙ below-b (operandAt cells count i secondColumn) eb _ _ j there (λ p. far (second ∷ p))
+          ∙ below-a (operandAt cells count i firstColumn) ea _ _ j there (λ p. far (first ∷ p))
           ∙ row-other i _ into j low there (far [])
 
       go : Dec (1 ≤ i) → Dec (i ≤ count) → rowIn (placed cells count i (rowsOf h (treeAt cells count i)) into) j ≡ rowIn into j
@@ -197,7 +198,7 @@ module _ (cells : List ℕ) (count : ℕ) where
   untouched (node l a b) = untouched-node l a b (untouched a) (untouched b)
 
   -- a node is not below its own operand
-  not-own : (i k : ℕ) → 1 ≤ i → i ≤ count → (k ≡ 3) ⊎ (k ≡ 4) → Apart (operandAt cells count i k) i
+  not-own : (i k : ℕ) → 1 ≤ i → i ≤ count → (k ≡ firstColumn) ⊎ (k ≡ secondColumn) → Apart (operandAt cells count i k) i
   not-own i k low high place p e =
       let w = owns cells count i k p low high place (rw e low) in
       let s = operand-most cells count w in
@@ -207,61 +208,61 @@ module _ (cells : List ℕ) (count : ℕ) where
   -- ---- the row of the node at a path
 
   module _ (context : ℕ) (ok : Accepted context count cells) where
-    pub row-at : (i : ℕ) (p : List Branch) (h : Handed) (into : List ℕ) → 1 ≤ i → i ≤ count → 5 * count ≤ length into → 1 ≤ numberAt cells count i p
+    pub row-at : (i : ℕ) (p : List Branch) (h : Handed) (into : List ℕ) → 1 ≤ i → i ≤ count → rowCells * count ≤ length into → 1 ≤ numberAt cells count i p
         → rowIn (placed cells count i (rowsOf h (treeAt cells count i)) into) (numberAt cells count i p) ≡ rowOf (handedBy h (treeAt cells count i) p) (treeBy (treeAt cells count i) p)
     row-at i [] h into low high room there =
         ap (λ (r : List ℕ). rowIn r i) (placed-node cells count i h into low high)
-        ∙ untouched _ (operandAt cells count i 4) refl _ _ i low (not-own i 4 low high (inr refl))
-        ∙ untouched _ (operandAt cells count i 3) refl _ _ i low (not-own i 3 low high (inl refl))
+        ∙ untouched _ (operandAt cells count i secondColumn) refl _ _ i low (not-own i secondColumn low high (inr refl))
+        ∙ untouched _ (operandAt cells count i firstColumn) refl _ _ i low (not-own i firstColumn low high (inl refl))
         ∙ row-same i (rowOf h (treeAt cells count i)) into low (omega arith)
         ∙ rw (handed-here h (treeAt cells count i), tree-here (treeAt cells count i))
     row-at i (first ∷ p) h into low high room there =
-        let w = owns cells count i 3 p low high (inl refl) there in
+        let w = owns cells count i firstColumn p low high (inl refl) there in
         let s = operand-most cells count w in
-        let b = path-below cells count (operandAt cells count i 3) p (w .there) (s .1) there in
-        ap (λ (r : List ℕ). rowIn r (numberAt cells count (operandAt cells count i 3) p)) (placed-node cells count i h into low high)
-        ∙ untouched _ (operandAt cells count i 4) refl _ _ _ there (other w b)
-        ∙ row-at (operandAt cells count i 3) p _ _ (w .there) (s .1) (rw (length-stored i (rowOf h (treeAt cells count i)) into) room) there
+        let b = path-below cells count (operandAt cells count i firstColumn) p (w .there) (s .1) there in
+        ap (λ (r : List ℕ). rowIn r (numberAt cells count (operandAt cells count i firstColumn) p)) (placed-node cells count i h into low high)
+        ∙ untouched _ (operandAt cells count i secondColumn) refl _ _ _ there (other w b)
+        ∙ row-at (operandAt cells count i firstColumn) p _ _ (w .there) (s .1) (rw (length-stored i (rowOf h (treeAt cells count i)) into) room) there
         ∙ rw (unfolds cells count i low high)
       where
-        other : Owns cells count i 3 (operandAt cells count i 3) → Below cells count (operandAt cells count i 3) (numberAt cells count (operandAt cells count i 3) p) → Apart (operandAt cells count i 4) (numberAt cells count (operandAt cells count i 3) p)
+        other : Owns cells count i firstColumn (operandAt cells count i firstColumn) → Below cells count (operandAt cells count i firstColumn) (numberAt cells count (operandAt cells count i firstColumn) p) → Apart (operandAt cells count i secondColumn) (numberAt cells count (operandAt cells count i firstColumn) p)
         other w b q e =
-            let v = owns cells count i 4 q low high (inr refl) (rw e there) in
-            apart cells count context ok w v b (rw e at (path-below cells count (operandAt cells count i 4) q (v .there) (operand-most cells count v .1) (rw e there)))
+            let v = owns cells count i secondColumn q low high (inr refl) (rw e there) in
+            apart cells count context ok w v b (rw e at (path-below cells count (operandAt cells count i secondColumn) q (v .there) (operand-most cells count v .1) (rw e there)))
     row-at i (second ∷ p) h into low high room there =
-        let w = owns cells count i 4 p low high (inr refl) there in
+        let w = owns cells count i secondColumn p low high (inr refl) there in
         let s = operand-most cells count w in
-        ap (λ (r : List ℕ). rowIn r (numberAt cells count (operandAt cells count i 4) p)) (placed-node cells count i h into low high)
-        ∙ row-at (operandAt cells count i 4) p _ _ (w .there) (s .1) (rw (length-placed cells count (operandAt cells count i 3) (rowsOf (handsFirst (ownContext h (treeAt cells count i)) (treeAt cells count i)) (treeAt cells count (operandAt cells count i 3))) (rowStored i (rowOf h (treeAt cells count i)) into), length-stored i (rowOf h (treeAt cells count i)) into) room) there
+        ap (λ (r : List ℕ). rowIn r (numberAt cells count (operandAt cells count i secondColumn) p)) (placed-node cells count i h into low high)
+        ∙ row-at (operandAt cells count i secondColumn) p _ _ (w .there) (s .1) (rw (length-placed cells count (operandAt cells count i firstColumn) (rowsOf (handsFirst (ownContext h (treeAt cells count i)) (treeAt cells count i)) (treeAt cells count (operandAt cells count i firstColumn))) (rowStored i (rowOf h (treeAt cells count i)) into), length-stored i (rowOf h (treeAt cells count i)) into) room) there
         ∙ rw (unfolds cells count i low high)
 
     -- ---- each node is at one path
 
     -- from an operand to the owner, and from both operands to one node, no paths lead
-    not-back : {A : Type 0} (i k : ℕ) (p : List Branch) → 1 ≤ i → i ≤ count → (k ≡ 3) ⊎ (k ≡ 4) → numberAt cells count (operandAt cells count i k) p ≡ i → A
+    not-back : {A : Type 0} (i k : ℕ) (p : List Branch) → 1 ≤ i → i ≤ count → (k ≡ firstColumn) ⊎ (k ≡ secondColumn) → numberAt cells count (operandAt cells count i k) p ≡ i → A
     not-back i k p low high place e = absurd (not-own i k low high place p e)
 
-    not-both : {A : Type 0} (i : ℕ) (p q : List Branch) → 1 ≤ i → i ≤ count → 1 ≤ numberAt cells count (operandAt cells count i 3) p
-        → numberAt cells count (operandAt cells count i 3) p ≡ numberAt cells count (operandAt cells count i 4) q → A
+    not-both : {A : Type 0} (i : ℕ) (p q : List Branch) → 1 ≤ i → i ≤ count → 1 ≤ numberAt cells count (operandAt cells count i firstColumn) p
+        → numberAt cells count (operandAt cells count i firstColumn) p ≡ numberAt cells count (operandAt cells count i secondColumn) q → A
     not-both i p q low high there e =
-        let w = owns cells count i 3 p low high (inl refl) there in
-        let v = owns cells count i 4 q low high (inr refl) (rw e at there) in
+        let w = owns cells count i firstColumn p low high (inl refl) there in
+        let v = owns cells count i secondColumn q low high (inr refl) (rw e at there) in
         absurd (apart cells count context ok w v
-        (path-below cells count (operandAt cells count i 3) p (w .there) (operand-most cells count w .1) there)
-        (subst (Below cells count (operandAt cells count i 4)) (sym e) (path-below cells count (operandAt cells count i 4) q (v .there) (operand-most cells count v .1) (rw e at there))))
+        (path-below cells count (operandAt cells count i firstColumn) p (w .there) (operand-most cells count w .1) there)
+        (subst (Below cells count (operandAt cells count i secondColumn)) (sym e) (path-below cells count (operandAt cells count i secondColumn) q (v .there) (operand-most cells count v .1) (rw e at there))))
 
     pub one-path : (i : ℕ) (p q : List Branch) → 1 ≤ i → i ≤ count → 1 ≤ numberAt cells count i p → numberAt cells count i p ≡ numberAt cells count i q → p ≡ q
     one-path i [] [] low high there e = refl
-    one-path i [] (first ∷ q) low high there e = not-back i 3 q low high (inl refl) (sym e)
-    one-path i [] (second ∷ q) low high there e = not-back i 4 q low high (inr refl) (sym e)
-    one-path i (first ∷ p) [] low high there e = not-back i 3 p low high (inl refl) e
-    one-path i (second ∷ p) [] low high there e = not-back i 4 p low high (inr refl) e
+    one-path i [] (first ∷ q) low high there e = not-back i firstColumn q low high (inl refl) (sym e)
+    one-path i [] (second ∷ q) low high there e = not-back i secondColumn q low high (inr refl) (sym e)
+    one-path i (first ∷ p) [] low high there e = not-back i firstColumn p low high (inl refl) e
+    one-path i (second ∷ p) [] low high there e = not-back i secondColumn p low high (inr refl) e
     one-path i (first ∷ p) (first ∷ q) low high there e =
-        let w = owns cells count i 3 p low high (inl refl) there in
-        ap (λ r. first ∷ r) (one-path (operandAt cells count i 3) p q (w .there) (operand-most cells count w .1) there e)
+        let w = owns cells count i firstColumn p low high (inl refl) there in
+        ap (λ r. first ∷ r) (one-path (operandAt cells count i firstColumn) p q (w .there) (operand-most cells count w .1) there e)
     one-path i (second ∷ p) (second ∷ q) low high there e =
-        let w = owns cells count i 4 p low high (inr refl) there in
-        ap (λ r. second ∷ r) (one-path (operandAt cells count i 4) p q (w .there) (operand-most cells count w .1) there e)
+        let w = owns cells count i secondColumn p low high (inr refl) there in
+        ap (λ r. second ∷ r) (one-path (operandAt cells count i secondColumn) p q (w .there) (operand-most cells count w .1) there e)
     one-path i (first ∷ p) (second ∷ q) low high there e = not-both i p q low high there e
     one-path i (second ∷ p) (first ∷ q) low high there e = not-both i q p low high (rw e at there) (sym e)
 
@@ -269,13 +270,13 @@ module _ (cells : List ℕ) (count : ℕ) where
       pub path : List Branch
       pub leads : numberAt cells count 1 path ≡ j
 
-    one-more : (i : ℕ) (p : List Branch) → (numberAt cells count i (p ++ (first ∷ [])) ≡ operandAt cells count (numberAt cells count i p) 3) × (numberAt cells count i (p ++ (second ∷ [])) ≡ operandAt cells count (numberAt cells count i p) 4)
+    one-more : (i : ℕ) (p : List Branch) → (numberAt cells count i (p ++ (first ∷ [])) ≡ operandAt cells count (numberAt cells count i p) firstColumn) × (numberAt cells count i (p ++ (second ∷ [])) ≡ operandAt cells count (numberAt cells count i p) secondColumn)
     one-more i [] = (refl, refl)
-    one-more i (first ∷ p) = one-more (operandAt cells count i 3) p
-    one-more i (second ∷ p) = one-more (operandAt cells count i 4) p
+    one-more i (first ∷ p) = one-more (operandAt cells count i firstColumn) p
+    one-more i (second ∷ p) = one-more (operandAt cells count i secondColumn) p
 
     -- from the path of an owner to that of its operand
-    onward : (o k j : ℕ) → 1 ≤ o → o ≤ count → (k ≡ 3) ⊎ (k ≡ 4) → cellAt cells o k ≡ j → Reached o → Reached j
+    onward : (o k j : ℕ) → 1 ≤ o → o ≤ count → (k ≡ firstColumn) ⊎ (k ≡ secondColumn) → cellAt cells o k ≡ j → Reached o → Reached j
     onward o k j low high (inl e) c r = record { path = r .path ++ (first ∷ []); leads = one-more 1 (r .path) .0 ∙ rw (r .leads) (first-operand context count cells ok o low high ∙ rw e at c) }
     onward o k j low high (inr e) c r = record { path = r .path ++ (second ∷ []); leads = one-more 1 (r .path) .1 ∙ rw (r .leads) (second-operand context count cells ok o low high ∙ rw e at c) }
 
@@ -301,7 +302,7 @@ module _ (cells : List ℕ) (count : ℕ) where
 -- two accepted tables of one tree, in one context: the nodes at a path have the same row
 pub renumbered : (context count count′ : ℕ) (cells cells′ : List ℕ) → Accepted context count cells → Accepted context count′ cells′
     → treeAt cells count 1 ≡ treeAt cells′ count′ 1
-    → (into into′ : List ℕ) → 5 * count ≤ length into → 5 * count′ ≤ length into′
+    → (into into′ : List ℕ) → rowCells * count ≤ length into → rowCells * count′ ≤ length into′
     → (p : List Branch) → 1 ≤ numberAt cells count 1 p → 1 ≤ numberAt cells′ count′ 1 p
     → rowIn (placed cells count 1 (rowsOf (rootHanded context) (treeAt cells count 1)) into) (numberAt cells count 1 p)
     ≡ rowIn (placed cells′ count′ 1 (rowsOf (rootHanded context) (treeAt cells′ count′ 1)) into′) (numberAt cells′ count′ 1 p)

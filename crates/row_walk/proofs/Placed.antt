@@ -4,6 +4,7 @@ use mathlib.Core.List.{List}
 use Prim.Native.Nat.{ℕ, _≤_}
 use lib.ListN.{length, length-set}
 use mathlib.Core.Bool.{false}
+use Rattle.tree.specs.Table.{firstColumn, secondColumn}
 use Rattle.tree.specs.Trees.{none, labelAt, operandAt, treeAt}
 use Rattle.tree.proofs.Unfold.{unfolds, tree-zero}
 use Rattle.fixup.specs.declared.context.FixupContext.{FixupContext}
@@ -28,8 +29,8 @@ pub length-placed : (cells : List ℕ) (count i : ℕ) (t : Rows) (into : List �
 unfolding placed
 length-placed cells count i rows.absent into = refl
 length-placed cells count i (rows.present r a b) into =
-    length-placed cells count (operandAt cells count i 4) b _
-    ∙ length-placed cells count (operandAt cells count i 3) a _
+    length-placed cells count (operandAt cells count i secondColumn) b _
+    ∙ length-placed cells count (operandAt cells count i firstColumn) a _
     ∙ length-stored i r into
 
 pub length-below : (x : FixupContext) (cells : List ℕ) (count i : ℕ) (into : List ℕ) → length (placedBelow x cells count i into) ≡ length into
@@ -43,8 +44,8 @@ module _ (cells : List ℕ) (count i : ℕ) (h : Handed) (into : List ℕ) where
   placed-none e = rw e
 
   pub placed-node : 1 ≤ i → i ≤ count → placed cells count i (rowsOf h (treeAt cells count i)) into
-      ≡ placed cells count (operandAt cells count i 4) (rowsOf (handsSecond (ownContext h (treeAt cells count i)) (treeAt cells count i)) (treeAt cells count (operandAt cells count i 4)))
-      (placed cells count (operandAt cells count i 3) (rowsOf (handsFirst (ownContext h (treeAt cells count i)) (treeAt cells count i)) (treeAt cells count (operandAt cells count i 3)))
+      ≡ placed cells count (operandAt cells count i secondColumn) (rowsOf (handsSecond (ownContext h (treeAt cells count i)) (treeAt cells count i)) (treeAt cells count (operandAt cells count i secondColumn)))
+      (placed cells count (operandAt cells count i firstColumn) (rowsOf (handsFirst (ownContext h (treeAt cells count i)) (treeAt cells count i)) (treeAt cells count (operandAt cells count i firstColumn)))
       (rowStored i (rowOf h (treeAt cells count i)) into))
   unfolding placed rowsOf
   placed-node low high = rw (unfolds cells count i low high)
@@ -61,7 +62,7 @@ module _ (cells : List ℕ) (count i : ℕ) (h : Handed) (into : List ℕ) where
 
 -- a type or a link: what is left is its second operand's
 pub placed-other : (cells : List ℕ) (count i : ℕ) (into : List ℕ) → 1 ≤ i → i ≤ count → isExpression (treeAt cells count i) ≡ false
-    → (own : List ℕ) → own ≡ rowStored i zeros into → (o : ℕ) → o ≡ operandAt cells count i 3 → (first : List ℕ) → first ≡ placedAlone cells count o own → (p : ℕ) → p ≡ operandAt cells count i 4
+    → (own : List ℕ) → own ≡ rowStored i zeros into → (o : ℕ) → o ≡ operandAt cells count i firstColumn → (first : List ℕ) → first ≡ placedAlone cells count o own → (p : ℕ) → p ≡ operandAt cells count i secondColumn
     → placedAlone cells count p first ≡ placedAlone cells count i into
 placed-other cells count i into low high e own eown o eo first ef p ep =
     placed-by cells count i alone into low high NONE (own-other alone (treeAt cells count i) e) zeros (row-other alone (treeAt cells count i) e) own eown _

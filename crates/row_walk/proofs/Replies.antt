@@ -10,6 +10,7 @@ use borrow.Author.Tests.{eq-eqb, ne-eqb, lt-ltb, le-ltb}
 use Rattle.laws.specs.Choice.{pick}
 use Rattle.laws.specs.Lists.{over}
 use Rattle.laws.proofs.Choice.{pick-true, pick-false, or-here, or-next}
+use Rattle.tree.specs.Sizes.{rowCells, scratchCells}
 use Rattle.tree.specs.Trees.{treeAt}
 use Rattle.tree_rules.specs.Refusals.{refusal}
 use Rattle.expr.specs.declared.Handed.{Handed}
@@ -43,18 +44,18 @@ module _ (context count : ℕ) (cells rows scratch : List ℕ) where
     short : decideRefusal12 count (length rows) (length scratch) ≡ true → Decides 12 rows scratch
     short e = refuses 12 (sym (after ∙ pick-true 12 0 e)) (λ z. omega arith)
 
-    pub short-rows : length rows < 5 * count → Decides 12 rows scratch
+    pub short-rows : length rows < rowCells * count → Decides 12 rows scratch
     unfolding decideRefusal12
     short-rows h = short (or-here _ (lt-ltb _ _ h))
 
-    module _ (fits : 5 * count ≤ length rows) where
-      pub short-scratch : length scratch < 3 * count → Decides 12 rows scratch
+    module _ (fits : rowCells * count ≤ length rows) where
+      pub short-scratch : length scratch < scratchCells * count → Decides 12 rows scratch
       unfolding decideRefusal12
       short-scratch h = short (or-next _ (le-ltb _ _ fits) ∙ lt-ltb _ _ h)
 
-      pub done : 3 * count ≤ length scratch → (h : Handed) → h ≡ rootHanded context
+      pub done : scratchCells * count ≤ length scratch → (h : Handed) → h ≡ rootHanded context
           → (rows′ : List ℕ) → rows′ ≡ placed cells count 1 (rowsOf h (treeAt cells count 1)) rows
-          → (scratch′ : List ℕ) → scratch′ ≡ over (replicate (3 * count) 0) scratch
+          → (scratch′ : List ℕ) → scratch′ ≡ over (replicate (scratchCells * count) 0) scratch
           → Decides 0 rows′ scratch′
       unfolding decideRefusal12 rowsAfter scratchAfter
       done k h eh rows′ er scratch′ es =

@@ -4,6 +4,7 @@ use mathlib.Core.List.{List, [], _∷_}
 use Prim.Native.Nat.{ℕ, _*_, _-_, _/_}
 use lib.Dec.{eqb}
 use lib.ListN.{length, take, drop, replicate}
+use Rattle.tree.specs.Sizes.{nodeCells, rowCells, scratchCells}
 use Rattle.tree.specs.Forms.{ExprBinary, ExprBreak, ExprCall, ExprCast, ExprField, ExprGroup, ExprLoop, ExprMatch, ExprPath, ExprReturn, ExprStruct, TypePath, Link}
 use Rattle.row_walk.specs.Walk.{decided, rowsAfter}
 
@@ -24,14 +25,14 @@ case context cells node expected = record { context = context; cells = cells; no
 -- ---- whether a case holds: the reply is 0, and the node's cells are as expected, in buffers of just the length needed
 
 abbrev pub count : Case → ℕ
-count k = length (k .cells) / 5
+count k = length (k .cells) / nodeCells
 
 -- buffers that hold no row before
 abbrev blank : ℕ → List ℕ
 blank n = replicate n 99
 
 abbrev pub rowAt : Case → List ℕ
-rowAt k = take 5 (drop (5 * (k .node - 1)) (rowsAfter (k .context) (count k) (k .cells) (blank (5 * count k)) (blank (3 * count k))))
+rowAt k = take rowCells (drop (rowCells * (k .node - 1)) (rowsAfter (k .context) (count k) (k .cells) (blank (rowCells * count k)) (blank (scratchCells * count k))))
 
 abbrev same : List ℕ → List ℕ → Bool
 same [] [] = true
@@ -44,7 +45,7 @@ meets cells (row expected) = same cells expected
 meets cells (pair expected) = same (take 1 cells) (expected ∷ [])
 
 abbrev pub holds : Case → Bool
-holds k = eqb (decided (k .context) (count k) (k .cells) (5 * count k) (3 * count k)) 0 && meets (rowAt k) (k .expected)
+holds k = eqb (decided (k .context) (count k) (k .cells) (rowCells * count k) (scratchCells * count k)) 0 && meets (rowAt k) (k .expected)
 
 abbrev pub allHold : List Case → Bool
 allHold [] = true

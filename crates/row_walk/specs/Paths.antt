@@ -2,6 +2,8 @@
 use mathlib.Core.List.{List, [], _∷_}
 use Prim.Native.Nat.{ℕ, _+_, _*_, _-_}
 use lib.ListN.{getD}
+use Rattle.tree.specs.Sizes.{rowCells}
+use Rattle.tree.specs.Table.{firstColumn, secondColumn}
 use Rattle.tree.specs.Trees.{Tree, none, node, operandAt}
 use Rattle.expr.specs.declared.Handed.{Handed}
 use Rattle.expr.specs.Expr.{handsFirst, handsSecond}
@@ -16,8 +18,8 @@ pub data Branch : Type 0 where
 -- the number of the node at a path below node i, 0 where there is none
 abbrev pub numberAt : List ℕ → ℕ → ℕ → List Branch → ℕ
 numberAt cells count i [] = i
-numberAt cells count i (first ∷ p) = numberAt cells count (operandAt cells count i 3) p
-numberAt cells count i (second ∷ p) = numberAt cells count (operandAt cells count i 4) p
+numberAt cells count i (first ∷ p) = numberAt cells count (operandAt cells count i firstColumn) p
+numberAt cells count i (second ∷ p) = numberAt cells count (operandAt cells count i secondColumn) p
 
 -- the tree at a path
 abbrev pub treeBy : Tree → List Branch → Tree
@@ -36,7 +38,7 @@ handedBy h (node l a b) (second ∷ p) = handedBy (handsSecond (ownContext h (no
 -- the row in the five cells of node j
 abbrev pub rowIn : List ℕ → ℕ → Row
 rowIn rows j =
-    let at = 5 * (j - 1) in
+    let at = rowCells * (j - 1) in
     record {
       pair = getD rows at 0;
       precedence = getD rows (at + 1) 0;

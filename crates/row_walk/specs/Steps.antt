@@ -1,6 +1,7 @@
 -- What the steps of the walk give: the rows of a node and of its operands in their cells.
 use mathlib.Core.List.{List}
 use Prim.Native.Nat.{ℕ}
+use Rattle.tree.specs.Table.{firstColumn, secondColumn}
 use Rattle.tree.specs.Trees.{operandAt, treeAt}
 use Rattle.fixup.specs.declared.context.FixupContext.{FixupContext}
 use Rattle.expr.specs.Expr.{handsFirst, handsSecond}
@@ -14,11 +15,11 @@ placedAlone cells count i rows = placed cells count i (rowsOf alone (treeAt cell
 -- the operands of a node that is printed in a context
 abbrev pub placedFirst : FixupContext → List ℕ → ℕ → ℕ → List ℕ → List ℕ
 placedFirst own cells count i rows =
-    placed cells count (operandAt cells count i 3) (rowsOf (handsFirst own (treeAt cells count i)) (treeAt cells count (operandAt cells count i 3))) rows
+    placed cells count (operandAt cells count i firstColumn) (rowsOf (handsFirst own (treeAt cells count i)) (treeAt cells count (operandAt cells count i firstColumn))) rows
 
 abbrev pub placedSecond : FixupContext → List ℕ → ℕ → ℕ → List ℕ → List ℕ
 placedSecond own cells count i rows =
-    placed cells count (operandAt cells count i 4) (rowsOf (handsSecond own (treeAt cells count i)) (treeAt cells count (operandAt cells count i 4))) rows
+    placed cells count (operandAt cells count i secondColumn) (rowsOf (handsSecond own (treeAt cells count i)) (treeAt cells count (operandAt cells count i secondColumn))) rows
 
 abbrev pub placedBelow : FixupContext → List ℕ → ℕ → ℕ → List ℕ → List ℕ
 placedBelow own cells count i rows = placedSecond own cells count i (placedFirst own cells count i rows)

@@ -6,6 +6,8 @@ use lib.Dec.{eqb, ltb}
 use lib.ListN.{length, set, replicate}
 use Rattle.laws.specs.Choice.{pick, Line, line, lookup}
 use Rattle.laws.specs.Lists.{over}
+use Rattle.tree.specs.Sizes.{rowCells, scratchCells}
+use Rattle.tree.specs.Table.{firstColumn, secondColumn}
 use Rattle.tree.specs.Trees.{operandAt, treeAt}
 use Rattle.tree_rules.specs.Refusals.{refusal}
 use Rattle.fixup.specs.declared.context.FixupContext.{FixupContext}
@@ -29,18 +31,18 @@ rootHanded context = neither (contextNumbered context)
 -- a row in the five cells of node i
 unfoldable pub rowStored : ℕ → Row → List ℕ → List ℕ
 rowStored i r rows =
-    let at = 5 * (i - 1) in
+    let at = rowCells * (i - 1) in
     set (set (set (set (set rows at (r .pair)) (at + 1) (r .precedence)) (at + 2) (r .previous)) (at + 3) (r .next)) (at + 4) (r .flags)
 
 -- the rows of the tree at node i, each in the cells of its node
 unfoldable pub placed : List ℕ → ℕ → ℕ → Rows → List ℕ → List ℕ
 placed cells count i absent rows = rows
 placed cells count i (present r a b) rows =
-    placed cells count (operandAt cells count i 4) b (placed cells count (operandAt cells count i 3) a (rowStored i r rows))
+    placed cells count (operandAt cells count i secondColumn) b (placed cells count (operandAt cells count i firstColumn) a (rowStored i r rows))
 
 -- 12. "A lent buffer is too short: five cells a node for rows, three for the walk's scratch"
 unfoldable pub decideRefusal12 : ℕ → ℕ → ℕ → Bool
-decideRefusal12 count rows scratch = ltb rows (5 * count) || ltb scratch (3 * count)
+decideRefusal12 count rows scratch = ltb rows (rowCells * count) || ltb scratch (scratchCells * count)
 
 -- the reply: the table's refusal, then 12, or 0
 unfoldable pub decided : ℕ → ℕ → List ℕ → ℕ → ℕ → ℕ
@@ -58,4 +60,4 @@ rowsAfter context count cells rows scratch =
 -- the scratch afterwards. "On 0 the walk's scratch holds zeros in the three cells of each node."
 unfoldable pub scratchAfter : ℕ → ℕ → List ℕ → List ℕ → List ℕ → List ℕ
 scratchAfter context count cells rows scratch =
-    pick (eqb (decided context count cells (length rows) (length scratch)) 0) (over (replicate (3 * count) 0) scratch) scratch
+    pick (eqb (decided context count cells (length rows) (length scratch)) 0) (over (replicate (scratchCells * count) 0) scratch) scratch

@@ -7,6 +7,8 @@ use fixup::context::FixupContext;
 use row::Row;
 use row::decision_of;
 use row::lone_row;
+use tree::columns;
+use tree::sizes;
 use tree::table::Operand;
 use tree::table::form_at;
 use tree::table::operand_at;
@@ -17,6 +19,7 @@ ghost use mathlib.Core.Path.{_≡_};
 ghost use Prim.Native.Nat.{_*_, _≤_};
 ghost use lib.ListN.{length, replicate};
 ghost use Rattle.laws.specs.Lists.{over};
+ghost use Rattle.tree.specs.Sizes.{rowCells};
 ghost use Rattle.tree.specs.Trees.{treeAt};
 ghost use Rattle.row.specs.Rows.{zeros, rowsOf};
 ghost use Rattle.row_walk.specs.Steps.{placedFirst, placedBelow, placedAlone};
@@ -37,10 +40,10 @@ fn no_row() -> Row
 
 // A row into the five cells of its node.
 fn store(rows: &mut [u16], node: u16, row: Row)
-    requires { ⌜ (1 ≤ node) × (5 * node ≤ length (now rows)) ⌝ }
+    requires { ⌜ (1 ≤ node) × (rowCells * node ≤ length (now rows)) ⌝ }
     ensures { λ _. ⌜ now (rows .exit) ≡ rowStored node row (now (rows .entry)) ⌝ }
 {
-    let at = 5 * ((node - 1) as usize);
+    let at = sizes::ROW_CELLS * ((node - 1) as usize);
     rows[at] = row.pair;
     rows[at + 1] = row.precedence;
     rows[at + 2] = row.previous;
@@ -50,7 +53,7 @@ fn store(rows: &mut [u16], node: u16, row: Row)
 
 // The rows of a node and of all below it.
 fn walk_from(handed: Handed, table: &[u16], count: u16, node: u16, rows: &mut [u16])
-    requires { ⌜ 5 * count ≤ length (now rows) ⌝ }
+    requires { ⌜ rowCells * count ≤ length (now rows) ⌝ }
     ensures { λ _. ⌜ now (rows .exit) ≡ placed (now (table .entry)) count node (rowsOf handed (treeAt (now (table .entry)) count node)) (now (rows .entry)) ⌝ }
 {
     if class_of(form_at(table, count, node)) != 1 {
@@ -70,11 +73,11 @@ fn walk_from(handed: Handed, table: &[u16], count: u16, node: u16, rows: &mut [u
 
 // The rows below a node that is there, printed in a context of its own. "An absent operand ends the question before anything else".
 fn walk_operands(own: FixupContext, table: &[u16], count: u16, node: u16, rows: &mut [u16])
-    requires { ⌜ (1 ≤ node) × (node ≤ count) × (5 * count ≤ length (now rows)) ⌝ }
+    requires { ⌜ (1 ≤ node) × (node ≤ count) × (rowCells * count ≤ length (now rows)) ⌝ }
     ensures { λ _. ⌜ now (rows .exit) ≡ placedBelow own (now (table .entry)) count node (now (rows .entry)) ⌝ }
 {
     walk_first(own, table, count, node, rows);
-    let Operand::Present(operand) = operand_at(table, count, node, 4) else {
+    let Operand::Present(operand) = operand_at(table, count, node, columns::SECOND) else {
         return;
     };
     walk_from(
@@ -88,10 +91,10 @@ fn walk_operands(own: FixupContext, table: &[u16], count: u16, node: u16, rows: 
 
 // The rows of its first operand and below. What an absent operand would get is not worked out.
 fn walk_first(own: FixupContext, table: &[u16], count: u16, node: u16, rows: &mut [u16])
-    requires { ⌜ (1 ≤ node) × (node ≤ count) × (5 * count ≤ length (now rows)) ⌝ }
+    requires { ⌜ (1 ≤ node) × (node ≤ count) × (rowCells * count ≤ length (now rows)) ⌝ }
     ensures { λ _. ⌜ now (rows .exit) ≡ placedFirst own (now (table .entry)) count node (now (rows .entry)) ⌝ }
 {
-    let Operand::Present(operand) = operand_at(table, count, node, 3) else {
+    let Operand::Present(operand) = operand_at(table, count, node, columns::FIRST) else {
         return;
     };
     walk_from(
@@ -105,7 +108,7 @@ fn walk_first(own: FixupContext, table: &[u16], count: u16, node: u16, rows: &mu
 
 // The same as `walk_from` for what no owner tests, in NONE: items, types and links, a list in a loop. Number 0 stands for an operand that is absent.
 fn walk_alone(table: &[u16], count: u16, node: u16, rows: &mut [u16])
-    requires { ⌜ 5 * count ≤ length (now rows) ⌝ }
+    requires { ⌜ rowCells * count ≤ length (now rows) ⌝ }
     ensures { λ _. ⌜ now (rows .exit) ≡ placedAlone (now (table .entry)) count node (now (rows .entry)) ⌝ }
 {
     let mut at = node;
@@ -119,8 +122,13 @@ fn walk_alone(table: &[u16], count: u16, node: u16, rows: &mut [u16])
             return;
         }
         store(rows, at, no_row());
-        walk_alone(table, count, operand_number(table, count, at, 3), rows);
-        at = operand_number(table, count, at, 4);
+        walk_alone(
+            table,
+            count,
+            operand_number(table, count, at, columns::FIRST),
+            rows,
+        );
+        at = operand_number(table, count, at, columns::SECOND);
     }
 }
 
@@ -170,13 +178,13 @@ pub fn decide(context: u16, count: u16, table: &[u16], rows: &mut [u16], scratch
         return refused;
     }
     let nodes = count as usize;
-    if rows.len() < 5 * nodes {
+    if rows.len() < sizes::ROW_CELLS * nodes {
         return 12;
     }
-    if scratch.len() < 3 * nodes {
+    if scratch.len() < sizes::SCRATCH_CELLS * nodes {
         return 12;
     }
     walk_from(root_handed(context), table, count, 1, rows);
-    clear(scratch, 3 * nodes);
+    clear(scratch, sizes::SCRATCH_CELLS * nodes);
     0
 }

@@ -6,7 +6,7 @@ use lib.ListN.{length}
 use native.Mathlib.Omega.{arith}
 use borrow.Author.Needs.{needs}
 use borrow.Author.Tests.{eq-eqb, ne-eqb}
-use Rattle.tree.specs.Table.{cellAt}
+use Rattle.tree.specs.Table.{cellAt, firstColumn, secondColumn}
 use Rattle.tree.specs.Trees.{operandAt, treeAt}
 use Rattle.tree.proofs.Unfold.{tree-past, left, left-falls}
 use Rattle.tree.proofs.Walks.{present-above, absent-zero}
@@ -212,7 +212,7 @@ walk-alone-walk-alone-requires t c κs =
     let t≡ = s .pre .0 in
     let w = s .fits in
     let z = ap length (c .before .before .before .before .store2 .ensures) ∙ length-stored _ _ _ in
-    let q = left-falls (a .count) (l .at) (cellAt (a .table .now) (l .at) 3) (omega arith) (omega arith) (omega arith) in
+    let q = left-falls (a .count) (l .at) (cellAt (a .table .now) (l .at) firstColumn) (omega arith) (omega arith) (omega arith) in
     (rw (c .before .operand-number .ensures) (omega arith), omega arith)
 
 walk-alone-operand-number-requires-2 : (t : ℕ) → walk-alone-lts.Need-operand-number-requires-2 (walk-alone-claims t) (walk-alone-at t) walk-alone.Post walk-alone-Inv-loop walk-alone-μ-loop
@@ -226,7 +226,7 @@ walk-alone-loop-less t c =
     let j = c .before .before .before .before .before .before .before .before .before .before .before .before .before .before .before .loop-test in
     let k = c .before .before .before .before .before .before .before .before .before .before .before .before .before .before .if1 .left in
     let w = s .fits in
-    rw (c .operand-number2 .ensures) (left-falls (a .count) (l .at) (cellAt (a .table .now) (l .at) 4) (omega arith) (omega arith) (omega arith))
+    rw (c .operand-number2 .ensures) (left-falls (a .count) (l .at) (cellAt (a .table .now) (l .at) secondColumn) (omega arith) (omega arith) (omega arith))
 
 walk-alone-loop-again : (t : ℕ) → walk-alone-lts.Need-loop-again (walk-alone-claims t) (walk-alone-at t) walk-alone.Post walk-alone-Inv-loop walk-alone-μ-loop
 walk-alone-loop-again t c =
@@ -238,7 +238,7 @@ walk-alone-loop-again t c =
     let w = s .fits in
     let m = l .inv .0 in
     let e : isExpression (treeAt (a .table .now) (a .count) (l .at)) ≡ false = sym (class-is (a .table .now) (a .count) (l .at)) ∙ rw (← c .before .before .before .before .before .before .before .before .before .before .before .before .before .form-at .ensures, ← c .before .before .before .before .before .before .before .before .before .before .before .before .class-of .ensures) (ne-eqb _ _ (c .before .before .before .before .before .before .before .before .before .before .before .if2 .left)) in
-    let q = left-falls (a .count) (l .at) (cellAt (a .table .now) (l .at) 4) (omega arith) (omega arith) (omega arith) in
+    let q = left-falls (a .count) (l .at) (cellAt (a .table .now) (l .at) secondColumn) (omega arith) (omega arith) (omega arith) in
     let o = c .operand-number2 .ensures in (
       rw o (omega arith),
       ap length (c .before .before .before .walk-alone .ensures) ∙ length-placed _ _ _ _ _ ∙ ap length (c .before .before .before .before .before .before .before .before .store2 .ensures) ∙ length-stored _ _ _ ∙ l .inv .1,
@@ -268,7 +268,7 @@ walk-first-enum-told t c = search needs
 walk-first-returns : (t : ℕ) → walk-first-lts.Need-returns (walk-first-claims t) (walk-first-at t) walk-first.Post
 walk-first-returns t c =
     let a = c .before .before .before .before .before .args in
-    sym (placed-absent (a .table .now) (a .count) (operandAt (a .table .now) (a .count) (a .node) 3) (handsFirst (a .own) (treeAt (a .table .now) (a .count) (a .node))) _ (absent-zero _ (sym (c .before .before .operand-at .ensures) ∙ c .enum-told .given .1)))
+    sym (placed-absent (a .table .now) (a .count) (operandAt (a .table .now) (a .count) (a .node) firstColumn) (handsFirst (a .own) (treeAt (a .table .now) (a .count) (a .node))) _ (absent-zero _ (sym (c .before .before .operand-at .ensures) ∙ c .enum-told .given .1)))
 
 walk-first-first-operand-requires : (t : ℕ) → walk-first-lts.Need-first-operand-requires (walk-first-claims t) (walk-first-at t) walk-first.Post
 walk-first-first-operand-requires t c κs = search needs
@@ -280,8 +280,8 @@ walk-first-walk-from-requires t c κs =
     let p = s .pre .1 in
     let t≡ = s .pre .0 in
     let w = s .fits in
-    let q = present-above (a .count) (a .node) (cellAt (a .table .now) (a .node) 3) _ (sym (c .before .before .before .before .before .operand-at .ensures) ∙ c .before .before .before .operand .given .1) in
-    let f = left-falls (a .count) (a .node) (cellAt (a .table .now) (a .node) 3) (omega arith) (omega arith) (omega arith) in
+    let q = present-above (a .count) (a .node) (cellAt (a .table .now) (a .node) firstColumn) _ (sym (c .before .before .before .before .before .operand-at .ensures) ∙ c .before .before .before .operand .given .1) in
+    let f = left-falls (a .count) (a .node) (cellAt (a .table .now) (a .node) firstColumn) (omega arith) (omega arith) (omega arith) in
     (rw (← q .0) (omega arith), omega arith)
 
 walk-first-same-length : (t : ℕ) → walk-first-lts.Need-same-length (walk-first-claims t) (walk-first-at t) walk-first.Post
@@ -290,7 +290,7 @@ walk-first-same-length t c = search needs
 walk-first-returns-2 : (t : ℕ) → walk-first-lts.Need-returns-2 (walk-first-claims t) (walk-first-at t) walk-first.Post
 walk-first-returns-2 t c =
     let a = c .before .before .before .before .before .before .before .before .before .before .before .args in
-    let q = present-above (a .count) (a .node) (cellAt (a .table .now) (a .node) 3) _ (sym (c .before .before .before .before .before .before .before .before .operand-at .ensures) ∙ c .before .before .before .before .before .before .operand .given .1) in
+    let q = present-above (a .count) (a .node) (cellAt (a .table .now) (a .node) firstColumn) _ (sym (c .before .before .before .before .before .before .before .before .operand-at .ensures) ∙ c .before .before .before .before .before .before .operand .given .1) in
     rw (q .0, ← c .before .before .before .before .first-operand .ensures) (c .before .before .walk-from .ensures)
 
 walk-from-form-at-requires : (t : ℕ) → walk-from-lts.Need-form-at-requires (walk-from-claims t) (walk-from-at t) walk-from.Post
@@ -398,7 +398,7 @@ walk-operands-returns : (t : ℕ) → walk-operands-lts.Need-returns (walk-opera
 walk-operands-returns t c =
     let a = c .before .before .before .before .before .before .before .before .before .args in
     c .before .before .before .before .before .walk-first .ensures
-    ∙ sym (placed-absent (a .table .now) (a .count) (operandAt (a .table .now) (a .count) (a .node) 4) (handsSecond (a .own) (treeAt (a .table .now) (a .count) (a .node))) _ (absent-zero _ (sym (c .before .before .operand-at .ensures) ∙ c .enum-told .given .1)))
+    ∙ sym (placed-absent (a .table .now) (a .count) (operandAt (a .table .now) (a .count) (a .node) secondColumn) (handsSecond (a .own) (treeAt (a .table .now) (a .count) (a .node))) _ (absent-zero _ (sym (c .before .before .operand-at .ensures) ∙ c .enum-told .given .1)))
 
 walk-operands-second-operand-requires : (t : ℕ) → walk-operands-lts.Need-second-operand-requires (walk-operands-claims t) (walk-operands-at t) walk-operands.Post
 walk-operands-second-operand-requires t c κs = search needs
@@ -411,8 +411,8 @@ walk-operands-walk-from-requires t c κs =
     let t≡ = s .pre .0 in
     let w = s .fits in
     let z = ap length (c .before .before .before .before .before .before .before .before .walk-first .ensures) ∙ length-placed _ _ _ _ _ in
-    let q = present-above (a .count) (a .node) (cellAt (a .table .now) (a .node) 4) _ (sym (c .before .before .before .before .before .operand-at .ensures) ∙ c .before .before .before .operand .given .1) in
-    let f = left-falls (a .count) (a .node) (cellAt (a .table .now) (a .node) 4) (omega arith) (omega arith) (omega arith) in
+    let q = present-above (a .count) (a .node) (cellAt (a .table .now) (a .node) secondColumn) _ (sym (c .before .before .before .before .before .operand-at .ensures) ∙ c .before .before .before .operand .given .1) in
+    let f = left-falls (a .count) (a .node) (cellAt (a .table .now) (a .node) secondColumn) (omega arith) (omega arith) (omega arith) in
     (rw (← q .0) (omega arith), omega arith)
 
 walk-operands-same-length-2 : (t : ℕ) → walk-operands-lts.Need-same-length-2 (walk-operands-claims t) (walk-operands-at t) walk-operands.Post
@@ -421,7 +421,7 @@ walk-operands-same-length-2 t c = search needs
 walk-operands-returns-2 : (t : ℕ) → walk-operands-lts.Need-returns-2 (walk-operands-claims t) (walk-operands-at t) walk-operands.Post
 walk-operands-returns-2 t c =
     let a = c .before .before .before .before .before .before .before .before .before .before .before .before .before .before .before .args in
-    let q = present-above (a .count) (a .node) (cellAt (a .table .now) (a .node) 4) _ (sym (c .before .before .before .before .before .before .before .before .operand-at .ensures) ∙ c .before .before .before .before .before .before .operand .given .1) in
+    let q = present-above (a .count) (a .node) (cellAt (a .table .now) (a .node) secondColumn) _ (sym (c .before .before .before .before .before .before .before .before .operand-at .ensures) ∙ c .before .before .before .before .before .before .operand .given .1) in
     c .before .before .walk-from .ensures
     ∙ rw (q .0, c .before .before .before .before .second-operand .ensures, c .before .before .before .before .before .before .before .before .before .before .before .walk-first .ensures)
 
