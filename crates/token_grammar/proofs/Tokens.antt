@@ -10,6 +10,7 @@ use borrow.Author.Tests.{lt-ltb}
 use Rattle.laws.proofs.Choice.{true-of, of-true, and-true}
 use Rattle.laws.proofs.Each.{all-at}
 use Rattle.laws.proofs.Keys.{allBelow}
+use Rattle.tree.specs.Sizes.{listEnd}
 use Rattle.token_grammar.specs.Tokens.{Operator, Add, Sub, Mul, Div, Rem, And, Or, BitXor, BitAnd, BitOr, Shl, Shr, Eq, Lt, Le, Ne, Ge, Gt, AddAssign, SubAssign, MulAssign, DivAssign, RemAssign, BitXorAssign, BitAndAssign, BitOrAssign, ShlAssign, ShrAssign, Assign, number, Token, operator, code, Bang, AndMut, As, Name, Literal, Dot, LeftParen, RightParen, LeftBracket, RightBracket, Comma, Question, StarConst, StarMut, Underscore, NumberedMember, Await, allOperators, operatorOf, codesOf}
 use Rattle.token_grammar.specs.Codes.{spelled, tokenOf, tokensOf}
 
@@ -106,19 +107,19 @@ token-code Await = refl
 pub code-same : (t u : Token) → code t ≡ code u → t ≡ u
 code-same t u e = sym (token-code t) ∙ ap tokenOf e ∙ token-code u
 
-pub code-token : (n : ℕ) → n < 46 → code (tokenOf n) ≡ n
+pub code-token : (n : ℕ) → n < listEnd → code (tokenOf n) ≡ n
 unfolding tokenOf
-code-token n h = eqb→eq (code (tokenOf n)) n (all-at (λ m. eqb (code (tokenOf m)) m) 46 tt n h)
+code-token n h = eqb→eq (code (tokenOf n)) n (all-at (λ m. eqb (code (tokenOf m)) m) listEnd tt n h)
 
 pub tokens-codes : (ts : List Token) → tokensOf (codesOf ts) ≡ ts
 tokens-codes [] = refl
 tokens-codes (t ∷ ts) = ap₂ _∷_ (token-code t) (tokens-codes ts)
 
-pub codes-tokens : (ns : List ℕ) → T (allBelow 46 ns) → codesOf (tokensOf ns) ≡ ns
+pub codes-tokens : (ns : List ℕ) → T (allBelow listEnd ns) → codesOf (tokensOf ns) ≡ ns
 codes-tokens [] h = refl
 codes-tokens (n ∷ ns) h =
-    let d = and-true (ltb n 46) (allBelow 46 ns) (true-of h) in
-    ap₂ _∷_ (code-token n (ltb→lt n 46 (of-true (d .0)))) (codes-tokens ns (of-true (d .1)))
+    let d = and-true (ltb n listEnd) (allBelow listEnd ns) (true-of h) in
+    ap₂ _∷_ (code-token n (ltb→lt n listEnd (of-true (d .0)))) (codes-tokens ns (of-true (d .1)))
 
 -- a rule for every token is one computed test
 abbrev pub ofTokens : (Token → Bool) → Bool
@@ -130,9 +131,9 @@ each-token p h t =
     let d = and-true (p Await) (allIn p (spelled allOperators)) (true-of h) in
     subst (λ x. T (p x)) (token-code t) (all-in p Await (spelled allOperators) (of-true (d .0)) (of-true (d .1)) (code t))
 
-pub code-below : (t : Token) → code t < 46
-code-below t = ltb→lt (code t) 46 (each-token (λ x. ltb (code x) 46) tt t)
+pub code-below : (t : Token) → code t < listEnd
+code-below t = ltb→lt (code t) listEnd (each-token (λ x. ltb (code x) listEnd) tt t)
 
-pub codes-below : (ts : List Token) → T (allBelow 46 (codesOf ts))
+pub codes-below : (ts : List Token) → T (allBelow listEnd (codesOf ts))
 codes-below [] = tt
-codes-below (t ∷ ts) = rw (lt-ltb (code t) 46 (code-below t)) (codes-below ts)
+codes-below (t ∷ ts) = rw (lt-ltb (code t) listEnd (code-below t)) (codes-below ts)

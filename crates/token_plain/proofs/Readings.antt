@@ -8,6 +8,7 @@ use native.Mathlib.Omega.{arith}
 use lib.Dec.{T}
 use Rattle.laws.proofs.Choice.{true-not-false, true-of, of-true}
 use Rattle.laws.proofs.Keys.{allBelow}
+use Rattle.tree.specs.Sizes.{listEnd}
 use Rattle.tree.specs.Trees.{Tree}
 use Rattle.token_grammar.specs.Tokens.{Token, codesOf}
 use Rattle.token_grammar.specs.Codes.{tokensOf}
@@ -47,10 +48,10 @@ finds r = ap (parse NONE) (ap tokensOf (sym (r .whole)) ∙ tokens-codes (write 
 
 -- A token list has a reading or has none.
 pub read-or-not : (codes : List ℕ) → ((t : Tree) × Reads codes t) ⊎ ((t : Tree) → Reads codes t → ⊥)
-read-or-not codes = go (allBelow 46 codes) refl (parse NONE (tokensOf codes)) refl
+read-or-not codes = go (allBelow listEnd codes) refl (parse NONE (tokensOf codes)) refl
   where
-    go : (b : Bool) → allBelow 46 codes ≡ b → (o : Out (Expr one)) → parse NONE (tokensOf codes) ≡ o → ((t : Tree) × Reads codes t) ⊎ ((t : Tree) → Reads codes t → ⊥)
-    go false e o q = inr (λ t r. true-not-false (sym (true-of (subst (λ ns. T (allBelow 46 ns)) (r .whole) (codes-below (write (r .parsed) [])))) ∙ e))
+    go : (b : Bool) → allBelow listEnd codes ≡ b → (o : Out (Expr one)) → parse NONE (tokensOf codes) ≡ o → ((t : Tree) × Reads codes t) ⊎ ((t : Tree) → Reads codes t → ⊥)
+    go false e o q = inr (λ t r. true-not-false (sym (true-of (subst (λ ns. T (allBelow listEnd ns)) (r .whole) (codes-below (write (r .parsed) [])))) ∙ e))
     go true e fail q = inr (λ t r. let k = finds r in let z : _≡_ {A = ℕ} 0 1 = cc in omega arith)
     go true e (ok x []) q = inl (_, subst (λ ns. Reads ns (withoutParens (treeOf x))) (codes-tokens codes (of-true e)) (found (tokensOf codes) x q))
     go true e (ok x (y ∷ rest)) q = inr (λ t r. let k = finds r in let z : _≡_ {A = ℕ} 0 1 = cc in omega arith)

@@ -6,7 +6,9 @@ use Prim.Native.Nat.{ℕ, _*_, _-_}
 use lib.Dec.{eqb}
 use lib.ListN.{getD}
 use Rattle.laws.specs.Choice.{Line, line, lookup, pick, isOneOf}
+use Rattle.tree.specs.Sizes.{rowCells}
 use Rattle.tree.specs.Forms.{ExprAssign, ExprAwait, ExprBinary, ExprCall, ExprCast, ExprField, ExprIndex, ExprLit, ExprMethodCall, ExprParen, ExprPath, ExprReference, ExprTry, ExprUnary, TypeInfer, TypeNever, TypePath, TypePtr, TypeReference, Link}
+use Rattle.tree.specs.Table.{firstColumn, secondColumn}
 use Rattle.tree.specs.Trees.{Label, Tree, none, node, operandAt}
 use Rattle.tree.specs.Walks.{isThere}
 use Rattle.token_grammar.specs.Tokens.{Token, operator, Sub, Mul, BitAnd, Lt, Gt, Assign, Bang, AndMut, As, Name, Literal, Dot, LeftParen, RightParen, LeftBracket, RightBracket, Comma, Question, StarConst, StarMut, Underscore, NumberedMember, Await, operatorOf}
@@ -71,13 +73,13 @@ tokensAt cells count pair i (node l a b) rest =
     (pair i)
     (λ end.
     signsOf l b .before
-    ++ tokensAt cells count pair (operandAt cells count i 3) a
-    (signsOf l b .between ++ tokensAt cells count pair (operandAt cells count i 4) b (signsOf l b .behind ++ end)))
+    ++ tokensAt cells count pair (operandAt cells count i firstColumn) a
+    (signsOf l b .between ++ tokensAt cells count pair (operandAt cells count i secondColumn) b (signsOf l b .behind ++ end)))
     rest
 
 -- whether node i's row has an outer pair: "Pair: 1 outer pair .., plus 2 for the inner pair"
 unfoldable pub hasPair : List ℕ → ℕ → Bool
-hasPair rows i = isOneOf (1 ∷ 3 ∷ []) (getD rows (5 * (i - 1)) 0)
+hasPair rows i = isOneOf (1 ∷ 3 ∷ []) (getD rows (rowCells * (i - 1)) 0)
 
 -- the pairs but that of node j. "leaving it out removes them and no other token"
 unfoldable pub butAt : ℕ → (ℕ → Bool) → ℕ → Bool

@@ -10,6 +10,7 @@ use lib.ListN.{length, drop, getD}
 use borrow.Author.Tests.{lt-ltb, le-ltb, ltb-false}
 use Rattle.laws.proofs.Choice.{or-false}
 use Rattle.laws.proofs.Keys.{allBelow}
+use Rattle.tree.specs.Sizes.{lastCode, listEnd}
 use Rattle.token_reader.specs.Reading.{anyAbove}
 
 module _ (most : ℕ) where
@@ -35,9 +36,9 @@ module _ (most : ℕ) where
   above-end (n ∷ ns) zero h = absurd (omega arith)
   above-end (n ∷ ns) (suc at) h = above-end ns at (omega arith)
 
-pub all-below : (codes : List ℕ) → anyAbove 45 codes ≡ false → T (allBelow 46 codes)
+pub all-below : (codes : List ℕ) → anyAbove lastCode codes ≡ false → T (allBelow listEnd codes)
 unfolding anyAbove
 all-below [] h = tt
 all-below (n ∷ ns) h =
-    let d = or-false (ltb 45 n) (anyAbove 45 ns) h in
-    rw (lt-ltb n 46 (omega (arith, ltb-false 45 n (d .0)))) (all-below ns (d .1))
+    let d = or-false (ltb lastCode n) (anyAbove lastCode ns) h in
+    rw (lt-ltb n listEnd (omega (arith, ltb-false lastCode n (d .0)))) (all-below ns (d .1))

@@ -7,6 +7,7 @@ use native.Mathlib.Omega.{arith}
 use native.Mathlib.Decide.{decLe}
 use lib.ListN.{length, getD}
 use Rattle.laws.specs.Choice.{isOneOf}
+use Rattle.tree.specs.Sizes.{lastCode, listEnd}
 use Rattle.tree.specs.Forms.{ExprCall, ExprCast, ExprIndex, ExprMethodCall, ExprTry, Link}
 use Rattle.tree.specs.Trees.{Tree, none, node}
 use Rattle.token_grammar.specs.Tokens.{Token, code, LeftParen, RightParen, RightBracket, Comma, operatorOf}
@@ -67,13 +68,13 @@ closes close whole a r e = rw (e, closeBy)
 closes-not : (close : Token) (whole : Expr one → Expr one) (a : Expr one) (r : List Token) → isFirst close r ≡ false → closeBy close whole a r ≡ fail
 closes-not close whole a r e = rw (e, closeBy)
 
-module _ {codes own mid : List ℕ} {at free : ℕ} (known : anyAbove 45 codes ≡ false) (inner : Parsed) (i : ExprAt codes own mid at free 1 inner) (close : Token) (whole : Expr one → Expr one) (Be : Expr one → Type 0) where
-  not-closed : (to : ℕ) → (getD codes (inner .at) 46 ≡ code close → ⊥) → length codes < to → (g : ℕ) → Enough codes at 0 g → Tells Be codes to (then (exprBy g NONE 1 (from codes at)) (closeBy close whole))
+module _ {codes own mid : List ℕ} {at free : ℕ} (known : anyAbove lastCode codes ≡ false) (inner : Parsed) (i : ExprAt codes own mid at free 1 inner) (close : Token) (whole : Expr one → Expr one) (Be : Expr one → Type 0) where
+  not-closed : (to : ℕ) → (getD codes (inner .at) listEnd ≡ code close → ⊥) → length codes < to → (g : ℕ) → Enough codes at 0 g → Tells Be codes to (then (exprBy g NONE 1 (from codes at)) (closeBy close whole))
   not-closed to n h g q =
       tells-then (IsExpr mid inner) Be codes (inner .at) to (exprBy g NONE 1 (from codes at)) (closeBy close whole) (i .tells g q) (λ z. h)
       (λ a z y. rw (closes-not close whole a (from codes (inner .at)) (first-other close codes (inner .at) known n)) h)
 
-  is-closed : (to : ℕ) → getD codes (inner .at) 46 ≡ code close → inner .at < length codes → ((a : Expr one) → IsExpr mid inner a → Tells Be codes to (ok (whole a) (from codes (inner .at + 1)))) →
+  is-closed : (to : ℕ) → getD codes (inner .at) listEnd ≡ code close → inner .at < length codes → ((a : Expr one) → IsExpr mid inner a → Tells Be codes to (ok (whole a) (from codes (inner .at + 1)))) →
       (g : ℕ) → Enough codes at 0 g → Tells Be codes to (then (exprBy g NONE 1 (from codes at)) (closeBy close whole))
   is-closed to e h k g q =
       tells-some (IsExpr mid inner) Be codes (inner .at) to (exprBy g NONE 1 (from codes at)) (closeBy close whole) (omega arith) (i .tells g q)
@@ -81,7 +82,7 @@ module _ {codes own mid : List ℕ} {at free : ℕ} (known : anyAbove 45 codes �
 
 -- ---- what an expression begins with
 
-begun : (codes : List ℕ) (at : ℕ) (known : anyAbove 45 codes ≡ false) (P : Out (Expr one) → Type 0) (g : ℕ) (x : Start) → startBy (getD codes at 46) ≡ x → P (operandBy g (from codes (at + 1)) x) →
+begun : (codes : List ℕ) (at : ℕ) (known : anyAbove lastCode codes ≡ false) (P : Out (Expr one) → Type 0) (g : ℕ) (x : Start) → startBy (getD codes at listEnd) ≡ x → P (operandBy g (from codes (at + 1)) x) →
     P (operandBy g (tail (from codes at)) (start (from codes at)))
 begun codes at known P g x e p =
     subst (λ ts. P (operandBy g ts (start (from codes at)))) (sym (tail-from codes at))
@@ -96,20 +97,20 @@ module _ {codes own now : List ℕ} {at free : ℕ} (ready : Ready codes own at 
         tells = λ y e. tells-strong x codes (IsExpr now r) (atom y) (omega arith) (is-strong x now (atom y) refl refl refl (placed none none (atomLabel y) s e (ready .most) refl refl));
       }
 
-  pub operand-atom : {form : ℕ} {r : Parsed} (x : Atom) → startBy (getD codes at 46) ≡ anAtom x → label form 0 ≡ atomLabel x → AtomAt codes own now at free form r → OperandAt codes own now at free r
+  pub operand-atom : {form : ℕ} {r : Parsed} (x : Atom) → startBy (getD codes at listEnd) ≡ anAtom x → label form 0 ≡ atomLabel x → AtomAt codes own now at free form r → OperandAt codes own now at free r
   operand-atom {form} {r} x e l s =
       record { past = λ q. s .past; grew = λ q. s .grew; tells = λ g q. begun codes at (ready .known) (Tells (IsExpr now r) codes (r .at)) g (anAtom x) e (s .tells x l) }
 
-  pub operand-prefixed : {form detail : ℕ} {r : Parsed} (p : Prefix) → startBy (getD codes at 46) ≡ aPrefix p → label form detail ≡ prefixLabel p → PrefixedAt codes own now at free form detail r →
+  pub operand-prefixed : {form detail : ℕ} {r : Parsed} (p : Prefix) → startBy (getD codes at listEnd) ≡ aPrefix p → label form detail ≡ prefixLabel p → PrefixedAt codes own now at free form detail r →
       OperandAt codes own now at free r
   operand-prefixed {form} {detail} {r} p e l s =
       record { past = s .past; grew = s .grew; tells = λ g q. begun codes at (ready .known) (Tells (IsExpr now r) codes (r .at)) g (aPrefix p) e (s .tells p l g q) }
 
-  pub operand-group : {r : Parsed} → startBy (getD codes at 46) ≡ aGroup → GroupAt codes own now at free r → OperandAt codes own now at free r
+  pub operand-group : {r : Parsed} → startBy (getD codes at listEnd) ≡ aGroup → GroupAt codes own now at free r → OperandAt codes own now at free r
   operand-group {r} e s =
       record { past = s .past; grew = s .grew; tells = λ g q. begun codes at (ready .known) (Tells (IsExpr now r) codes (r .at)) g aGroup e (s .tells g q) }
 
-  pub operand-none : {r : Parsed} → startBy (getD codes at 46) ≡ noStart → r .at ≡ length codes + 1 → OperandAt codes own now at free r
+  pub operand-none : {r : Parsed} → startBy (getD codes at listEnd) ≡ noStart → r .at ≡ length codes + 1 → OperandAt codes own now at free r
   operand-none {r} e z =
       record {
         past = λ q. absurd (omega arith);
@@ -125,7 +126,7 @@ module _ {codes own now : List ℕ} {at free : ℕ} (ready : Ready codes own at 
         tells = λ p e g q. tells-none (IsExpr now r) (IsExpr now r) codes (r .at) (r .at) (exprBy g NONE 14 (from codes (at + 1))) (λ a rest. ok (prefix p a) rest) h h (i .tells g q);
       }
 
-  pub group-none : {mid : List ℕ} {r : Parsed} (inner : Parsed) → (getD codes (inner .at) 46 ≡ 36 → ⊥) → ExprAt codes own mid (at + 1) free 1 inner → r .at ≡ length codes + 1 → GroupAt codes own now at free r
+  pub group-none : {mid : List ℕ} {r : Parsed} (inner : Parsed) → (getD codes (inner .at) listEnd ≡ 36 → ⊥) → ExprAt codes own mid (at + 1) free 1 inner → r .at ≡ length codes + 1 → GroupAt codes own now at free r
   group-none {mid} {r} inner n i z =
       record {
         past = λ q. absurd (omega arith);
@@ -133,7 +134,7 @@ module _ {codes own now : List ℕ} {at free : ℕ} (ready : Ready codes own at 
         tells = not-closed (ready .known) inner i RightParen paren (IsExpr now r) (r .at) n (omega arith);
       }
 
-  pub group-closed : {r : Parsed} (inner : Parsed) → getD codes (inner .at) 46 ≡ 36 → ExprAt codes own now (at + 1) free 1 inner → Postfix (inner .at + 1) (inner .free) r → GroupAt codes own now at free r
+  pub group-closed : {r : Parsed} (inner : Parsed) → getD codes (inner .at) listEnd ≡ 36 → ExprAt codes own now (at + 1) free 1 inner → Postfix (inner .at + 1) (inner .free) r → GroupAt codes own now at free r
   group-closed {r} inner e i x =
       let b = there codes (inner .at) 36 e (omega arith) in
       let w = i .grew (omega arith) in
@@ -193,18 +194,18 @@ module _ {codes own mid now : List ℕ} {at free : ℕ} (ready : Ready codes own
 -- ---- what it goes on with
 
 module _ {codes own : List ℕ} (left : Parsed) (ready : Ready codes own (left .at) (left .free)) where
-  goes : (least : ℕ) (e : Expr one) → IsExpr own left e → goesOnWith least (left .level) (left .named) (left .dotted) (getD codes (left .at) 46) ≡ goesOn least e (next (from codes (left .at)))
+  goes : (least : ℕ) (e : Expr one) → IsExpr own left e → goesOnWith least (left .level) (left .named) (left .dotted) (getD codes (left .at) listEnd) ≡ goesOn least e (next (from codes (left .at)))
   goes least e y =
-      rw (y .strong, y .type-last, y .name-last, next-at codes (left .at)) (goes-on-at least e (nextOf (tokenOf (getD codes (left .at) 46))))
+      rw (y .strong, y .type-last, y .name-last, next-at codes (left .at)) (goes-on-at least e (nextOf (tokenOf (getD codes (left .at) listEnd))))
 
-  pub on-stops : {least : ℕ} → goesOnWith least (left .level) (left .named) (left .dotted) (getD codes (left .at) 46) ≡ false → OnAt codes own own left least left
+  pub on-stops : {least : ℕ} → goesOnWith least (left .level) (left .named) (left .dotted) (getD codes (left .at) listEnd) ≡ false → OnAt codes own own left least left
   on-stops {least} n = record { grew = λ q. grew-none own (left .at) (left .free) (left .at) (omega arith); tells = go }
     where
       go : (e : Expr one) → IsExpr own left e → (f : ℕ) → Enough codes (left .at) 1 f → Tells (IsExpr own left) codes (left .at) (onBy f NONE least e (from codes (left .at)))
       go e y zero q = absurd (omega (arith, ready .within))
       go e y (suc g) q = rw (on-stop g NONE least e (from codes (left .at)) (sym (goes least e y) ∙ n)) (ready .within, refl, y)
 
-  pub on-none : {now : List ℕ} {least : ℕ} {r : Parsed} → 1 ≤ least → goesOnWith least (left .level) (left .named) (left .dotted) (getD codes (left .at) 46) ≡ true → length codes < r .at →
+  pub on-none : {now : List ℕ} {least : ℕ} {r : Parsed} → 1 ≤ least → goesOnWith least (left .level) (left .named) (left .dotted) (getD codes (left .at) listEnd) ≡ true → length codes < r .at →
       StepAt codes own now left r → OnAt codes own now left least r
   on-none {now} {least} {r} l p h i = record { grew = λ q. absurd (omega arith); tells = go }
     where
@@ -214,7 +215,7 @@ module _ {codes own : List ℕ} (left : Parsed) (ready : Ready codes own (left .
           rw (on-by g least e (from codes (left .at)) l (sym (goes least e y) ∙ p))
           (tells-none (IsExpr now r) (IsExpr now r) codes (r .at) (r .at) (stepBy g e (tail (from codes (left .at))) (next (from codes (left .at)))) (λ x rest. onBy g NONE least x rest) h h (i .tells e y g (omega arith)))
 
-  pub on-more : {mid now : List ℕ} {least : ℕ} {r : Parsed} (more : Parsed) → 1 ≤ least → goesOnWith least (left .level) (left .named) (left .dotted) (getD codes (left .at) 46) ≡ true → more .at ≤ length codes →
+  pub on-more : {mid now : List ℕ} {least : ℕ} {r : Parsed} (more : Parsed) → 1 ≤ least → goesOnWith least (left .level) (left .named) (left .dotted) (getD codes (left .at) listEnd) ≡ true → more .at ≤ length codes →
       StepAt codes own mid left more → OnAt codes mid now more least r → OnAt codes own now left least r
   on-more {mid} {now} {least} {r} more l p h i o =
       record { grew = λ q. grew-on (left .at) (omega arith) (i .grew h) (o .grew q); tells = go }
@@ -228,13 +229,13 @@ module _ {codes own : List ℕ} (left : Parsed) (ready : Ready codes own (left .
 
   -- ---- one form, by the token that makes it
 
-  followed : (P : Out (Expr one) → Type 0) (g : ℕ) (e : Expr one) (x : Next) → nextOf (tokenOf (getD codes (left .at) 46)) ≡ x → P (stepBy g e (from codes (left .at + 1)) x) →
+  followed : (P : Out (Expr one) → Type 0) (g : ℕ) (e : Expr one) (x : Next) → nextOf (tokenOf (getD codes (left .at) listEnd)) ≡ x → P (stepBy g e (from codes (left .at + 1)) x) →
       P (stepBy g e (tail (from codes (left .at))) (next (from codes (left .at))))
   followed P g e x q p =
       subst (λ ts. P (stepBy g e ts (next (from codes (left .at))))) (sym (tail-from codes (left .at)))
       (subst (λ y. P (stepBy g e (from codes (left .at + 1)) y)) (sym (next-at codes (left .at) ∙ q)) p)
 
-  pub step-binary : {now : List ℕ} {r : Parsed} (n : ℕ) → n < 29 → getD codes (left .at) 46 ≡ n → BinaryAt codes own now left n r → StepAt codes own now left r
+  pub step-binary : {now : List ℕ} {r : Parsed} (n : ℕ) → n < 29 → getD codes (left .at) listEnd ≡ n → BinaryAt codes own now left n r → StepAt codes own now left r
   step-binary {now} {r} n h e s =
       record {
         past = s .past;
@@ -242,17 +243,17 @@ module _ {codes own : List ℕ} (left : Parsed) (ready : Ready codes own (left .
         tells = λ a y g q. followed (Tells (IsExpr now r) codes (r .at)) g a (operates (operatorOf n)) (ap (λ k. nextOf (tokenOf k)) e ∙ ap nextOf (operator-token n h)) (s .tells a y g q);
       }
 
-  pub step-cast : {now : List ℕ} {r : Parsed} → getD codes (left .at) 46 ≡ 31 → CastAt codes own now left r → StepAt codes own now left r
+  pub step-cast : {now : List ℕ} {r : Parsed} → getD codes (left .at) listEnd ≡ 31 → CastAt codes own now left r → StepAt codes own now left r
   unfolding tokenOf
   step-cast {now} {r} e s =
       record { past = s .past; grew = s .grew; tells = λ a y g q. followed (Tells (IsExpr now r) codes (r .at)) g a castsTo (ap (λ k. nextOf (tokenOf k)) e) (s .tells a y g q) }
 
-  pub step-dot : {now : List ℕ} {r : Parsed} → getD codes (left .at) 46 ≡ 34 → DotAt codes own now left r → StepAt codes own now left r
+  pub step-dot : {now : List ℕ} {r : Parsed} → getD codes (left .at) listEnd ≡ 34 → DotAt codes own now left r → StepAt codes own now left r
   unfolding tokenOf
   step-dot {now} {r} e s =
       record { past = s .past; grew = s .grew; tells = λ a y g q. followed (Tells (IsExpr now r) codes (r .at)) g a dots (ap (λ k. nextOf (tokenOf k)) e) (s .tells a y g q) }
 
-  pub step-call : {now : List ℕ} {r : Parsed} → getD codes (left .at) 46 ≡ 35 → CallAt codes own now (left .at) (left .free) ExprCall r → StepAt codes own now left r
+  pub step-call : {now : List ℕ} {r : Parsed} → getD codes (left .at) listEnd ≡ 35 → CallAt codes own now (left .at) (left .free) ExprCall r → StepAt codes own now left r
   unfolding tokenOf
   step-call {now} {r} e s =
       record {
@@ -263,35 +264,35 @@ module _ {codes own : List ℕ} (left : Parsed) (ready : Ready codes own (left .
             (s .tells (treeOf (bare a)) (y .placed) (call a) (λ l. record { strong = refl; type-last = refl; name-last = refl; tree = refl }) g q);
       }
 
-  pub step-index : {now : List ℕ} {r : Parsed} → getD codes (left .at) 46 ≡ 37 → IndexAt codes own now left r → StepAt codes own now left r
+  pub step-index : {now : List ℕ} {r : Parsed} → getD codes (left .at) listEnd ≡ 37 → IndexAt codes own now left r → StepAt codes own now left r
   unfolding tokenOf
   step-index {now} {r} e s =
       record { past = s .past; grew = s .grew; tells = λ a y g q. followed (Tells (IsExpr now r) codes (r .at)) g a indexes (ap (λ k. nextOf (tokenOf k)) e) (s .tells a y g q) }
 
-  pub step-try : {now : List ℕ} {r : Parsed} → getD codes (left .at) 46 ≡ 40 → TryAt codes own now left r → StepAt codes own now left r
+  pub step-try : {now : List ℕ} {r : Parsed} → getD codes (left .at) listEnd ≡ 40 → TryAt codes own now left r → StepAt codes own now left r
   unfolding tokenOf
   step-try {now} {r} e s =
       record { past = λ q. s .past; grew = λ q. s .grew; tells = λ a y g q. followed (Tells (IsExpr now r) codes (r .at)) g a tries (ap (λ k. nextOf (tokenOf k)) e) (s .tells a y) }
 
-  pub step-none : {now : List ℕ} {r : Parsed} → 29 ≤ getD codes (left .at) 46 → isOneOf (31 ∷ 34 ∷ 35 ∷ 37 ∷ 40 ∷ []) (getD codes (left .at) 46) ≡ false → r .at ≡ length codes + 1 →
+  pub step-none : {now : List ℕ} {r : Parsed} → 29 ≤ getD codes (left .at) listEnd → isOneOf (31 ∷ 34 ∷ 35 ∷ 37 ∷ 40 ∷ []) (getD codes (left .at) listEnd) ≡ false → r .at ≡ length codes + 1 →
       StepAt codes own now left r
   step-none {now} {r} h e z =
       record {
         past = λ q. absurd (omega arith);
         grew = λ q. absurd (omega arith);
         tells = λ a y g q.
-            followed (Tells (IsExpr now r) codes (r .at)) g a stops (others-stop (getD codes (left .at) 46) (code-most codes (left .at) (ready .known)) h e) (omega arith);
+            followed (Tells (IsExpr now r) codes (r .at)) g a stops (others-stop (getD codes (left .at) listEnd) (code-most codes (left .at) (ready .known)) h e) (omega arith);
       }
 
 -- ---- one form after the other
 
 -- no token goes on past the end
-pub goes-inside : (codes : List ℕ) (at least strength : ℕ) (t d : Bool) → 1 ≤ least → goesOnWith least strength t d (getD codes at 46) ≡ true → at < length codes
+pub goes-inside : (codes : List ℕ) (at least strength : ℕ) (t d : Bool) → 1 ≤ least → goesOnWith least strength t d (getD codes at listEnd) ≡ true → at < length codes
 goes-inside codes at least strength t d h e = go (decLe (length codes) at)
   where
     go : Dec (length codes ≤ at) → at < length codes
     go (no q) = omega arith
-    go (yes q) = absurd (past-goes least strength t d h (subst (λ n. goesOnWith least strength t d n ≡ true) (past-list codes at 46 q) e))
+    go (yes q) = absurd (past-goes least strength t d h (subst (λ n. goesOnWith least strength t d n ≡ true) (past-list codes at listEnd q) e))
 
 -- what was read from `first` up to `left`; where `first` is not there, nothing
 pub record Under (codes own now : List ℕ) (least : ℕ) (first left : Parsed) : Type 0 where
@@ -326,7 +327,7 @@ module _ {codes own mid now : List ℕ} {at free least : ℕ} (ready : Ready cod
   pub under-past : left .at ≤ length codes → at < left .at
   under-past h = let k = under-there h in omega (arith, i .past k, u .grew k h .upto)
 
-  pub under-step : {next : List ℕ} (more : Parsed) → 1 ≤ least → goesOnWith least (left .level) (left .named) (left .dotted) (getD codes (left .at) 46) ≡ true → left .at ≤ length codes →
+  pub under-step : {next : List ℕ} (more : Parsed) → 1 ≤ least → goesOnWith least (left .level) (left .named) (left .dotted) (getD codes (left .at) listEnd) ≡ true → left .at ≤ length codes →
       StepAt codes now next left more → Under codes mid next least first more
   under-step {next} more l p h s =
       let k = under-there h in
@@ -338,7 +339,7 @@ module _ {codes own mid now : List ℕ} {at free least : ℕ} (ready : Ready cod
         lost = λ a b. u .goal k h next more (on-none left ready₂ l p b s);
       }
 
-  pub under-end : goesOnWith least (left .level) (left .named) (left .dotted) (getD codes (left .at) 46) ≡ false → ExprAt codes own now at free least left
+  pub under-end : goesOnWith least (left .level) (left .named) (left .dotted) (getD codes (left .at) listEnd) ≡ false → ExprAt codes own now at free least left
   under-end n = go (decLe (first .at) (length codes)) (decLe (left .at) (length codes))
     where
       go : Dec (first .at ≤ length codes) → Dec (left .at ≤ length codes) → ExprAt codes own now at free least left
@@ -430,7 +431,7 @@ module _ {codes own mid now : List ℕ} (left : Parsed) (ready : Ready codes own
             ));
       }
 
-  pub index-none : {r : Parsed} (inner : Parsed) → (getD codes (inner .at) 46 ≡ 38 → ⊥) → ExprAt codes own mid (left .at + 1) (left .free) 1 inner → r .at ≡ length codes + 1 → IndexAt codes own now left r
+  pub index-none : {r : Parsed} (inner : Parsed) → (getD codes (inner .at) listEnd ≡ 38 → ⊥) → ExprAt codes own mid (left .at + 1) (left .free) 1 inner → r .at ≡ length codes + 1 → IndexAt codes own now left r
   index-none {r} inner n i z =
       record {
         past = λ q. absurd (omega arith);
@@ -438,7 +439,7 @@ module _ {codes own mid now : List ℕ} (left : Parsed) (ready : Ready codes own
         tells = λ e y g q. not-closed (ready .known) inner i RightBracket (index e) (IsExpr now r) (r .at) n (omega arith) g (omega arith);
       }
 
-  pub index-stored : {left₂ : ℕ} {r : Parsed} (inner : Parsed) → getD codes (inner .at) 46 ≡ 38 → ExprAt codes own mid (left .at + 1) (left .free) 1 inner →
+  pub index-stored : {left₂ : ℕ} {r : Parsed} (inner : Parsed) → getD codes (inner .at) listEnd ≡ 38 → ExprAt codes own mid (left .at + 1) (left .free) 1 inner →
       Stored mid now (inner .free) left₂ ExprIndex 0 (left .free + 1) (inner .free + 1) → Postfix (inner .at + 1) left₂ r → IndexAt codes own now left r
   index-stored {left₂} {r} inner c i s x =
       let b = there codes (inner .at) 38 c (omega arith) in
@@ -492,12 +493,12 @@ module _ {codes own now : List ℕ} (left : Parsed) (ready : Ready codes own (le
 
 -- ---- behind a dot
 
-dotted-by : (codes : List ℕ) (left : Parsed) → anyAbove 45 codes ≡ false → (P : Out (Expr one) → Type 0) (g : ℕ) (e : Expr one) (x : AfterDot) → afterDotBy (getD codes (left .at + 1) 46) ≡ x →
+dotted-by : (codes : List ℕ) (left : Parsed) → anyAbove lastCode codes ≡ false → (P : Out (Expr one) → Type 0) (g : ℕ) (e : Expr one) (x : AfterDot) → afterDotBy (getD codes (left .at + 1) listEnd) ≡ x →
     P (dotBy g e (from codes (left .at + 1)) x) → P (dotBy g e (from codes (left .at + 1)) (afterDot (from codes (left .at + 1))))
 dotted-by codes left known P g e x q p = subst (λ y. P (dotBy g e (from codes (left .at + 1)) y)) (sym (after-dot-at codes (left .at + 1) known ∙ q)) p
 
 module _ {codes own now : List ℕ} (left : Parsed) (ready : Ready codes own (left .at) (left .free)) where
-  pub dot-named : {r : Parsed} → afterDotBy (getD codes (left .at + 1) 46) ≡ aMember byName → NamedAt codes own now left r → DotAt codes own now left r
+  pub dot-named : {r : Parsed} → afterDotBy (getD codes (left .at + 1) listEnd) ≡ aMember byName → NamedAt codes own now left r → DotAt codes own now left r
   dot-named {r} q s =
       record {
         past = s .past;
@@ -507,7 +508,7 @@ module _ {codes own now : List ℕ} (left : Parsed) (ready : Ready codes own (le
             (subst (λ ts. Tells (IsExpr now r) codes (r .at) (memberBy g e byName ts (isFirst LeftParen ts))) (sym (tail-from-next codes (left .at))) (s .tells e y g h));
       }
 
-  pub dot-member : {form detail : ℕ} {r : Parsed} (m : Member) → isByName m ≡ false → afterDotBy (getD codes (left .at + 1) 46) ≡ aMember m → label form detail ≡ memberLabel m →
+  pub dot-member : {form detail : ℕ} {r : Parsed} (m : Member) → isByName m ≡ false → afterDotBy (getD codes (left .at + 1) listEnd) ≡ aMember m → label form detail ≡ memberLabel m →
       MemberAt codes own now left form detail false r → DotAt codes own now left r
   dot-member {form} {detail} {r} m b q l s =
       record {
@@ -519,7 +520,7 @@ module _ {codes own now : List ℕ} (left : Parsed) (ready : Ready codes own (le
             (subst (λ z. Tells (IsExpr now r) codes (r .at) (memberBy g e m (from codes (left .at + 2)) (z && isFirst LeftParen (from codes (left .at + 2))))) (sym b) (s .tells e y m l (sym b))));
       }
 
-  pub dot-none : {r : Parsed} → afterDotBy (getD codes (left .at + 1) 46) ≡ noMember → r .at ≡ length codes + 1 → DotAt codes own now left r
+  pub dot-none : {r : Parsed} → afterDotBy (getD codes (left .at + 1) listEnd) ≡ noMember → r .at ≡ length codes + 1 → DotAt codes own now left r
   dot-none {r} q z =
       record {
         past = λ h. absurd (omega arith);
@@ -527,7 +528,7 @@ module _ {codes own now : List ℕ} (left : Parsed) (ready : Ready codes own (le
         tells = λ e y g h. dotted-by codes left (ready .known) (Tells (IsExpr now r) codes (r .at)) g e noMember q (omega arith);
       }
 
-  pub named-member : {form detail : ℕ} {r : Parsed} → (getD codes (left .at + 2) 46 ≡ 35 → ⊥) → label form detail ≡ memberLabel byName → MemberAt codes own now left form detail true r → NamedAt codes own now left r
+  pub named-member : {form detail : ℕ} {r : Parsed} → (getD codes (left .at + 2) listEnd ≡ 35 → ⊥) → label form detail ≡ memberLabel byName → MemberAt codes own now left form detail true r → NamedAt codes own now left r
   named-member {form} {detail} {r} n l s =
       record {
         past = λ h. s .past;
@@ -536,7 +537,7 @@ module _ {codes own now : List ℕ} (left : Parsed) (ready : Ready codes own (le
             subst (λ z. Tells (IsExpr now r) codes (r .at) (memberBy g e byName (from codes (left .at + 2)) z)) (sym (first-other LeftParen codes (left .at + 2) (ready .known) n)) (s .tells e y byName l refl);
       }
 
-  pub named-call : {r : Parsed} → getD codes (left .at + 2) 46 ≡ 35 → CallAt codes own now (left .at + 2) (left .free) ExprMethodCall r → NamedAt codes own now left r
+  pub named-call : {r : Parsed} → getD codes (left .at + 2) listEnd ≡ 35 → CallAt codes own now (left .at + 2) (left .free) ExprMethodCall r → NamedAt codes own now left r
   named-call {r} c s =
       record {
         past = λ h. omega (arith, s .past h);
@@ -571,7 +572,7 @@ called-strong {form} {at} {left} {now} {r} a l e c x p =
     is-strong x now e (sym (c .strong)) (sym (c .type-last)) (sym (c .name-last)) (subst (λ t. Placed now left (left + 1) t) (sym (c .tree)) p)
 
 module _ {codes own now : List ℕ} {at free form : ℕ} (ready : Ready codes own at free) (here : at < length codes) where
-  pub call-empty : {left : ℕ} {r : Parsed} → getD codes (at + 1) 46 ≡ 36 → Stored own now free left form 0 (free + 1) 0 → Postfix (at + 2) left r → CallAt codes own now at free form r
+  pub call-empty : {left : ℕ} {r : Parsed} → getD codes (at + 1) listEnd ≡ 36 → Stored own now free left form 0 (free + 1) 0 → Postfix (at + 2) left r → CallAt codes own now at free form r
   call-empty {left} {r} c s x =
       let b = there codes (at + 1) 36 c (omega arith) in
       record {
@@ -584,7 +585,7 @@ module _ {codes own now : List ℕ} {at free form : ℕ} (ready : Ready codes ow
             (called-strong a noArguments (whole noArguments) (k noArguments) x (placed a none (label form 0) s refl (ready .most) p refl))));
       }
 
-  pub call-none : {t : Piece} {mid : List ℕ} {r : Parsed} → (getD codes (at + 1) 46 ≡ 36 → ⊥) → length codes < t .at → ArgumentsAt codes own mid (at + 1) free t → r .at ≡ length codes + 1 → CallAt codes own now at free form r
+  pub call-none : {t : Piece} {mid : List ℕ} {r : Parsed} → (getD codes (at + 1) listEnd ≡ 36 → ⊥) → length codes < t .at → ArgumentsAt codes own mid (at + 1) free t → r .at ≡ length codes + 1 → CallAt codes own now at free form r
   call-none {t} {mid} {r} n h i z =
       record {
         past = λ q. absurd (omega arith);
@@ -594,7 +595,7 @@ module _ {codes own now : List ℕ} {at free form : ℕ} (ready : Ready codes ow
             (arguments-items (IsArguments mid t) (λ l. Unit {0}) codes (at + 1) (t .at) g (omega arith) (omega arith) (first-other RightParen codes (at + 1) (ready .known) n) (i .tells) (λ l y. tt));
       }
 
-  pub call-stored : {mid : List ℕ} {left : ℕ} {r : Parsed} (t : Piece) → (getD codes (at + 1) 46 ≡ 36 → ⊥) → t .at ≤ length codes → ArgumentsAt codes own mid (at + 1) free t →
+  pub call-stored : {mid : List ℕ} {left : ℕ} {r : Parsed} (t : Piece) → (getD codes (at + 1) listEnd ≡ 36 → ⊥) → t .at ≤ length codes → ArgumentsAt codes own mid (at + 1) free t →
       Stored mid now (t .free) left form 0 (free + 1) (t .free + 1) → Postfix (t .at) left r → CallAt codes own now at free form r
   call-stored {mid} {left} {r} t n h i s x =
       let w = i .grew h in
@@ -632,7 +633,7 @@ module _ {codes own mid : List ℕ} {at free : ℕ} (ready : Ready codes own at 
       subst (λ x. Tells Be codes to (argumentsStep g a (from codes (first .at)) x (isFirst Comma (from codes (first .at))))) (sym p)
       (subst (λ x. Tells Be codes to (argumentsStep g a (from codes (first .at)) last x)) (sym q) (k g (omega arith) a z y)))
 
-  pub arguments-last : {now : List ℕ} {left : ℕ} → getD codes (first .at) 46 ≡ 36 → Stored mid now (first .free) left Link 0 (first .free + 1) 0 →
+  pub arguments-last : {now : List ℕ} {left : ℕ} → getD codes (first .at) listEnd ≡ 36 → Stored mid now (first .free) left Link 0 (first .free + 1) 0 →
       ArgumentsAt codes own now at free (record { at = first .at + 1; free = left; named = false })
   arguments-last {now} {left} e s =
       let b = there codes (first .at) 36 e (omega arith) in
@@ -643,7 +644,7 @@ module _ {codes own mid : List ℕ} {at free : ℕ} (ready : Ready codes own at 
             (λ g q t z y. (omega arith, tail-from codes (first .at), record { placed = placed (treeOf (bare t)) none (label Link 0) s refl (omega (arith, ready .most, w .less)) (y .placed) refl }));
       }
 
-  pub arguments-none : {now : List ℕ} {r : Piece} → (getD codes (first .at) 46 ≡ 36 → ⊥) → (getD codes (first .at) 46 ≡ 39 → ⊥) → r .at ≡ length codes + 1 → ArgumentsAt codes own now at free r
+  pub arguments-none : {now : List ℕ} {r : Piece} → (getD codes (first .at) listEnd ≡ 36 → ⊥) → (getD codes (first .at) listEnd ≡ 39 → ⊥) → r .at ≡ length codes + 1 → ArgumentsAt codes own now at free r
   arguments-none {now} {r} n m z =
       record {
         grew = λ q. absurd (omega arith);
@@ -651,7 +652,7 @@ module _ {codes own mid : List ℕ} {at free : ℕ} (ready : Ready codes own at 
             (λ g q t x y. omega arith);
       }
 
-  pub arguments-more-none : {now : List ℕ} {r : Piece} → (getD codes (first .at) 46 ≡ 36 → ⊥) → getD codes (first .at) 46 ≡ 39 → length codes < r .at →
+  pub arguments-more-none : {now : List ℕ} {r : Piece} → (getD codes (first .at) listEnd ≡ 36 → ⊥) → getD codes (first .at) listEnd ≡ 39 → length codes < r .at →
       ArgumentsAt codes mid now (first .at + 1) (first .free) r → ArgumentsAt codes own now at free r
   arguments-more-none {now} {r} n m h j =
       let b = there codes (first .at) 39 m (omega arith) in
@@ -664,7 +665,7 @@ module _ {codes own mid : List ℕ} {at free : ℕ} (ready : Ready codes own at 
             (tells-none (IsArguments now r) (IsArguments now r) codes (r .at) (r .at) (someArgumentsBy g (from codes (first .at + 1))) (λ l z. ok (moreArguments t l) z) h h (j .tells g (omega (arith, w .upto)))));
       }
 
-  pub arguments-more : {mid₂ now : List ℕ} {left : ℕ} (r : Piece) → (getD codes (first .at) 46 ≡ 36 → ⊥) → getD codes (first .at) 46 ≡ 39 → r .at ≤ length codes →
+  pub arguments-more : {mid₂ now : List ℕ} {left : ℕ} (r : Piece) → (getD codes (first .at) listEnd ≡ 36 → ⊥) → getD codes (first .at) listEnd ≡ 39 → r .at ≤ length codes →
       ArgumentsAt codes mid mid₂ (first .at + 1) (first .free) r → Stored mid₂ now (r .free) left Link 0 (first .free + 1) (r .free + 1) →
       ArgumentsAt codes own now at free (record { at = r .at; free = left; named = false })
   arguments-more {mid₂} {now} {left} r n m h j s =

@@ -5,6 +5,7 @@ use Prim.Native.Nat.{ℕ, zero, suc, _+_, _*_, _-_, _≤_, _<_}
 use native.Mathlib.Omega.{arith}
 use lib.ListN.{length, getD, set, length-set}
 use lib.Seq.{getD-set-same, getD-set-other}
+use Rattle.tree.specs.Sizes.{nodeCells, mostTokens}
 use Rattle.tree.specs.Table.{cellAt, firstAt, secondAt}
 use Rattle.tree.specs.Trees.{Label, Tree, none, node, labelAt, operandOf, treeAt}
 use Rattle.tree.proofs.Unfold.{operand-in, operand-zero, tree-zero, unfolds}
@@ -17,7 +18,7 @@ use Rattle.token_reader.specs.Pieces.{Kept, Placed, Stored, Grew}
 abbrev put : List ℕ → ℕ → ℕ → ℕ → ℕ → ℕ → List ℕ
 put own n form detail first second = set (set (set (set (set own n form) (n + 1) 0) (n + 2) detail) (n + 3) first) (n + 4) second
 
-module _ (own : List ℕ) (n form detail first second : ℕ) (h : n + 5 ≤ length own) where
+module _ (own : List ℕ) (n form detail first second : ℕ) (h : n + nodeCells ≤ length own) where
   abbrev one : List ℕ
   one = set own n form
 
@@ -36,7 +37,7 @@ module _ (own : List ℕ) (n form detail first second : ℕ) (h : n + 5 ≤ leng
   length-put : length five ≡ length own
   length-put = simp length-set
 
-  put-other : (j : ℕ) → n + 5 ≤ j → getD five j 0 ≡ getD own j 0
+  put-other : (j : ℕ) → n + nodeCells ≤ j → getD five j 0 ≡ getD own j 0
   put-other j k =
       getD-set-other four (n + 4) j second 0 (λ e. omega arith)
       ∙ getD-set-other three (n + 3) j first 0 (λ e. omega arith)
@@ -76,24 +77,24 @@ module _ (own : List ℕ) (n form detail first second : ℕ) (h : n + 5 ≤ leng
   label-put : (a b c : ℕ) → a ≡ form → b ≡ 0 → c ≡ detail → _≡_ {A = Label} (record { form = a; attributes = b; detail = c }) (label form detail)
   label-put a b c p q r = rw (p, q, r)
 
-stored-at : (own : List ℕ) (m form detail first second : ℕ) → 5 * m + 5 ≤ length own → Stored own (put own (5 * m) form detail first second) (suc m) m form detail first second
+stored-at : (own : List ℕ) (m form detail first second : ℕ) → nodeCells * m + nodeCells ≤ length own → Stored own (put own (nodeCells * m) form detail first second) (suc m) m form detail first second
 unfolding cellAt labelAt
 stored-at own m form detail first second l =
     record {
       fewer = omega arith;
-      kept = λ j g. put-other own (5 * m) form detail first second l j (omega arith);
-      same = length-put own (5 * m) form detail first second l;
+      kept = λ j g. put-other own (nodeCells * m) form detail first second l j (omega arith);
+      same = length-put own (nodeCells * m) form detail first second l;
       labelled =
-          label-put own (5 * m) form detail first second l _ _ _ (put-0 own (5 * m) form detail first second l) (put-1 own (5 * m) form detail first second l) (put-2 own (5 * m) form detail first second l);
-      to-first = put-3 own (5 * m) form detail first second l;
-      to-second = put-4 own (5 * m) form detail first second l;
+          label-put own (nodeCells * m) form detail first second l _ _ _ (put-0 own (nodeCells * m) form detail first second l) (put-1 own (nodeCells * m) form detail first second l) (put-2 own (nodeCells * m) form detail first second l);
+      to-first = put-3 own (nodeCells * m) form detail first second l;
+      to-second = put-4 own (nodeCells * m) form detail first second l;
     }
 
-pub stored : (own : List ℕ) (free form detail first second : ℕ) → 1 ≤ free → 5 * free ≤ length own →
-    Stored own (put own (5 * (free - 1)) form detail first second) free (free - 1) form detail first second
+pub stored : (own : List ℕ) (free form detail first second : ℕ) → 1 ≤ free → nodeCells * free ≤ length own →
+    Stored own (put own (nodeCells * (free - 1)) form detail first second) free (free - 1) form detail first second
 stored own zero form detail first second h k = absurd (omega arith)
 stored own (suc m) form detail first second h k =
-    subst (λ n. Stored own (put own (5 * n) form detail first second) (suc m) n form detail first second)
+    subst (λ n. Stored own (put own (nodeCells * n) form detail first second) (suc m) n form detail first second)
     (let e : m ≡ suc m - 1 = omega arith in e)
     (stored-at own m form detail first second (omega arith))
 
@@ -103,7 +104,7 @@ stored own (suc m) form detail first second h k =
 kept-cell : (own now : List ℕ) (free i k : ℕ) → Kept own now free → free < i → cellAt now i k ≡ cellAt own i k
 unfolding cellAt
 kept-cell own now free zero k h g = refl
-kept-cell own now free (suc i) k h g = h (5 * i + k) (omega arith)
+kept-cell own now free (suc i) k h g = h (nodeCells * i + k) (omega arith)
 
 pub carried : (own now : List ℕ) (free low i : ℕ) (t : Tree) → Kept own now free → free ≤ low → Placed own low i t → Placed now low i t
 unfolding labelAt
@@ -123,7 +124,7 @@ lower own low to i (node l a b) h p = (omega (arith, p .0), p .1, p .2, p .3, p 
 
 -- a node whose operands are placed above it
 pub placed : {own now : List ℕ} {free left form detail first second : ℕ} (a b : Tree) (l : Label) → Stored own now free left form detail first second → label form detail ≡ l →
-    free ≤ 24576 → Placed own free first a → Placed own free second b → Placed now left (left + 1) (node l a b)
+    free ≤ mostTokens → Placed own free first a → Placed own free second b → Placed now left (left + 1) (node l a b)
 placed {own} {now} {free} {left} a b l s e h p q =
     subst (λ i. Placed now left i (node l a b)) (sym (s .fewer)) (
       omega (arith, s .fewer),
@@ -135,17 +136,17 @@ placed {own} {now} {free} {left} a b l s e h p q =
 
 -- ---- the tree that the table stands for
 
-placed-operand : (own : List ℕ) (low i : ℕ) (t : Tree) → Placed own low i t → treeAt own 24576 (operandOf 24576 low i) ≡ t
-placed-operand own low i none p = rw (p, operand-zero 24576 low) (tree-zero own 24576)
+placed-operand : (own : List ℕ) (low i : ℕ) (t : Tree) → Placed own low i t → treeAt own mostTokens (operandOf mostTokens low i) ≡ t
+placed-operand own low i none p = rw (p, operand-zero mostTokens low) (tree-zero own mostTokens)
 placed-operand own low i (node l a b) p =
-    rw (operand-in 24576 low i (p .0) (p .1))
-    (unfolds own 24576 i (omega (arith, p .0)) (p .1)
+    rw (operand-in mostTokens low i (p .0) (p .1))
+    (unfolds own mostTokens i (omega (arith, p .0)) (p .1)
     ∙ rw (p .2, placed-operand own i (firstAt own i) a (p .3), placed-operand own i (secondAt own i) b (p .4)))
 
-pub placed-tree : (own : List ℕ) (low i : ℕ) (t : Tree) → 1 ≤ i → Placed own low i t → treeAt own 24576 i ≡ t
+pub placed-tree : (own : List ℕ) (low i : ℕ) (t : Tree) → 1 ≤ i → Placed own low i t → treeAt own mostTokens i ≡ t
 placed-tree own low i none h p = absurd (omega arith)
 placed-tree own low i (node l a b) h p =
-    subst (λ o. treeAt own 24576 o ≡ node l a b) (operand-in 24576 low i (p .0) (p .1)) (placed-operand own low i (node l a b) p)
+    subst (λ o. treeAt own mostTokens o ≡ node l a b) (operand-in mostTokens low i (p .0) (p .1)) (placed-operand own low i (node l a b) p)
 
 -- ---- how far reading came
 

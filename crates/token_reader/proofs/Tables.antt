@@ -2,13 +2,14 @@
 use mathlib.Core.Path.{_≡_, refl, sym, ap, ap₂, _∙_}
 use mathlib.Core.Bool.{Bool, true, false, not, _&&_, _||_}
 use mathlib.Core.List.{[], _∷_}
-use Prim.Native.Nat.{ℕ, _≤_, _<_}
+use Prim.Native.Nat.{ℕ, _+_, _≤_, _<_}
 use native.Mathlib.Omega.{arith}
 use lib.Dec.{T, eqb, leb, ltb, eqb→eq, leb→le}
 use borrow.Author.Tests.{le-leb, ne-eqb, le-ltb}
 use Rattle.laws.specs.Choice.{pick, lookup, isOneOf}
 use Rattle.laws.proofs.Choice.{of-true, and-true, alike, alike-same}
 use Rattle.laws.proofs.Each.{all-at}
+use Rattle.tree.specs.Sizes.{listEnd}
 use Rattle.tree.specs.Forms.{ExprAssign, ExprBinary}
 use Rattle.token_grammar.specs.Tokens.{number, operator, operatorOf}
 use Rattle.token_grammar.specs.Codes.{tokenOf}
@@ -84,7 +85,7 @@ stops-not least e h q = go (leb least 0) refl q
     go false k r = let z : _≡_ {A = ℕ} 0 1 = cc in omega arith
 
 -- nor with the code that stands for the end
-pub past-goes : (least strength : ℕ) (t d : Bool) → 1 ≤ least → goesOnWith least strength t d 46 ≡ true → ⊥
+pub past-goes : (least strength : ℕ) (t d : Bool) → 1 ≤ least → goesOnWith least strength t d listEnd ≡ true → ⊥
 unfolding goesOnBy tokenOf
 past-goes least strength t d h q = absurd (omega (arith, leb→le least 0 (of-true (and-true (leb least 0) _ q .0))))
 
@@ -107,11 +108,11 @@ stop-is calls t = absurd t
 stop-is indexes t = absurd t
 stop-is tries t = absurd t
 
-pub others-stop : (n : ℕ) → n < 47 → 29 ≤ n → isOneOf (31 ∷ 34 ∷ 35 ∷ 37 ∷ 40 ∷ []) n ≡ false → nextOf (tokenOf n) ≡ stops
+pub others-stop : (n : ℕ) → n < listEnd + 1 → 29 ≤ n → isOneOf (31 ∷ 34 ∷ 35 ∷ 37 ∷ 40 ∷ []) n ≡ false → nextOf (tokenOf n) ≡ stops
 unfolding tokenOf
 others-stop n h k e =
     stop-is (nextOf (tokenOf n))
-    (rw (le-ltb n 29 k, e) at (all-at (λ m. ltb m 29 || (isOneOf (31 ∷ 34 ∷ 35 ∷ 37 ∷ 40 ∷ []) m || isStop (nextOf (tokenOf m)))) 47 tt n h))
+    (rw (le-ltb n 29 k, e) at (all-at (λ m. ltb m 29 || (isOneOf (31 ∷ 34 ∷ 35 ∷ 37 ∷ 40 ∷ []) m || isStop (nextOf (tokenOf m)))) (listEnd + 1) tt n h))
 
 -- what the reader's last arm knows of a code
 pub no-form : (n : ℕ) → (n ≡ 31 → ⊥) → (n ≡ 34 → ⊥) → (n ≡ 35 → ⊥) → (n ≡ 37 → ⊥) → (n ≡ 40 → ⊥) → isOneOf (31 ∷ 34 ∷ 35 ∷ 37 ∷ 40 ∷ []) n ≡ false

@@ -2,9 +2,10 @@
 use mathlib.Core.Path.{_≡_, sym, subst, _∙_}
 use mathlib.Core.Bool.{false}
 use mathlib.Core.List.{List}
-use Prim.Native.Nat.{ℕ, _≤_, _<_}
+use Prim.Native.Nat.{ℕ, _*_, _≤_, _<_}
 use native.Mathlib.Omega.{arith}
 use lib.ListN.{length}
+use Rattle.tree.specs.Sizes.{nodeCells, mostTokens, lastCode}
 use Rattle.token_grammar.specs.Tokens.{Token}
 use Rattle.token_grammar.specs.Parser.{Out, fail, ok, then}
 use Rattle.token_reader.specs.Reading.{anyAbove}
@@ -30,7 +31,7 @@ tells-then Is Be codes to to₂ (ok a rest) k t g f = subst (λ q. Tells Be code
 
 -- ---- where reading can go on
 
-pub ready-start : (codes own : List ℕ) → length codes ≤ 24576 → anyAbove 45 codes ≡ false → length own ≡ 122880 → Ready codes own 0 24576
+pub ready-start : (codes own : List ℕ) → length codes ≤ mostTokens → anyAbove lastCode codes ≡ false → length own ≡ nodeCells * mostTokens → Ready codes own 0 mostTokens
 ready-start codes own h k e = record { short = h; known = k; cells = e; room = omega arith; most = omega arith; within = omega arith }
 
 pub ready-on : {codes own : List ℕ} {at free : ℕ} (to : ℕ) → at ≤ to → to ≤ length codes → Ready codes own at free → Ready codes own to free

@@ -5,6 +5,7 @@ use mathlib.Core.List.{List}
 use Prim.Native.Nat.{ℕ, zero, suc, _+_, _≤_, _<_}
 use native.Mathlib.Omega.{arith}
 use lib.ListN.{length, getD}
+use Rattle.tree.specs.Sizes.{listEnd}
 use Rattle.tree.specs.Forms.{TypePath, Link}
 use Rattle.tree.specs.Trees.{none}
 use Rattle.token_grammar.specs.Tokens.{Token, operator, Lt, Gt, Comma}
@@ -55,7 +56,7 @@ module _ {codes own now : List ℕ} {at free : ℕ} (ready : Ready codes own at 
         tells = λ x e. (omega arith, refl, record { ends = refl; placed = placed none none (typeSignLabel x) s e (ready .most) refl refl });
       }
 
-  pub type-sign : {form : ℕ} {r : Piece} (x : TypeSign) → at < length codes → typeStartBy (getD codes at 46) ≡ aSign x → label form 0 ≡ typeSignLabel x →
+  pub type-sign : {form : ℕ} {r : Piece} (x : TypeSign) → at < length codes → typeStartBy (getD codes at listEnd) ≡ aSign x → label form 0 ≡ typeSignLabel x →
       SignAt codes own now at free form r → TypeAt codes own now at free r
   type-sign {form} {r} x h e l s =
       record {
@@ -63,7 +64,7 @@ module _ {codes own now : List ℕ} {at free : ℕ} (ready : Ready codes own at 
         tells = begins (IsType now r) codes at (r .at) (aSign x) h (type-start-at codes at (ready .known) ∙ e) (λ g q. rw (tail-from codes at) (s .tells x l));
       }
 
-  pub type-pointing : {form detail : ℕ} {r : Piece} (p : TypePrefix) → at < length codes → typeStartBy (getD codes at 46) ≡ aTypePrefix p → label form detail ≡ typePrefixLabel p →
+  pub type-pointing : {form detail : ℕ} {r : Piece} (p : TypePrefix) → at < length codes → typeStartBy (getD codes at listEnd) ≡ aTypePrefix p → label form detail ≡ typePrefixLabel p →
       PointingAt codes own now at free form detail r → TypeAt codes own now at free r
   type-pointing {form} {detail} {r} p h e l s =
       record {
@@ -71,14 +72,14 @@ module _ {codes own now : List ℕ} {at free : ℕ} (ready : Ready codes own at 
         tells = begins (IsType now r) codes at (r .at) (aTypePrefix p) h (type-start-at codes at (ready .known) ∙ e) (λ g q. rw (tail-from codes at) (s .tells p l g (omega arith)));
       }
 
-  pub type-path : {r : Piece} → at < length codes → typeStartBy (getD codes at 46) ≡ aName → PathAt codes own now at free r → TypeAt codes own now at free r
+  pub type-path : {r : Piece} → at < length codes → typeStartBy (getD codes at listEnd) ≡ aName → PathAt codes own now at free r → TypeAt codes own now at free r
   type-path {r} h e s =
       record {
         grew = s .grew;
         tells = begins (IsType now r) codes at (r .at) aName h (type-start-at codes at (ready .known) ∙ e) (λ g q. rw (tail-from codes at) (s .tells g (omega arith)));
       }
 
-  pub type-none : {r : Piece} → typeStartBy (getD codes at 46) ≡ noType → r .at ≡ length codes + 1 → TypeAt codes own now at free r
+  pub type-none : {r : Piece} → typeStartBy (getD codes at listEnd) ≡ noType → r .at ≡ length codes + 1 → TypeAt codes own now at free r
   type-none {r} e z =
       record {
         grew = λ q. absurd (omega arith);
@@ -129,7 +130,7 @@ types-items Is Be codes at to (suc g) h q e t k =
     (tells-then Is Be codes to to (someTypesBy g (from codes at)) (λ l r. ok (types l) r) (t g (omega arith)) (λ z. z) (λ l z y. (z, refl, k l y)))
 
 module _ {codes own now : List ℕ} {at free : ℕ} (ready : Ready codes own at free) (here : at < length codes) where
-  pub path-named : {left : ℕ} → (getD codes (at + 1) 46 ≡ 13 → ⊥) → Stored own now free left TypePath 1 0 0 → PathAt codes own now at free (record { at = at + 1; free = left; named = true })
+  pub path-named : {left : ℕ} → (getD codes (at + 1) listEnd ≡ 13 → ⊥) → Stored own now free left TypePath 1 0 0 → PathAt codes own now at free (record { at = at + 1; free = left; named = true })
   path-named n s =
       record {
         grew = λ q. grew-node at (at + 1) (omega arith) (omega arith) (grew-none own at free at (omega arith)) s;
@@ -138,7 +139,7 @@ module _ {codes own now : List ℕ} {at free : ℕ} (ready : Ready codes own at 
             (omega arith, refl, record { ends = refl; placed = placed none none (label TypePath 1) s refl (ready .most) refl refl });
       }
 
-  pub path-empty : {left : ℕ} → getD codes (at + 1) 46 ≡ 13 → getD codes (at + 2) 46 ≡ 17 → Stored own now free left TypePath 2 0 0 →
+  pub path-empty : {left : ℕ} → getD codes (at + 1) listEnd ≡ 13 → getD codes (at + 2) listEnd ≡ 17 → Stored own now free left TypePath 2 0 0 →
       PathAt codes own now at free (record { at = at + 3; free = left; named = false })
   path-empty {left} e z s =
       let b = there codes (at + 2) 17 z (omega arith) in
@@ -152,7 +153,7 @@ module _ {codes own now : List ℕ} {at free : ℕ} (ready : Ready codes own at 
             (omega arith, ap (from codes) (let p : at + 2 + 1 ≡ at + 3 = omega arith in p), record { ends = refl; placed = placed none none (label TypePath 2) s refl (ready .most) refl refl });
       }
 
-  pub path-none : {r : Piece} → getD codes (at + 1) 46 ≡ 13 → (getD codes (at + 2) 46 ≡ 17 → ⊥) → length codes < r .at → TypesAt codes own now (at + 2) free r → PathAt codes own now at free r
+  pub path-none : {r : Piece} → getD codes (at + 1) listEnd ≡ 13 → (getD codes (at + 2) listEnd ≡ 17 → ⊥) → length codes < r .at → TypesAt codes own now (at + 2) free r → PathAt codes own now at free r
   path-none {r} e n h i =
       let b = there codes (at + 1) 13 e (omega arith) in
       record {
@@ -168,7 +169,7 @@ pub record Listed (mid : List ℕ) (r : Piece) (l : Ty list) : Type 0 where
   pub placed : Placed mid (r .free) (r .free + 1) (treeOfType l)
 
 module _ {codes own mid now : List ℕ} {at free : ℕ} (ready : Ready codes own at free) where
-  pub path-stored : {left : ℕ} (r : Piece) → getD codes (at + 1) 46 ≡ 13 → (getD codes (at + 2) 46 ≡ 17 → ⊥) → r .at ≤ length codes → TypesAt codes own mid (at + 2) free r →
+  pub path-stored : {left : ℕ} (r : Piece) → getD codes (at + 1) listEnd ≡ 13 → (getD codes (at + 2) listEnd ≡ 17 → ⊥) → r .at ≤ length codes → TypesAt codes own mid (at + 2) free r →
       Stored mid now (r .free) left TypePath 2 0 (r .free + 1) → PathAt codes own now at free (record { at = r .at; free = left; named = false })
   path-stored {left} r e n h i s =
       let b = there codes (at + 1) 13 e (omega arith) in
@@ -204,7 +205,7 @@ module _ {codes own mid : List ℕ} {at free : ℕ} (ready : Ready codes own at 
       subst (λ x. Tells Be codes to (typesStep g t (from codes (first .at)) x (isFirst Comma (from codes (first .at))))) (sym p)
       (subst (λ x. Tells Be codes to (typesStep g t (from codes (first .at)) last x)) (sym q) (k g (omega arith) t z y)))
 
-  pub types-last : {now : List ℕ} {left : ℕ} → getD codes (first .at) 46 ≡ 17 → Stored mid now (first .free) left Link 0 (first .free + 1) 0 →
+  pub types-last : {now : List ℕ} {left : ℕ} → getD codes (first .at) listEnd ≡ 17 → Stored mid now (first .free) left Link 0 (first .free + 1) 0 →
       TypesAt codes own now at free (record { at = first .at + 1; free = left; named = false })
   types-last {now} {left} e s =
       let b = there codes (first .at) 17 e (omega arith) in
@@ -215,7 +216,7 @@ module _ {codes own mid : List ℕ} {at free : ℕ} (ready : Ready codes own at 
             (λ g q t z y. (omega arith, tail-from codes (first .at), record { placed = placed (treeOfType t) none (label Link 0) s refl (omega (arith, ready .most, w .less)) (y .placed) refl }));
       }
 
-  pub types-none : {now : List ℕ} {r : Piece} → (getD codes (first .at) 46 ≡ 17 → ⊥) → (getD codes (first .at) 46 ≡ 39 → ⊥) → r .at ≡ length codes + 1 → TypesAt codes own now at free r
+  pub types-none : {now : List ℕ} {r : Piece} → (getD codes (first .at) listEnd ≡ 17 → ⊥) → (getD codes (first .at) listEnd ≡ 39 → ⊥) → r .at ≡ length codes + 1 → TypesAt codes own now at free r
   types-none {now} {r} n m z =
       record {
         grew = λ q. absurd (omega arith);
@@ -223,7 +224,7 @@ module _ {codes own mid : List ℕ} {at free : ℕ} (ready : Ready codes own at 
             (λ g q t x y. omega arith);
       }
 
-  pub types-more-none : {now : List ℕ} {r : Piece} → (getD codes (first .at) 46 ≡ 17 → ⊥) → getD codes (first .at) 46 ≡ 39 → length codes < r .at →
+  pub types-more-none : {now : List ℕ} {r : Piece} → (getD codes (first .at) listEnd ≡ 17 → ⊥) → getD codes (first .at) listEnd ≡ 39 → length codes < r .at →
       TypesAt codes mid now (first .at + 1) (first .free) r → TypesAt codes own now at free r
   types-more-none {now} {r} n m h j =
       let b = there codes (first .at) 39 m (omega arith) in
@@ -236,7 +237,7 @@ module _ {codes own mid : List ℕ} {at free : ℕ} (ready : Ready codes own at 
             (tells-none (IsTypes now r) (IsTypes now r) codes (r .at) (r .at) (someTypesBy g (from codes (first .at + 1))) (λ l z. ok (moreTypes t l) z) h h (j .tells g (omega (arith, w .upto)))));
       }
 
-  pub types-more : {mid₂ now : List ℕ} {left : ℕ} (r : Piece) → (getD codes (first .at) 46 ≡ 17 → ⊥) → getD codes (first .at) 46 ≡ 39 → r .at ≤ length codes →
+  pub types-more : {mid₂ now : List ℕ} {left : ℕ} (r : Piece) → (getD codes (first .at) listEnd ≡ 17 → ⊥) → getD codes (first .at) listEnd ≡ 39 → r .at ≤ length codes →
       TypesAt codes mid mid₂ (first .at + 1) (first .free) r → Stored mid₂ now (r .free) left Link 0 (first .free + 1) (r .free + 1) →
       TypesAt codes own now at free (record { at = r .at; free = left; named = false })
   types-more {mid₂} {now} {left} r n m h j s =

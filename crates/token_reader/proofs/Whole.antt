@@ -8,6 +8,7 @@ use lib.ListN.{length, drop, length-drop}
 use borrow.Author.Tests.{ltb-false, lt-ltb, le-ltb}
 use Rattle.laws.specs.Choice.{pick}
 use Rattle.laws.proofs.Choice.{true-not-false, or-false, or-here, or-next}
+use Rattle.tree.specs.Sizes.{nodeCells, mostNodes, mostTokens, lastCode}
 use Rattle.tree.specs.Trees.{Tree, treeAt}
 use Rattle.token_grammar.specs.Tokens.{Token}
 use Rattle.token_grammar.specs.Codes.{tokensOf}
@@ -54,10 +55,10 @@ module _ {codes own now : List ℕ} {free : ℕ} (r : Parsed) (i : ExprAt codes 
       n (left-none (tokensOf codes) (r .at) (omega (arith, length-tokens codes, g .0)) (sym (g .1)) ∙ length-tokens codes)
 
   -- the tree at the node after the free ones
-  pub whole : anyAbove 45 codes ≡ false → r .at ≡ length codes → Reads codes (treeAt now 24576 (r .free + 1))
+  pub whole : anyAbove lastCode codes ≡ false → r .at ≡ length codes → Reads codes (treeAt now mostTokens (r .free + 1))
   whole known e = go (parse NONE (tokensOf codes)) refl tells
     where
-      go : (o : Out (Expr one)) → parse NONE (tokensOf codes) ≡ o → Tells (IsExpr now r) codes (r .at) o → Reads codes (treeAt now 24576 (r .free + 1))
+      go : (o : Out (Expr one)) → parse NONE (tokensOf codes) ≡ o → Tells (IsExpr now r) codes (r .at) o → Reads codes (treeAt now mostTokens (r .free + 1))
       go fail q k = absurd (omega arith)
       go (ok x rest) q k =
           let z : rest ≡ [] = k .1 ∙ ap (λ n. drop n (tokensOf codes)) (e ∙ sym (length-tokens codes)) ∙ none-left (tokensOf codes) in
@@ -68,11 +69,11 @@ module _ {codes own now : List ℕ} {free : ℕ} (r : Parsed) (i : ExprAt codes 
 -- ---- replies
 
 -- a table for 4,096 nodes is never too short
-long-enough : (t : Tree) (cells : ℕ) → 20480 ≤ cells → tooLarge t ≡ false → tooShort t cells ≡ false
+long-enough : (t : Tree) (cells : ℕ) → nodeCells * mostNodes ≤ cells → tooLarge t ≡ false → tooShort t cells ≡ false
 unfolding tooLarge tooShort
-long-enough t cells h e = le-ltb cells (5 * size t) (omega (arith, ltb-false 4096 (size t) (or-false _ _ e .0)))
+long-enough t cells h e = le-ltb cells (nodeCells * size t) (omega (arith, ltb-false mostNodes (size t) (or-false _ _ e .0)))
 
-reply : (t : Tree) (cells : ℕ) → 20480 ≤ cells → replyOf (renumbered t cells) ≡ countOrLarge t
+reply : (t : Tree) (cells : ℕ) → nodeCells * mostNodes ≤ cells → replyOf (renumbered t cells) ≡ countOrLarge t
 unfolding replyOf renumbered countOrLarge pick
 reply t cells h = go (tooLarge t) refl
   where
@@ -80,7 +81,7 @@ reply t cells h = go (tooLarge t) refl
     go true e = rw e
     go false e = rw (e, long-enough t cells h e)
 
-after : (t : Tree) (table : List ℕ) → 20480 ≤ length table → renumberedAfter t table ≡ readTable t table
+after : (t : Tree) (table : List ℕ) → nodeCells * mostNodes ≤ length table → renumberedAfter t table ≡ readTable t table
 unfolding renumberedAfter readTable pick
 after t table h = go (tooLarge t) refl
   where
@@ -89,10 +90,10 @@ after t table h = go (tooLarge t) refl
     go false e = rw (e, long-enough t (length table) h e)
 
 module _ (codes table : List ℕ) where
-  pub answers-short : length table < 20480 → Answers codes table (Refused 12) table
+  pub answers-short : length table < nodeCells * mostNodes → Answers codes table (Refused 12) table
   unfolding readRefusal12
   answers-short h =
-      let e = lt-ltb (length table) 20480 h in
+      let e = lt-ltb (length table) (nodeCells * mostNodes) h in
       record {
         short = λ p. (refl, refl);
         unknown = λ p q. true-not-false (sym e ∙ p);
@@ -100,48 +101,48 @@ module _ (codes table : List ℕ) where
         read = λ p q t x. true-not-false (sym e ∙ p);
       }
 
-  answers-unknown : 20480 ≤ length table → refusal14 codes ≡ true → Answers codes table (Refused 14) table
+  answers-unknown : nodeCells * mostNodes ≤ length table → refusal14 codes ≡ true → Answers codes table (Refused 14) table
   unfolding readRefusal12
   answers-unknown h e =
       record {
-        short = λ p. true-not-false (sym p ∙ le-ltb (length table) 20480 h);
+        short = λ p. true-not-false (sym p ∙ le-ltb (length table) (nodeCells * mostNodes) h);
         unknown = λ p q. (refl, refl);
         unread = λ p q n. true-not-false (sym e ∙ q);
         read = λ p q t x. true-not-false (sym e ∙ q);
       }
 
-  pub answers-long : 20480 ≤ length table → 24576 < length codes → Answers codes table (Refused 14) table
+  pub answers-long : nodeCells * mostNodes ≤ length table → mostTokens < length codes → Answers codes table (Refused 14) table
   unfolding refusal14
-  answers-long h k = answers-unknown h (or-here _ (lt-ltb 24576 (length codes) k))
+  answers-long h k = answers-unknown h (or-here _ (lt-ltb mostTokens (length codes) k))
 
-  pub answers-above : 20480 ≤ length table → length codes ≤ 24576 → anyAbove 45 codes ≡ true → Answers codes table (Refused 14) table
+  pub answers-above : nodeCells * mostNodes ≤ length table → length codes ≤ mostTokens → anyAbove lastCode codes ≡ true → Answers codes table (Refused 14) table
   unfolding refusal14
-  answers-above h k e = answers-unknown h (or-next _ (le-ltb 24576 (length codes) k) ∙ e)
+  answers-above h k e = answers-unknown h (or-next _ (le-ltb mostTokens (length codes) k) ∙ e)
 
-  known-fits : length codes ≤ 24576 → anyAbove 45 codes ≡ false → refusal14 codes ≡ false
+  known-fits : length codes ≤ mostTokens → anyAbove lastCode codes ≡ false → refusal14 codes ≡ false
   unfolding refusal14
-  known-fits k e = or-next _ (le-ltb 24576 (length codes) k) ∙ e
+  known-fits k e = or-next _ (le-ltb mostTokens (length codes) k) ∙ e
 
-  pub answers-unread : 20480 ≤ length table → length codes ≤ 24576 → anyAbove 45 codes ≡ false → ((t : Tree) → Reads codes t → ⊥) → Answers codes table (Refused 15) table
+  pub answers-unread : nodeCells * mostNodes ≤ length table → length codes ≤ mostTokens → anyAbove lastCode codes ≡ false → ((t : Tree) → Reads codes t → ⊥) → Answers codes table (Refused 15) table
   unfolding readRefusal12
   answers-unread h k e n =
       record {
-        short = λ p. true-not-false (sym p ∙ le-ltb (length table) 20480 h);
+        short = λ p. true-not-false (sym p ∙ le-ltb (length table) (nodeCells * mostNodes) h);
         unknown = λ p q. true-not-false (sym q ∙ known-fits k e);
         unread = λ p q m. (refl, refl);
         read = λ p q t x. absurd (n t x);
       }
 
-  pub answers-read : {own now out : List ℕ} {free : ℕ} {r : Reply} (x : Parsed) → 20480 ≤ length table → length codes ≤ 24576 → anyAbove 45 codes ≡ false → ExprAt codes own now 0 free 1 x → x .at ≡ length codes →
-      r ≡ replyOf (renumbered (treeAt now 24576 (x .free + 1)) (length table)) → out ≡ renumberedAfter (treeAt now 24576 (x .free + 1)) table → Answers codes table r out
+  pub answers-read : {own now out : List ℕ} {free : ℕ} {r : Reply} (x : Parsed) → nodeCells * mostNodes ≤ length table → length codes ≤ mostTokens → anyAbove lastCode codes ≡ false → ExprAt codes own now 0 free 1 x → x .at ≡ length codes →
+      r ≡ replyOf (renumbered (treeAt now mostTokens (x .free + 1)) (length table)) → out ≡ renumberedAfter (treeAt now mostTokens (x .free + 1)) table → Answers codes table r out
   unfolding readRefusal12
   answers-read {own} {now} {out} {free} {r} x h k e i z p q =
       let w = whole x i e z in
       record {
-        short = λ a. true-not-false (sym a ∙ le-ltb (length table) 20480 h);
+        short = λ a. true-not-false (sym a ∙ le-ltb (length table) (nodeCells * mostNodes) h);
         unknown = λ a b. true-not-false (sym b ∙ known-fits k e);
         unread = λ a b n. absurd (n _ w);
         read = λ a b t y.
-            let s : treeAt now 24576 (x .free + 1) ≡ t = one-reading w y in
+            let s : treeAt now mostTokens (x .free + 1) ≡ t = one-reading w y in
             (p ∙ ap (λ u. replyOf (renumbered u (length table))) s ∙ reply t (length table) h, q ∙ ap (λ u. renumberedAfter u table) s ∙ after t table h);
       }

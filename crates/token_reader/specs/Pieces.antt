@@ -4,6 +4,7 @@ use mathlib.Core.Bool.{Bool, true, false, _&&_}
 use mathlib.Core.List.{List}
 use Prim.Native.Nat.{ℕ, _+_, _*_, _≤_, _<_}
 use lib.ListN.{length, drop, getD}
+use Rattle.tree.specs.Sizes.{nodeCells, mostTokens, lastCode}
 use Rattle.tree.specs.Table.{firstAt, secondAt}
 use Rattle.tree.specs.Trees.{Tree, none, node, labelAt}
 use Rattle.token_grammar.specs.Tokens.{Token, Operator, operator, Lt, LeftParen, RightBracket, RightParen, operatorOf}
@@ -28,12 +29,12 @@ use Rattle.token_reader.specs.declared.piece.Parsed.{Parsed}
 
 -- the nodes that are taken are as they were
 abbrev pub Kept : List ℕ → List ℕ → ℕ → Type 0
-Kept own now free = (j : ℕ) → 5 * free ≤ j → getD now j 0 ≡ getD own j 0
+Kept own now free = (j : ℕ) → nodeCells * free ≤ j → getD now j 0 ≡ getD own j 0
 
 -- number i stands for a tree whose nodes are all above `low`; 0 stands for none
 abbrev pub Placed : List ℕ → ℕ → ℕ → Tree → Type 0
 Placed own low i none = i ≡ 0
-Placed own low i (node l a b) = (low < i) × (i ≤ 24576) × (labelAt own i ≡ l) × Placed own i (firstAt own i) a × Placed own i (secondAt own i) b
+Placed own low i (node l a b) = (low < i) × (i ≤ mostTokens) × (labelAt own i ≡ l) × Placed own i (firstAt own i) a × Placed own i (secondAt own i) b
 
 -- the last free node is taken
 pub record Stored (own now : List ℕ) (free left form detail first second : ℕ) : Type 0 where
@@ -46,11 +47,11 @@ pub record Stored (own now : List ℕ) (free left form detail first second : ℕ
 
 -- where reading goes on: there are no fewer free nodes than unread tokens
 pub record Ready (codes own : List ℕ) (at free : ℕ) : Type 0 where
-  pub short : length codes ≤ 24576
-  pub known : anyAbove 45 codes ≡ false
-  pub cells : length own ≡ 122880
-  pub room : 24576 ≤ at + free
-  pub most : free ≤ 24576
+  pub short : length codes ≤ mostTokens
+  pub known : anyAbove lastCode codes ≡ false
+  pub cells : length own ≡ nodeCells * mostTokens
+  pub room : mostTokens ≤ at + free
+  pub most : free ≤ mostTokens
   pub within : at ≤ length codes
 
 -- tokens were read, and no more nodes taken

@@ -7,6 +7,7 @@ use lib.Dec.{ltb}
 use lib.ListN.{length}
 use Rattle.laws.specs.Choice.{pick}
 use Rattle.laws.specs.Lists.{over}
+use Rattle.tree.specs.Sizes.{nodeCells, mostNodes, mostTokens, lastCode}
 use Rattle.tree.specs.Trees.{Tree}
 use Rattle.tree_numbering.specs.Numbered.{size, numbered, tooLarge}
 use Rattle.token_plain.specs.Reads.{Reads}
@@ -15,7 +16,7 @@ use Rattle.token_reader.specs.declared.Reply.the-variants.{Refused, Node
 
 -- 12. "A lent buffer is too short: .. a table of 4,096 nodes for the token reader." `lent` is the table's length
 unfoldable pub readRefusal12 : ℕ → Bool
-readRefusal12 lent = ltb lent (5 * 4096)
+readRefusal12 lent = ltb lent (nodeCells * mostNodes)
 
 -- 14. "A token list is longer than 24,576 or holds a code above 45."
 unfoldable pub anyAbove : ℕ → List ℕ → Bool
@@ -23,7 +24,7 @@ anyAbove most [] = false
 anyAbove most (n ∷ ns) = ltb most n || anyAbove most ns
 
 unfoldable pub refusal14 : List ℕ → Bool
-refusal14 codes = ltb 24576 (length codes) || anyAbove 45 codes
+refusal14 codes = ltb mostTokens (length codes) || anyAbove lastCode codes
 
 -- 16, or the count of the reading's nodes
 unfoldable pub countOrLarge : Tree → Reply

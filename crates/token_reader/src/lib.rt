@@ -6,11 +6,18 @@ mod token; // token.rt: what a token says
 mod types; // types.rt: types and their lists
 
 use expressions::expr;
+use tree::sizes;
 use tree_numbering::Renumbered;
 use tree_numbering::renumber;
 ghost use mathlib.Core.Path.{_≡_};
 ghost use Rattle.token_reader.specs.Reading.{anyAbove, Answers};
 ghost use Rattle.token_reader.specs.Pieces.{replyOf};
+
+// The cells of the most nodes, which a lent table must have.
+const TABLE: usize = sizes::NODE_CELLS * (sizes::MOST_NODES as usize);
+
+// The nodes of the reader's own table: a node has a token of its own, so that one for each token is enough.
+const OWN: u16 = sizes::MOST_TOKENS as u16;
 
 // What reading answers.
 pub enum Reply {
@@ -49,20 +56,19 @@ fn reply_of(renumbered: Renumbered) -> Reply
 pub fn read(tokens: &[u16], table: &mut [u16]) -> Reply
     ensures { λ r. ⌜ Answers (now (tokens .entry)) (now (table .entry)) r (now (table .exit)) ⌝ }
 {
-    if table.len() < 20_480 {
+    if table.len() < TABLE {
         return Reply::Refused(12);
     }
-    if tokens.len() > 24_576 {
+    if tokens.len() > sizes::MOST_TOKENS {
         return Reply::Refused(14);
     }
-    if any_above(tokens, 45) {
+    if any_above(tokens, sizes::LAST_CODE) {
         return Reply::Refused(14);
     }
-    // A node has a token of its own, so that these are enough.
-    let mut own = [0u16; 122_880];
-    let whole = expr(tokens, &mut own, 0, 24_576, 1);
+    let mut own = [0u16; sizes::NODE_CELLS * sizes::MOST_TOKENS];
+    let whole = expr(tokens, &mut own, 0, OWN, 1);
     if whole.at != tokens.len() {
         return Reply::Refused(15);
     }
-    reply_of(renumber(&own, 24_576, whole.free + 1, table))
+    reply_of(renumber(&own, OWN, whole.free + 1, table))
 }

@@ -1,6 +1,9 @@
 // The reader's own table, whose nodes are taken from the last to the first.
+use tree::offsets;
+use tree::sizes;
 ghost use Prim.Native.Nat.{_*_, _≤_};
 ghost use lib.ListN.{length};
+ghost use Rattle.tree.specs.Sizes.{nodeCells};
 ghost use Rattle.token_reader.specs.Pieces.{Stored};
 
 // Takes the last free node, and says how many are then left. No node has attributes.
@@ -12,15 +15,15 @@ pub(crate) fn store(
     first: u16,
     second: u16,
 ) -> u16
-    requires { ⌜ (1 ≤ free) × (5 * free ≤ length (now own)) ⌝ }
+    requires { ⌜ (1 ≤ free) × (nodeCells * free ≤ length (now own)) ⌝ }
     ensures { λ r. ⌜ Stored (now (own .entry)) (now (own .exit)) free r form detail first second ⌝ }
 {
     let left = free - 1;
-    let at = 5 * (left as usize);
+    let at = sizes::NODE_CELLS * (left as usize);
     own[at] = form;
-    own[at + 1] = 0;
-    own[at + 2] = detail;
-    own[at + 3] = first;
-    own[at + 4] = second;
+    own[at + offsets::ATTRIBUTES] = 0;
+    own[at + offsets::DETAIL] = detail;
+    own[at + offsets::FIRST] = first;
+    own[at + offsets::SECOND] = second;
     left
 }

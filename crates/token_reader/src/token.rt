@@ -1,15 +1,21 @@
 // What a token says where it stands, by its code.
 use tree::forms;
+use tree::sizes;
 ghost use mathlib.Core.Path.{_≡_};
 ghost use Prim.Native.Nat.{_≤_};
 ghost use lib.ListN.{getD};
+ghost use Rattle.tree.specs.Sizes.{listEnd};
 ghost use Rattle.token_reader.specs.Tables.{afterOf, operatorForm, operatorDetail};
 
 // The code at a place, or 46, which no token has.
 pub fn code_at(tokens: &[u16], at: usize) -> u16
-    ensures { λ r. ⌜ r ≡ getD (now (tokens .entry)) at 46 ⌝ }
+    ensures { λ r. ⌜ r ≡ getD (now (tokens .entry)) at listEnd ⌝ }
 {
-    if at < tokens.len() { tokens[at] } else { 46 }
+    if at < tokens.len() {
+        tokens[at]
+    } else {
+        sizes::LIST_END
+    }
 }
 
 // The lowest level of an operand that stands after.

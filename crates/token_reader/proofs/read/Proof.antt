@@ -1,8 +1,9 @@
 -- `token_reader::read` meets its contract. Assumes nothing.
 use mathlib.Core.Path.{sym, ap, _∙_}
-use Prim.Native.Nat.{ℕ}
+use Prim.Native.Nat.{ℕ, _*_}
 use native.Mathlib.Omega.{arith}
 use lib.ListN.{replicate, length-replicate}
+use Rattle.tree.specs.Sizes.{nodeCells, mostTokens}
 use borrow.Author.Needs.{needs}
 use Rattle.token_reader.specs.Pieces.{replyOf}
 use Rattle.token_reader.proofs.Tells.{ready-start}
@@ -26,7 +27,7 @@ slice-aggregate-expr : tie.Need-slice-aggregate-expr
 slice-aggregate-expr c = search needs
 
 expr-requires : tie.Need-expr-requires
-expr-requires c κs = (ready-start _ (replicate 122880 0) (c .before .before .before .if2 .left) (sym (c .before .before .any-above .ensures) ∙ c .before .if3 .left) (length-replicate {A = ℕ} 122880 0), omega arith)
+expr-requires c κs = (ready-start _ (replicate (nodeCells * mostTokens) 0) (c .before .before .before .if2 .left) (sym (c .before .before .any-above .ensures) ∙ c .before .if3 .left) (length-replicate {A = ℕ} (nodeCells * mostTokens) 0), omega arith)
 
 returns-4 : tie.Need-returns-4
 returns-4 c = answers-unread _ _ (c .before .before .before .before .before .before .before .before .if1 .left) (c .before .before .before .before .before .before .before .if2 .left) (sym (c .before .before .before .before .before .before .any-above .ensures) ∙ c .before .before .before .before .before .if3 .left) (unread _ (c .before .before .before .expr .ensures) (c .if4 .taken))
