@@ -8,6 +8,8 @@ use lib.Dec.{eqb}
 use lib.ListN.{length, length-append}
 use borrow.Author.Tests.{eqb-true}
 use Rattle.laws.specs.Choice.{pick, Line, line, lookup, isOneOf}
+use Rattle.tree.specs.Sizes.{tokensPerNode, mostTokens}
+use Rattle.tree.specs.Table.{firstColumn, secondColumn}
 use Rattle.tree.specs.Trees.{Label, Tree, none, node, operandAt, treeAt}
 use Rattle.tree_rules.specs.Refusals.{refusal, Accepted}
 use Rattle.tree.specs.Walks.{isThere}
@@ -58,12 +60,12 @@ one-most b t = by-test (λ (s : List Token). length s ≤ 1) b (t ∷ []) [] (om
 -- ---- a tree
 
 module _ (cells : List ℕ) (count : ℕ) (pair : ℕ → Bool) where
-  pub six-a-node : (i : ℕ) (t : Tree) → length (tokensAt cells count pair i t []) ≤ 6 * size t
+  pub six-a-node : (i : ℕ) (t : Tree) → length (tokensAt cells count pair i t []) ≤ tokensPerNode * size t
   unfolding tokensAt size few
   six-a-node i none = omega arith
   six-a-node i (node l a b) =
-      let first = six-a-node (operandAt cells count i 3) a in
-      let second = six-a-node (operandAt cells count i 4) b in
+      let first = six-a-node (operandAt cells count i firstColumn) a in
+      let second = six-a-node (operandAt cells count i secondColumn) b in
       let own = four l b in
       let start = one-most (pair i) LeftParen in
       let end = one-most (pair i) RightParen in
@@ -79,14 +81,14 @@ accepted-first context count cells lent e = go (eqb (refusal context count cells
     go true p n q = eqb-true _ 0 p
     go false p n q = q
 
-written-most : (count : ℕ) (cells : List ℕ) → size (treeAt cells count 1) ≤ count → length (written count cells) ≤ 6 * count
+written-most : (count : ℕ) (cells : List ℕ) → size (treeAt cells count 1) ≤ count → length (written count cells) ≤ tokensPerNode * count
 unfolding written
 written-most count cells h =
     let most = six-a-node cells count (hasPair (rowsFor count cells)) 1 (treeAt cells count 1) in
     omega arith
 
 -- "Tokens written never pass 24,576.": six for each of at most 4,096 nodes
-pub tokens-bound : (context count : ℕ) (cells : List ℕ) → Accepted context count cells → (length (written count cells) ≤ 6 * count) × (length (written count cells) ≤ 24576)
+pub tokens-bound : (context count : ℕ) (cells : List ℕ) → Accepted context count cells → (length (written count cells) ≤ tokensPerNode * count) × (length (written count cells) ≤ mostTokens)
 tokens-bound context count cells ok =
     let nodes = size-accepted context count cells ok in
     let bounds = count-bounds context count cells ok in

@@ -9,6 +9,7 @@ use lib.ListN.{length, take, replicate, length-replicate}
 use borrow.Author.Tests.{eq-eqb, ne-eqb, lt-ltb, le-ltb}
 use Rattle.laws.specs.Choice.{pick}
 use Rattle.laws.proofs.Choice.{pick-true, pick-false, or-here, or-next}
+use Rattle.tree.specs.Sizes.{rowCells, scratchCells, tokensPerNode}
 use Rattle.tree_rules.specs.Refusals.{firstOf, refusal}
 use Rattle.row_walk.specs.Walk.{rowsAfter}
 use Rattle.token_grammar.specs.Tokens.{codesOf}
@@ -23,7 +24,7 @@ use Rattle.token_writer.proofs.Tokens.{length-codes}
 -- ---- the rows
 
 -- in a buffer of just the length that they need, and the tokens with them
-pub codes-written : (count : ℕ) (cells rows scratch after : List ℕ) → rows ≡ replicate (5 * count) 0 → scratch ≡ replicate (3 * count) 0
+pub codes-written : (count : ℕ) (cells rows scratch after : List ℕ) → rows ≡ replicate (rowCells * count) 0 → scratch ≡ replicate (scratchCells * count) 0
     → after ≡ rowsAfter 0 count cells rows scratch → codesAt cells count after 1 ≡ codesOf (written count cells)
 unfolding codesAt written rowsFor
 codes-written count cells rows scratch after r s e = rw (e, r, s)
@@ -60,11 +61,11 @@ module _ (context count : ℕ) (cells tokens : List ℕ) where
     unfolding writeRefusal firstOf
     after = pick-true _ _ (eq-eqb _ 0 accepted)
 
-    pub short : length tokens < 6 * count → Answers (Refused 12) tokens
+    pub short : length tokens < tokensPerNode * count → Answers (Refused 12) tokens
     unfolding writeRefusal12
     short h = refuses 12 (sym (after ∙ pick-true _ _ (lt-ltb _ _ h))) (λ z. omega arith)
 
-    module _ (fits : 6 * count ≤ length tokens) where
+    module _ (fits : tokensPerNode * count ≤ length tokens) where
       behind12 : writeRefusal context count cells (length tokens) ≡ pick (refusal13 context count cells) 13 0
       unfolding writeRefusal12
       behind12 = after ∙ pick-false _ _ (le-ltb _ _ fits)

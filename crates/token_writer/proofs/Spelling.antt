@@ -2,17 +2,17 @@
 use mathlib.Core.Path.{_≡_, refl, sym, ap}
 use mathlib.Core.Bool.{Bool, true, false, not}
 use mathlib.Core.List.{List, [], _∷_}
-use Prim.Native.Nat.{ℕ, zero, suc, _+_, _*_, _-_, _<_, _≤_}
+use Prim.Native.Nat.{ℕ, zero, suc, _<_, _≤_}
 use native.Mathlib.Omega.{arith}
 use native.Mathlib.Decide.{ℕ-discrete}
-use lib.ListN.{getD, List·getD-eq-default}
+use lib.ListN.{List·getD-eq-default}
 use lib.Dec.{T, eqb}
 use types.Run.{OneOf}
 use borrow.Author.Tests.{ne-eqb}
 use Rattle.laws.specs.Choice.{pick, lookup}
 use Rattle.token_grammar.proofs.Tokens.{number-operator}
 use Rattle.laws.proofs.Keys.{numbersAt, givenAt, apartBefore, arms, arm, Missed, rest}
-use Rattle.tree.specs.Table.{cellAt}
+use Rattle.tree.specs.Table.{cellAt, formColumn, detailColumn, secondColumn}
 use Rattle.tree.specs.Operands.{presence}
 use Rattle.tree.specs.Trees.{labelAt, operandAt, treeAt}
 use Rattle.tree.specs.Steps.{isPresent}
@@ -35,14 +35,6 @@ pub one-if : (b : Bool) (t : Token) → spelled (oneIf b (code t)) ≡ codesOf (
 unfolding pick
 one-if true t = refl
 one-if false t = refl
-
--- ---- pairs
-
--- the first of a node's five cells
-pub pair-cell : (rows : List ℕ) (i : ℕ) → 1 ≤ i → cellAt rows i 0 ≡ getD rows (5 * (i - 1)) 0
-unfolding cellAt
-pair-cell rows zero h = absurd (omega arith)
-pair-cell rows (suc i) h = let e : 5 * i + 0 ≡ 5 * (suc i - 1) = omega arith in rw e
 
 -- ---- operators
 
@@ -98,9 +90,9 @@ there-by zero = refl
 there-by (suc p) = sym (ap not (ne-eqb (suc p) 0 (λ e. omega arith)))
 
 module _ (cells : List ℕ) (count i : ℕ) where
-  pub spells-at : (s : Signs) (form detail second : ℕ) → form ≡ cellAt cells i 0 → detail ≡ cellAt cells i 2 → second ≡ operandAt cells count i 4
+  pub spells-at : (s : Signs) (form detail second : ℕ) → form ≡ cellAt cells i formColumn → detail ≡ cellAt cells i detailColumn → second ≡ operandAt cells count i secondColumn
       → Spells s (lookup (signLines detail (not (eqb second 0))) (signs [] [] []) form)
-      → Spells s (signsOf (labelAt cells i) (treeAt cells count (operandAt cells count i 4)))
+      → Spells s (signsOf (labelAt cells i) (treeAt cells count (operandAt cells count i secondColumn)))
   unfolding signsOf labelAt
   spells-at s form detail second f d o h =
-      rw (there cells count i (cellAt cells i 4), there-by (operandAt cells count i 4), ← o, ← d, ← f) h
+      rw (there cells count i (cellAt cells i secondColumn), there-by (operandAt cells count i secondColumn), ← o, ← d, ← f) h

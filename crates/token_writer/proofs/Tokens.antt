@@ -5,6 +5,7 @@ use mathlib.Core.List.{List, [], _∷_, _++_, append-assoc, append-nil}
 use Prim.Native.Nat.{ℕ, _+_, _≤_}
 use lib.ListN.{length, length-append}
 use Rattle.laws.specs.Choice.{pick}
+use Rattle.tree.specs.Table.{firstColumn, secondColumn}
 use Rattle.tree.specs.Trees.{Label, Tree, none, node, labelAt, operandAt, treeAt}
 use Rattle.tree.proofs.Unfold.{unfolds}
 use Rattle.token_grammar.specs.Tokens.{Token, code, LeftParen, RightParen, codesOf}
@@ -42,34 +43,34 @@ module _ (cells : List ℕ) (count : ℕ) (pair : ℕ → Bool) where
   inRow i l a b rest =
       oneOf (pair i) LeftParen
       ++ (signsOf l b .before
-      ++ (tokensAt cells count pair (operandAt cells count i 3) a []
+      ++ (tokensAt cells count pair (operandAt cells count i firstColumn) a []
       ++ (signsOf l b .between
-      ++ (tokensAt cells count pair (operandAt cells count i 4) b []
+      ++ (tokensAt cells count pair (operandAt cells count i secondColumn) b []
       ++ (signsOf l b .behind
       ++ (oneOf (pair i) RightParen ++ rest))))))
 
   -- so they stand where what follows an operand's tokens stands behind them
   in-row-by : (i : ℕ) (l : Label) (a b : Tree)
-      → ((r : List Token) → tokensAt cells count pair (operandAt cells count i 3) a r ≡ tokensAt cells count pair (operandAt cells count i 3) a [] ++ r)
-      → ((r : List Token) → tokensAt cells count pair (operandAt cells count i 4) b r ≡ tokensAt cells count pair (operandAt cells count i 4) b [] ++ r)
+      → ((r : List Token) → tokensAt cells count pair (operandAt cells count i firstColumn) a r ≡ tokensAt cells count pair (operandAt cells count i firstColumn) a [] ++ r)
+      → ((r : List Token) → tokensAt cells count pair (operandAt cells count i secondColumn) b r ≡ tokensAt cells count pair (operandAt cells count i secondColumn) b [] ++ r)
       → (rest : List Token) → tokensAt cells count pair i (node l a b) rest ≡ inRow i l a b rest
   unfolding tokensAt
   in-row-by i l a b first second rest =
       within-by (pair i) _ rest
       ∙ rw (second (signsOf l b .behind ++ (oneOf (pair i) RightParen ++ rest)))
-      (rw (first (signsOf l b .between ++ (tokensAt cells count pair (operandAt cells count i 4) b [] ++ (signsOf l b .behind ++ (oneOf (pair i) RightParen ++ rest))))))
+      (rw (first (signsOf l b .between ++ (tokensAt cells count pair (operandAt cells count i secondColumn) b [] ++ (signsOf l b .behind ++ (oneOf (pair i) RightParen ++ rest))))))
 
   -- what follows a tree's tokens stands behind them
   pub rest-last : (i : ℕ) (t : Tree) (rest : List Token) → tokensAt cells count pair i t rest ≡ tokensAt cells count pair i t [] ++ rest
   unfolding tokensAt
   rest-last i none rest = refl
   rest-last i (node l a b) rest =
-      let first = rest-last (operandAt cells count i 3) a in
-      let second = rest-last (operandAt cells count i 4) b in
+      let first = rest-last (operandAt cells count i firstColumn) a in
+      let second = rest-last (operandAt cells count i secondColumn) b in
       in-row-by i l a b first second rest ∙ sym (ap (λ (s : List Token). s ++ rest) (in-row-by i l a b first second []) ∙ simp append-assoc)
 
   pub in-row : (i : ℕ) (l : Label) (a b : Tree) → tokensAt cells count pair i (node l a b) [] ≡ inRow i l a b []
-  in-row i l a b = in-row-by i l a b (rest-last (operandAt cells count i 3) a) (rest-last (operandAt cells count i 4) b) []
+  in-row i l a b = in-row-by i l a b (rest-last (operandAt cells count i firstColumn) a) (rest-last (operandAt cells count i secondColumn) b) []
 
 -- ---- the codes of the tree at a node
 
@@ -78,9 +79,9 @@ module _ (cells : List ℕ) (count : ℕ) (rows : List ℕ) (i : ℕ) where
   unfolding codesAt tokensAt
   put-nothing e before at = rw e (put-none before at)
 
-  module _ (low : 1 ≤ i) (high : i ≤ count) (pair : Bool) (is : pair ≡ hasPair rows i) (s : Signs) (own : Spells s (signsOf (labelAt cells i) (treeAt cells count (operandAt cells count i 4)))) where
+  module _ (low : 1 ≤ i) (high : i ≤ count) (pair : Bool) (is : pair ≡ hasPair rows i) (s : Signs) (own : Spells s (signsOf (labelAt cells i) (treeAt cells count (operandAt cells count i secondColumn)))) where
     pub codes-parts : codesAt cells count rows i
-        ≡ spelled (oneIf pair 35) ++ (spelled (s .before) ++ (codesAt cells count rows (operandAt cells count i 3) ++ (spelled (s .between) ++ (codesAt cells count rows (operandAt cells count i 4) ++ (spelled (s .behind) ++ spelled (oneIf pair 36))))))
+        ≡ spelled (oneIf pair 35) ++ (spelled (s .before) ++ (codesAt cells count rows (operandAt cells count i firstColumn) ++ (spelled (s .between) ++ (codesAt cells count rows (operandAt cells count i secondColumn) ++ (spelled (s .behind) ++ spelled (oneIf pair 36))))))
     unfolding codesAt
     codes-parts =
         ap (λ (t : Tree). codesOf (tokensAt cells count (hasPair rows) i t [])) (unfolds cells count i low high)
@@ -89,10 +90,10 @@ module _ (cells : List ℕ) (count : ℕ) (rows : List ℕ) (i : ℕ) where
         (rw (is, one-if (hasPair rows i) LeftParen, one-if (hasPair rows i) RightParen, own .before, own .between, own .behind))
 
     pub length-parts : length (codesAt cells count rows i)
-        ≡ length (spelled (oneIf pair 35)) + (length (spelled (s .before)) + (length (codesAt cells count rows (operandAt cells count i 3)) + (length (spelled (s .between)) + (length (codesAt cells count rows (operandAt cells count i 4)) + (length (spelled (s .behind)) + length (spelled (oneIf pair 36)))))))
+        ≡ length (spelled (oneIf pair 35)) + (length (spelled (s .before)) + (length (codesAt cells count rows (operandAt cells count i firstColumn)) + (length (spelled (s .between)) + (length (codesAt cells count rows (operandAt cells count i secondColumn)) + (length (spelled (s .behind)) + length (spelled (oneIf pair 36)))))))
     length-parts = ap length codes-parts ∙ simp length-append
 
-    pub put-parts : (f : Few) → f ≡ oneIf pair 35 → (g : Few) → g ≡ oneIf pair 36 → (o : ℕ) → o ≡ operandAt cells count i 3 → (p : ℕ) → p ≡ operandAt cells count i 4
+    pub put-parts : (f : Few) → f ≡ oneIf pair 35 → (g : Few) → g ≡ oneIf pair 36 → (o : ℕ) → o ≡ operandAt cells count i firstColumn → (p : ℕ) → p ≡ operandAt cells count i secondColumn
         → {t0 t1 t2 t3 t4 t5 t6 t7 : List ℕ} {n0 n1 n2 n3 n4 n5 n6 n7 : ℕ}
         → Put t0 n0 (spelled f) t1 n1
         → Put t1 n1 (spelled (s .before)) t2 n2

@@ -6,6 +6,7 @@ use lib.Dec.{eqb, ltb}
 use lib.ListN.{length, replicate}
 use Rattle.laws.specs.Choice.{pick}
 use Rattle.laws.specs.Lists.{over}
+use Rattle.tree.specs.Sizes.{rowCells, scratchCells, tokensPerNode}
 use Rattle.tree.specs.Trees.{treeAt}
 use Rattle.tree_rules.specs.Refusals.{refusal, refuse, firstOf}
 use Rattle.row_walk.specs.Walk.{rowsAfter}
@@ -17,7 +18,7 @@ use Rattle.token_writer.specs.declared.Written.the-variants.{Refused, To
 
 -- the rows of a table in context 0, in a buffer of just the length that they need
 unfoldable pub rowsFor : ℕ → List ℕ → List ℕ
-rowsFor count cells = rowsAfter 0 count cells (replicate (5 * count) 0) (replicate (3 * count) 0)
+rowsFor count cells = rowsAfter 0 count cells (replicate (rowCells * count) 0) (replicate (scratchCells * count) 0)
 
 -- "Written for a plain tree are its nodes' tokens in the grammar's order"
 unfoldable pub written : ℕ → List ℕ → List Token
@@ -25,7 +26,7 @@ written count cells = tokensAt cells count (hasPair (rowsFor count cells)) 1 (tr
 
 -- 12. "A lent buffer is too short: .. six for the writer's tokens" (cells a node); `lent` is the buffer's length
 unfoldable pub writeRefusal12 : ℕ → ℕ → Bool
-writeRefusal12 count lent = ltb lent (6 * count)
+writeRefusal12 count lent = ltb lent (tokensPerNode * count)
 
 -- 13. "The writer is given a tree that is not plain or a context that is not 0."
 unfoldable pub refusal13 : ℕ → ℕ → List ℕ → Bool

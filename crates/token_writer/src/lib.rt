@@ -7,12 +7,14 @@ use plainness::is_plain_table;
 use signs::Few;
 use signs::one_if;
 use signs::signs_at;
-use tree::table::cell;
+use tree::columns;
+use tree::sizes;
 use tree::table::operand_number;
 use tree_one_pass::check;
 ghost use mathlib.Core.Path.{_≡_};
-ghost use Prim.Native.Nat.{_+_, _*_, _≤_};
-ghost use lib.ListN.{length, replicate};
+ghost use Prim.Native.Nat.{_+_, _*_, _-_, _≤_};
+ghost use lib.ListN.{length, getD, replicate};
+ghost use Rattle.tree.specs.Sizes.{rowCells, scratchCells};
 ghost use Rattle.tree_rules.specs.Refusals.{refusal};
 ghost use Rattle.token_plain.specs.Written.{hasPair};
 ghost use Rattle.token_grammar.specs.Tokens.{codesOf};
@@ -52,12 +54,21 @@ fn put(tokens: &mut [u16], at: usize, few: Few) -> usize
     }
 }
 
-// Whether a node's row has an outer pair: rows have five cells a node, as tables have.
+// The pair of a node's row, which is its first cell; 0 outside the rows.
+fn pair_at(rows: &[u16], node: u16) -> u16
+    requires { ⌜ 1 ≤ node ⌝ }
+    ensures { λ r. ⌜ r ≡ getD (now (rows .entry)) (rowCells * (node - 1)) 0 ⌝ }
+{
+    let at = sizes::ROW_CELLS * ((node - 1) as usize);
+    if at < rows.len() { rows[at] } else { 0 }
+}
+
+// Whether a node's row has an outer pair.
 fn has_pair(rows: &[u16], node: u16) -> bool
     requires { ⌜ 1 ≤ node ⌝ }
     ensures { λ r. ⌜ r ≡ hasPair (now (rows .entry)) node ⌝ }
 {
-    match cell(rows, node, 0) {
+    match pair_at(rows, node) {
         1 | 3 => true,
         _ => false,
     }
@@ -93,7 +104,7 @@ fn write_from(
         table,
         count,
         rows,
-        operand_number(table, count, node, 3),
+        operand_number(table, count, node, columns::FIRST),
         tokens,
         first,
     );
@@ -102,7 +113,7 @@ fn write_from(
         table,
         count,
         rows,
-        operand_number(table, count, node, 4),
+        operand_number(table, count, node, columns::SECOND),
         tokens,
         second,
     );
@@ -118,7 +129,7 @@ fn write_plain(
     scratch: &mut [u16],
     tokens: &mut [u16],
 ) -> usize
-    requires { ⌜ (now rows ≡ replicate (5 * count) 0) × (now scratch ≡ replicate (3 * count) 0) × (length (written count (now table)) ≤ length (now tokens)) ⌝ }
+    requires { ⌜ (now rows ≡ replicate (rowCells * count) 0) × (now scratch ≡ replicate (scratchCells * count) 0) × (length (written count (now table)) ≤ length (now tokens)) ⌝ }
     ensures { λ r. ⌜ Put (now (tokens .entry)) 0 (codesOf (written count (now (table .entry)))) (now (tokens .exit)) r ⌝ }
 {
     row_walk::decide(0, count, table, rows, scratch);
@@ -135,7 +146,7 @@ pub fn write(context: u16, count: u16, table: &[u16], tokens: &mut [u16]) -> Wri
         return Written::Refused(refused);
     }
     let nodes = count as usize;
-    if tokens.len() < 6 * nodes {
+    if tokens.len() < sizes::TOKENS_PER_NODE * nodes {
         return Written::Refused(12);
     }
     if context != 0 {
@@ -144,10 +155,10 @@ pub fn write(context: u16, count: u16, table: &[u16], tokens: &mut [u16]) -> Wri
     if !is_plain_table(count, table) {
         return Written::Refused(13);
     }
-    let mut rows = [0u16; 20480];
-    let mut scratch = [0u16; 12288];
-    let row_cells = 5 * nodes;
-    let scratch_cells = 3 * nodes;
+    let mut rows = [0u16; sizes::ROW_CELLS * (sizes::MOST_NODES as usize)];
+    let mut scratch = [0u16; sizes::SCRATCH_CELLS * (sizes::MOST_NODES as usize)];
+    let row_cells = sizes::ROW_CELLS * nodes;
+    let scratch_cells = sizes::SCRATCH_CELLS * nodes;
     let end = write_plain(
         count,
         table,

@@ -1,4 +1,5 @@
 // Whether a table is plain: each of its nodes is.
+use tree::columns;
 use tree::forms;
 use tree::table::cell;
 ghost use mathlib.Core.Path.{_≡_};
@@ -10,10 +11,10 @@ ghost use Rattle.token_plain.specs.Plain.{isPlain, plainTable};
 fn is_plain(table: &[u16], node: u16) -> bool
     ensures { λ r. ⌜ r ≡ isPlain (labelAt (now (table .entry)) node) ⌝ }
 {
-    if cell(table, node, 1) != 0 {
+    if cell(table, node, columns::ATTRIBUTES) != 0 {
         return false;
     }
-    match cell(table, node, 0) {
+    match cell(table, node, columns::FORM) {
         forms::EXPR_PATH
         | forms::EXPR_LIT
         | forms::EXPR_METHOD_CALL
@@ -28,7 +29,7 @@ fn is_plain(table: &[u16], node: u16) -> bool
         forms::EXPR_PAREN | forms::EXPR_CALL | forms::EXPR_AWAIT => true,
         forms::TYPE_PTR | forms::TYPE_INFER | forms::TYPE_NEVER | forms::LINK => true,
         forms::TYPE_REFERENCE => true,
-        forms::TYPE_PATH => is_plain_path(cell(table, node, 2)),
+        forms::TYPE_PATH => is_plain_path(cell(table, node, columns::DETAIL)),
         _ => false,
     }
 }

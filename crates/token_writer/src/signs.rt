@@ -1,5 +1,6 @@
 // A node's own tokens, as codes.
 use super::codes;
+use tree::columns;
 use tree::forms;
 use tree::table::cell;
 use tree::table::operand_number;
@@ -7,6 +8,7 @@ ghost use mathlib.Core.Path.{_≡_};
 ghost use mathlib.Core.List.{[]};
 ghost use lib.Dec.{eqb};
 ghost use Rattle.laws.specs.Choice.{pick, lookup};
+ghost use Rattle.tree.specs.Table.{secondColumn};
 ghost use Rattle.tree.specs.Trees.{labelAt, treeAt, operandAt};
 ghost use Rattle.token_grammar.specs.Tokens.{number, code, operatorOf};
 ghost use Rattle.token_plain.specs.Written.{unary, signs, signLines, signsOf};
@@ -153,10 +155,10 @@ fn signs_of(form: u16, detail: u16, more: bool) -> Signs
 }
 
 pub fn signs_at(table: &[u16], count: u16, node: u16) -> Signs
-    ensures { λ r. ⌜ Spells r (signsOf (labelAt (now (table .entry)) node) (treeAt (now (table .entry)) count (operandAt (now (table .entry)) count node 4))) ⌝ }
+    ensures { λ r. ⌜ Spells r (signsOf (labelAt (now (table .entry)) node) (treeAt (now (table .entry)) count (operandAt (now (table .entry)) count node secondColumn))) ⌝ }
 {
-    let form = cell(table, node, 0);
-    let detail = cell(table, node, 2);
-    let second = operand_number(table, count, node, 4);
+    let form = cell(table, node, columns::FORM);
+    let detail = cell(table, node, columns::DETAIL);
+    let second = operand_number(table, count, node, columns::SECOND);
     signs_of(form, detail, second != 0)
 }

@@ -4,23 +4,20 @@ use mathlib.Core.List.{[], _∷_}
 use mir.Val.{hasKey}
 use Rattle.laws.proofs.Keys.{among, outside}
 use Rattle.token_plain.specs.Written.{hasPair}
-use Rattle.token_writer.proofs.Spelling.{pair-cell}
 use borrow.Author.Needs.{needs}
 use Rattle.token_writer.proofs.has_pair.Statement.{statement}
 use Rattle.token_writer.proofs.has_pair.Tie as tie
 
-cell-requires : tie.Need-cell-requires
-cell-requires c κs = search needs
+pair-at-requires : tie.Need-pair-at-requires
+pair-at-requires c κs = search needs
 
 returns : tie.Need-returns
 unfolding hasPair
-returns c = let s = c .before .before .before in
-    sym (ap (hasKey (1 ∷ 3 ∷ [])) (sym (c .before .cell .ensures ∙ pair-cell (s .args .rows .now) (s .args .node) (s .pre))) ∙ among (1 ∷ 3 ∷ []) _ (c .match .keys1))
+returns c = sym (ap (hasKey (1 ∷ 3 ∷ [])) (sym (c .before .pair-at .ensures)) ∙ among (1 ∷ 3 ∷ []) _ (c .match .keys1))
 
 returns-2 : tie.Need-returns-2
 unfolding hasPair
-returns-2 c = let s = c .before .before .before in
-    sym (ap (hasKey (1 ∷ 3 ∷ [])) (sym (c .before .cell .ensures ∙ pair-cell (s .args .rows .now) (s .args .node) (s .pre))) ∙ outside (1 ∷ 3 ∷ []) _ (c .match .rest .1))
+returns-2 c = sym (ap (hasKey (1 ∷ 3 ∷ [])) (sym (c .before .pair-at .ensures)) ∙ outside (1 ∷ 3 ∷ []) _ (c .match .rest .1))
 
 pub has-pair-spec : {M : Type 1} → statement M
-has-pair-spec = tie.close (tie.spec cell-requires returns returns-2)
+has-pair-spec = tie.close (tie.spec pair-at-requires returns returns-2)

@@ -7,6 +7,7 @@ use native.Mathlib.Omega.{arith}
 use lib.ListN.{length}
 use borrow.Author.Needs.{needs}
 use borrow.Author.Tests.{not-true, not-false}
+use Rattle.tree.specs.Sizes.{rowCells, scratchCells, mostNodes}
 use Rattle.tree_rules.proofs.Accepted.{count-bounds}
 use Rattle.token_writer.specs.Writes.{written}
 use Rattle.token_writer.proofs.Bounds.{tokens-bound}
@@ -15,8 +16,8 @@ use Rattle.token_writer.proofs.Tokens.{length-codes}
 use Rattle.token_writer.proofs.write.Statement.{statement}
 use Rattle.token_writer.proofs.write.Tie as tie
 
--- k cells for each of at most 4,096 nodes
-times : (k n : ℕ) → n ≤ 4096 → k * n ≤ k * 4096
+-- k cells for each node, of the most nodes
+times : (k n : ℕ) → n ≤ mostNodes → k * n ≤ k * mostNodes
 times k n h = mul-le-mul-left k h
 
 check-requires : tie.Need-check-requires
@@ -58,25 +59,25 @@ array-borrow-prefix-rows : tie.Need-array-borrow-prefix-rows
 array-borrow-prefix-rows c =
     let a = c .before .before .before .before .before .before .before .before .args in
     let bounds = count-bounds (a .context) (a .count) (a .table .now) (sym (c .before .before .before .before .before .check .ensures) ∙ c .before .before .before .before .if1 .left) in
-    times 5 (a .count) (bounds .1)
+    times rowCells (a .count) (bounds .1)
 
 slice-aggregate-write-plain : tie.Need-slice-aggregate-write-plain
 slice-aggregate-write-plain c =
     let a = c .before .before .before .before .before .before .before .before .before .args in
     let bounds = count-bounds (a .context) (a .count) (a .table .now) (sym (c .before .before .before .before .before .before .check .ensures) ∙ c .before .before .before .before .before .if1 .left) in
-    length-zeros (5 * a .count) 20480 (times 5 (a .count) (bounds .1))
+    length-zeros (rowCells * a .count) (rowCells * mostNodes) (times rowCells (a .count) (bounds .1))
 
 array-borrow-prefix-scratch : tie.Need-array-borrow-prefix-scratch
 array-borrow-prefix-scratch c =
     let a = c .before .before .before .before .before .before .before .before .before .args in
     let bounds = count-bounds (a .context) (a .count) (a .table .now) (sym (c .before .before .before .before .before .before .check .ensures) ∙ c .before .before .before .before .before .if1 .left) in
-    times 3 (a .count) (bounds .1)
+    times scratchCells (a .count) (bounds .1)
 
 slice-aggregate-write-plain-2 : tie.Need-slice-aggregate-write-plain-2
 slice-aggregate-write-plain-2 c =
     let a = c .before .before .before .before .before .before .before .before .before .before .args in
     let bounds = count-bounds (a .context) (a .count) (a .table .now) (sym (c .before .before .before .before .before .before .before .check .ensures) ∙ c .before .before .before .before .before .before .if1 .left) in
-    length-zeros (3 * a .count) 12288 (times 3 (a .count) (bounds .1))
+    length-zeros (scratchCells * a .count) (scratchCells * mostNodes) (times scratchCells (a .count) (bounds .1))
 
 write-plain-requires : tie.Need-write-plain-requires
 write-plain-requires c κs =
@@ -85,7 +86,7 @@ write-plain-requires c κs =
     let fits = c .before .before .before .before .before .before .if2 .left in
     let most = tokens-bound (a .context) (a .count) (a .table .now) ok in
     let bounds = count-bounds (a .context) (a .count) (a .table .now) ok in
-    (take-zeros (5 * a .count) 20480 (times 5 (a .count) (bounds .1)), take-zeros (3 * a .count) 12288 (times 3 (a .count) (bounds .1)), le-trans (most .0) fits)
+    (take-zeros (rowCells * a .count) (rowCells * mostNodes) (times rowCells (a .count) (bounds .1)), take-zeros (scratchCells * a .count) (scratchCells * mostNodes) (times scratchCells (a .count) (bounds .1)), le-trans (most .0) fits)
 
 cast-t22 : tie.Need-cast-t22
 cast-t22 c =
