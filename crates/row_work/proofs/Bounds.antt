@@ -3,6 +3,7 @@ use mathlib.Core.Bool.{not, _&&_, _||_}
 use mathlib.Core.List.{List}
 use Prim.Native.Nat.{ℕ, _*_, _≤_}
 use native.Mathlib.Omega.{arith}
+use Rattle.tree.specs.Sizes.{mostLevels}
 use Rattle.tree.specs.Trees.{Tree, none, node, treeAt, levels}
 use Rattle.tree_rules.specs.Refusals.{Accepted}
 use Rattle.tree_rules.proofs.Accepted.{levels-bound}
@@ -32,14 +33,14 @@ precedence-visits Right x t = pick-within (loose x (effective x t) && scanned x)
 precedence-visits Neither x t = omega arith
 
 -- in a tree of at most 128 levels
-pub row-visits : (h : Handed) (t : Tree) → levels t ≤ 128 → rowVisits h t ≤ 258
+pub row-visits : (h : Handed) (t : Tree) → levels t ≤ mostLevels → rowVisits h t ≤ 258
 unfolding rowVisits
 row-visits h t d =
     let m = pick-within (isExpression t) (precedenceVisits (h .side) (h .fixup) t) (2 * spine t) (precedence-visits (h .side) (h .fixup) t) in
     let s = spine-levels t in
     omega arith
 
-pub walk-visits : (h : Handed) (t : Tree) → levels t ≤ 128 → walkVisits h t ≤ 258 * size t
+pub walk-visits : (h : Handed) (t : Tree) → levels t ≤ mostLevels → walkVisits h t ≤ 258 * size t
 unfolding walkVisits size levels
 walk-visits h none d = omega arith
 walk-visits h (node l a b) d =

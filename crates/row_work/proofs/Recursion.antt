@@ -8,8 +8,9 @@ use native.Mathlib.Omega.{arith}
 use lib.Dec.{eqb}
 use lib.ListN.{length}
 use Rattle.laws.specs.Choice.{pick, lookup}
+use Rattle.tree.specs.Sizes.{mostLevels}
 use Rattle.tree.specs.Forms.{anExpression, aType, aLink, classOf}
-use Rattle.tree.specs.Table.{formAt, detailAt, firstAt, classAt}
+use Rattle.tree.specs.Table.{formAt, detailAt, firstAt, classAt, firstColumn, secondColumn}
 use Rattle.tree.specs.Trees.{Tree, none, node, operandAt, treeAt, ownLevel, levels}
 use Rattle.tree_places.specs.declared.place.Place.the-variants.{Item}
 use Rattle.tree_places.specs.Places.{firstPlaces, firstPlace}
@@ -41,7 +42,7 @@ own-level form class e k = rw (e, k)
 
 module _ (context count : ℕ) (cells : List ℕ) (ok : Accepted context count cells) where
   -- no node of an accepted table has more than 128 levels
-  pub levels-everywhere : (i : ℕ) → 1 ≤ i → i ≤ count → levels (treeAt cells count i) ≤ 128
+  pub levels-everywhere : (i : ℕ) → 1 ≤ i → i ≤ count → levels (treeAt cells count i) ≤ mostLevels
   levels-everywhere i low high =
       let r = reached cells count context ok i low high in
       let c = count-bounds context count cells ok .0 in
@@ -61,7 +62,7 @@ module _ (context count : ℕ) (cells : List ℕ) (ok : Accepted context count c
   level-one : (i : ℕ) → 1 ≤ i → i ≤ count → 1 ≤ levels (treeAt cells count i)
   level-one i low high = rw (levels-node cells count i low high) (go (eqb (classAt cells i) aLink) refl)
     where
-      go : (e : Bool) → eqb (classAt cells i) aLink ≡ e → 1 ≤ ownLevel (formAt cells i) + max (levels (treeAt cells count (operandAt cells count i 3))) (levels (treeAt cells count (operandAt cells count i 4)))
+      go : (e : Bool) → eqb (classAt cells i) aLink ≡ e → 1 ≤ ownLevel (formAt cells i) + max (levels (treeAt cells count (operandAt cells count i firstColumn))) (levels (treeAt cells count (operandAt cells count i secondColumn)))
       go true e =
           let h = item-level i (rw (link-form (formAt cells i) e, item-place (detailAt cells i)) at (first-fits context count cells ok i low high)) in
           rw (first-operand context count cells ok i low high) (omega arith)
@@ -76,7 +77,7 @@ module _ (context count : ℕ) (cells : List ℕ) (ok : Accepted context count c
       omega arith
 
   -- at a node of an accepted table at most 128 calls of scan_right stand open at one time
-  pub recursion-bounded : (i : ℕ) → 1 ≤ i → i ≤ count → (js : List ℕ) → Nested cells count i js → 1 + length js ≤ 128
+  pub recursion-bounded : (i : ℕ) → 1 ≤ i → i ≤ count → (js : List ℕ) → Nested cells count i js → 1 + length js ≤ mostLevels
   recursion-bounded i low high js n =
       let m = nested-levels i low high js n in
       let b = levels-everywhere i low high in

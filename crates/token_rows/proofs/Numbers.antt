@@ -9,6 +9,8 @@ use lib.ListN.{length, getD}
 use borrow.Author.Tests.{ne-eqb, eq-eqb}
 use Rattle.laws.specs.Choice.{pick, lookup, isOneOf}
 use Rattle.laws.proofs.Choice.{true-not-false}
+use Rattle.tree.specs.Sizes.{rowCells}
+use Rattle.tree.specs.Table.{firstColumn, secondColumn}
 use Rattle.tree.specs.Trees.{Label, Tree, none, node, operandAt, treeAt}
 use Rattle.tree.specs.Walks.{isThere}
 use Rattle.tree_rules.specs.Refusals.{Accepted}
@@ -66,8 +68,8 @@ module _ (cells : List ℕ) (count : ℕ) (pair : ℕ → Bool) where
       let x = ownContext h (node l a b) in
       within-by (k [] refl)
       (inside-by (signsOf l b)
-      (tokens-agree a (operandAt cells count i 3) (handsFirst x (node l a b)) (λ p e. k (first ∷ p) e))
-      (tokens-agree b (operandAt cells count i 4) (handsSecond x (node l a b)) (λ p e. k (second ∷ p) e)))
+      (tokens-agree a (operandAt cells count i firstColumn) (handsFirst x (node l a b)) (λ p e. k (first ∷ p) e))
+      (tokens-agree b (operandAt cells count i secondColumn) (handsSecond x (node l a b)) (λ p e. k (second ∷ p) e)))
       rest
 
   -- the same at every path but one, where there is no pair
@@ -84,27 +86,27 @@ module _ (cells : List ℕ) (count : ℕ) (pair : ℕ → Bool) where
       let x = ownContext h (node l a b) in
       within-by (k .1)
       (inside-by (signsOf l b)
-      (tokens-agree a (operandAt cells count i 3) (handsFirst x (node l a b)) (λ p e. k .0 (first ∷ p) e (differ _ _ (λ z. omega arith))))
-      (tokens-agree b (operandAt cells count i 4) (handsSecond x (node l a b)) (λ p e. k .0 (second ∷ p) e (differ _ _ (λ z. omega arith)))))
+      (tokens-agree a (operandAt cells count i firstColumn) (handsFirst x (node l a b)) (λ p e. k .0 (first ∷ p) e (differ _ _ (λ z. omega arith))))
+      (tokens-agree b (operandAt cells count i secondColumn) (handsSecond x (node l a b)) (λ p e. k .0 (second ∷ p) e (differ _ _ (λ z. omega arith)))))
       rest
   tokens-but (first ∷ but) (node l a b) i h e k rest =
       let x = ownContext h (node l a b) in
       within-by (k .0 [] refl (differ _ _ (λ z. omega arith)))
       (inside-by (signsOf l b)
-      (tokens-but but a (operandAt cells count i 3) (handsFirst x (node l a b)) e ((λ p e n. k .0 (first ∷ p) e (λ z. n (ap behind z))), k .1))
-      (tokens-agree b (operandAt cells count i 4) (handsSecond x (node l a b)) (λ p e. k .0 (second ∷ p) e (differ _ _ (λ z. omega arith)))))
+      (tokens-but but a (operandAt cells count i firstColumn) (handsFirst x (node l a b)) e ((λ p e n. k .0 (first ∷ p) e (λ z. n (ap behind z))), k .1))
+      (tokens-agree b (operandAt cells count i secondColumn) (handsSecond x (node l a b)) (λ p e. k .0 (second ∷ p) e (differ _ _ (λ z. omega arith)))))
       rest
   tokens-but (second ∷ but) (node l a b) i h e k rest =
       let x = ownContext h (node l a b) in
       within-by (k .0 [] refl (differ _ _ (λ z. omega arith)))
       (inside-by (signsOf l b)
-      (tokens-agree a (operandAt cells count i 3) (handsFirst x (node l a b)) (λ p e. k .0 (first ∷ p) e (differ _ _ (λ z. omega arith))))
-      (tokens-but but b (operandAt cells count i 4) (handsSecond x (node l a b)) e ((λ p e n. k .0 (second ∷ p) e (λ z. n (ap behind z))), k .1)))
+      (tokens-agree a (operandAt cells count i firstColumn) (handsFirst x (node l a b)) (λ p e. k .0 (first ∷ p) e (differ _ _ (λ z. omega arith))))
+      (tokens-but but b (operandAt cells count i secondColumn) (handsSecond x (node l a b)) e ((λ p e n. k .0 (second ∷ p) e (λ z. n (ap behind z))), k .1)))
       rest
 
 -- ---- the rows in a buffer
 
-module _ (count : ℕ) (cells : List ℕ) (ok : Accepted 0 count cells) (into : List ℕ) (room : 5 * count ≤ length into) where
+module _ (count : ℕ) (cells : List ℕ) (ok : Accepted 0 count cells) (into : List ℕ) (room : rowCells * count ≤ length into) where
   abbrev root : Tree
   root = treeAt cells count 1
 

@@ -7,6 +7,7 @@ use native.Mathlib.Omega.{arith}
 use lib.Dec.{eqb}
 use borrow.Author.Tests.{ne-eqb, eq-eqb}
 use Rattle.laws.proofs.Choice.{true-not-false}
+use Rattle.tree.specs.Table.{firstColumn, secondColumn}
 use Rattle.tree.specs.Trees.{Tree, none, node, operandAt}
 use Rattle.tree.specs.Walks.{isThere}
 use Rattle.row_walk.specs.Paths.{Branch, first, second, numberAt, treeBy}
@@ -58,7 +59,7 @@ module _ (cells : List ℕ) (count : ℕ) (pair : ℕ → Bool) (j : ℕ) where
   same none i n rest = refl
   same (node l a b) i n rest =
       within-by (but-other i (n [] refl))
-      (inside-by (signsOf l b) (same a (operandAt cells count i 3) (λ p e. n (first ∷ p) e)) (same b (operandAt cells count i 4) (λ p e. n (second ∷ p) e)))
+      (inside-by (signsOf l b) (same a (operandAt cells count i firstColumn) (λ p e. n (first ∷ p) e)) (same b (operandAt cells count i secondColumn) (λ p e. n (second ∷ p) e)))
       rest
 
   after-tree : {own x y : List Token} (i : ℕ) (t : Tree) → Removed own x y → Removed own (full i t x) (full i t y)
@@ -83,7 +84,7 @@ module _ (cells : List ℕ) (count : ℕ) (pair : ℕ → Bool) (j : ℕ) where
         opened : full i (node l a b) rest ≡ LeftParen ∷ (but j (node l a b) [] ++ (RightParen ∷ rest))
         opened =
             within-by (ap pair leads ∙ has)
-            (inside-by (signsOf l b) (λ r. sym (same a (operandAt cells count i 3) (apart first) r)) (λ r. sym (same b (operandAt cells count i 4) (apart second) r)))
+            (inside-by (signsOf l b) (λ r. sym (same a (operandAt cells count i firstColumn) (apart first) r)) (λ r. sym (same b (operandAt cells count i secondColumn) (apart second) r)))
             rest
             ∙ ap (λ r. LeftParen ∷ r)
             (sym (within-by (ap (butAt j pair) leads ∙ but-own) (λ r. refl) (RightParen ∷ rest))
@@ -92,19 +93,19 @@ module _ (cells : List ℕ) (count : ℕ) (pair : ℕ → Bool) (j : ℕ) where
     removed (first ∷ path) (node l a b) i e leads only rest =
         subst (Removed (but j (treeBy a path) []) (full i (node l a b) rest))
         (sym (within-by (but-other i (λ z. differ _ _ (λ w. omega arith) (only [] refl z)))
-        (inside-by (signsOf l b) {f = but (operandAt cells count i 3) a} (λ r. refl) (same b (operandAt cells count i 4) (λ p f z. differ _ _ (λ w. omega arith) (only (second ∷ p) f z))))
+        (inside-by (signsOf l b) {f = but (operandAt cells count i firstColumn) a} (λ r. refl) (same b (operandAt cells count i secondColumn) (λ p f z. differ _ _ (λ w. omega arith) (only (second ∷ p) f z))))
         rest))
-        (in-pair (pair i) (inside (signsOf l b) (full (operandAt cells count i 3) a) (full (operandAt cells count i 4) b)) (inside (signsOf l b) (but (operandAt cells count i 3) a) (full (operandAt cells count i 4) b))
-        (λ end. after-tokens (signsOf l b .before) (removed path a (operandAt cells count i 3) e leads (λ p f z. ap behind (only (first ∷ p) f z)) _))
+        (in-pair (pair i) (inside (signsOf l b) (full (operandAt cells count i firstColumn) a) (full (operandAt cells count i secondColumn) b)) (inside (signsOf l b) (but (operandAt cells count i firstColumn) a) (full (operandAt cells count i secondColumn) b))
+        (λ end. after-tokens (signsOf l b .before) (removed path a (operandAt cells count i firstColumn) e leads (λ p f z. ap behind (only (first ∷ p) f z)) _))
         rest)
     removed (second ∷ path) (node l a b) i e leads only rest =
         subst (Removed (but j (treeBy b path) []) (full i (node l a b) rest))
         (sym (within-by (but-other i (λ z. differ _ _ (λ w. omega arith) (only [] refl z)))
-        (inside-by (signsOf l b) {g = but (operandAt cells count i 4) b} (same a (operandAt cells count i 3) (λ p f z. differ _ _ (λ w. omega arith) (only (first ∷ p) f z))) (λ r. refl))
+        (inside-by (signsOf l b) {g = but (operandAt cells count i secondColumn) b} (same a (operandAt cells count i firstColumn) (λ p f z. differ _ _ (λ w. omega arith) (only (first ∷ p) f z))) (λ r. refl))
         rest))
-        (in-pair (pair i) (inside (signsOf l b) (full (operandAt cells count i 3) a) (full (operandAt cells count i 4) b)) (inside (signsOf l b) (full (operandAt cells count i 3) a) (but (operandAt cells count i 4) b))
+        (in-pair (pair i) (inside (signsOf l b) (full (operandAt cells count i firstColumn) a) (full (operandAt cells count i secondColumn) b)) (inside (signsOf l b) (full (operandAt cells count i firstColumn) a) (but (operandAt cells count i secondColumn) b))
         (λ end.
         after-tokens (signsOf l b .before)
-        (after-tree (operandAt cells count i 3) a
-        (after-tokens (signsOf l b .between) (removed path b (operandAt cells count i 4) e leads (λ p f z. ap behind (only (second ∷ p) f z)) (signsOf l b .behind ++ end)))))
+        (after-tree (operandAt cells count i firstColumn) a
+        (after-tokens (signsOf l b .between) (removed path b (operandAt cells count i secondColumn) e leads (λ p f z. ap behind (only (second ∷ p) f z)) (signsOf l b .behind ++ end)))))
         rest)

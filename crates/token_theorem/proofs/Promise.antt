@@ -9,6 +9,7 @@ use lib.ListN.{length, replicate, length-replicate}
 use borrow.Author.Tests.{le-ltb, eq-eqb}
 use Rattle.laws.specs.Lists.{over}
 use Rattle.laws.proofs.Choice.{pick-true, pick-false}
+use Rattle.tree.specs.Sizes.{nodeCells, rowCells, scratchCells, tokensPerNode, mostNodes, mostTokens, lastCode}
 use Rattle.tree.specs.Trees.{Tree, treeAt}
 use Rattle.tree.specs.Walks.{isThere}
 use Rattle.tree.proofs.Unfold.{unfolds}
@@ -54,20 +55,20 @@ use Rattle.token_theorem.proofs.Smaller.{size-without, not-large}
 
 -- ---- codes that the reader takes
 
-none-above : (ts : List Token) → anyAbove 45 (codesOf ts) ≡ false
+none-above : (ts : List Token) → anyAbove lastCode (codesOf ts) ≡ false
 unfolding anyAbove
 none-above [] = refl
-none-above (t ∷ ts) = rw (le-ltb 45 (code t) (omega (arith, code-below t))) (none-above ts)
+none-above (t ∷ ts) = rw (le-ltb lastCode (code t) (omega (arith, code-below t))) (none-above ts)
 
 -- ---- an accepted plain table
 
 module _ (count : ℕ) (cells : List ℕ) (ok : Accepted 0 count cells) (plain : plainTable count cells ≡ true) where
-  bounds : (1 ≤ count) × (count ≤ 4096) × (5 * count ≤ length cells)
+  bounds : (1 ≤ count) × (count ≤ mostNodes) × (nodeCells * count ≤ length cells)
   bounds = count-bounds 0 count cells ok
 
   -- ---- the writer
 
-  stores : (tokens : List ℕ) → 6 * count ≤ length tokens
+  stores : (tokens : List ℕ) → tokensPerNode * count ≤ length tokens
       → (answered 0 count cells (length tokens) ≡ Tokens (length (written count cells)))
       × (tokensAfter 0 count cells tokens ≡ over (codesOf (written count cells)) tokens)
   unfolding answered tokensAfter
@@ -77,17 +78,17 @@ module _ (count : ℕ) (cells : List ℕ) (ok : Accepted 0 count cells) (plain :
   root = treeAt cells count 1
 
   abbrev blank : List ℕ
-  blank = replicate (5 * count) 0
+  blank = replicate (rowCells * count) 0
 
-  room : 5 * count ≤ length blank
-  room = rw (length-replicate {A = ℕ} (5 * count) 0) (omega arith)
+  room : rowCells * count ≤ length blank
+  room = rw (length-replicate {A = ℕ} (rowCells * count) 0) (omega arith)
 
   abbrev rows : List ℕ
   rows = placed cells count 1 (rowsOf (rootHanded 0) root) blank
 
   rows-are : rowsFor count cells ≡ rows
   unfolding rowsFor
-  rows-are = sym (done 0 count cells blank (replicate (3 * count) 0) ok room (rw (length-replicate {A = ℕ} (3 * count) 0) (omega arith)) (rootHanded 0) refl rows refl _ refl .1 .0)
+  rows-are = sym (done 0 count cells blank (replicate (scratchCells * count) 0) ok room (rw (length-replicate {A = ℕ} (scratchCells * count) 0) (omega arith)) (rootHanded 0) refl rows refl _ refl .1 .0)
 
   abbrev tree : Expr one
   tree = from-table 0 count cells ok plain .0
@@ -119,13 +120,13 @@ module _ (count : ℕ) (cells : List ℕ) (ok : Accepted 0 count cells) (plain :
   known : refusal14 (codesOf (written count cells)) ≡ false
   unfolding refusal14
   known =
-      rw (le-ltb 24576 (length (codesOf (written count cells))) (rw (length-codes (written count cells)) (tokens-bound 0 count cells ok .1))) (none-above (written count cells))
+      rw (le-ltb mostTokens (length (codesOf (written count cells))) (rw (length-codes (written count cells)) (tokens-bound 0 count cells ok .1))) (none-above (written count cells))
 
-  returned : (table after : List ℕ) (reply : Reply) → 20480 ≤ length table → Answers (codesOf (written count cells)) table reply after
+  returned : (table after : List ℕ) (reply : Reply) → nodeCells * mostNodes ≤ length table → Answers (codesOf (written count cells)) table reply after
       → (reply ≡ Nodes (size (meant count cells))) × (after ≡ over (numbered (meant count cells)) table)
   unfolding countOrLarge readTable readRefusal12
   returned table after reply long a =
-      let r = a .read (le-ltb (length table) (5 * 4096) long) known (meant count cells) reads in
+      let r = a .read (le-ltb (length table) (nodeCells * mostNodes) long) known (meant count cells) reads in
       (r .0 ∙ pick-false _ _ within-limits, r .1 ∙ pick-false _ _ within-limits)
 
   -- what is stored stands for the tree

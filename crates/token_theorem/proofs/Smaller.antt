@@ -6,6 +6,7 @@ use native.Mathlib.Omega.{arith}
 use lib.Dec.{eqb, ltb}
 use borrow.Author.Tests.{le-ltb}
 use Rattle.laws.specs.Choice.{pick}
+use Rattle.tree.specs.Sizes.{mostNodes, mostLevels}
 use Rattle.tree.specs.Forms.{ExprParen}
 use Rattle.tree.specs.Trees.{Label, Tree, none, node, ownLevel, levels}
 use Rattle.tree_numbering.specs.Numbered.{size, tooLarge}
@@ -30,10 +31,10 @@ levels-without (node l a b) = go (eqb (l .form) ExprParen) (levels-without a) (l
     go false p q = omega arith
 
 -- So what a tree within the limits leaves is within them.
-pub not-large : (t : Tree) → size t ≤ 4096 → levels t ≤ 128 → tooLarge (withoutParens t) ≡ false
+pub not-large : (t : Tree) → size t ≤ mostNodes → levels t ≤ mostLevels → tooLarge (withoutParens t) ≡ false
 unfolding tooLarge
 not-large t h k =
     rw (
-      le-ltb 4096 (size (withoutParens t)) (omega (arith, size-without t)),
-      le-ltb 128 (levels (withoutParens t)) (omega (arith, levels-without t)),
+      le-ltb mostNodes (size (withoutParens t)) (omega (arith, size-without t)),
+      le-ltb mostLevels (levels (withoutParens t)) (omega (arith, levels-without t)),
     )

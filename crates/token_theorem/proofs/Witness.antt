@@ -7,6 +7,7 @@ use native.Mathlib.Omega.{arith}
 use lib.ListN.{length}
 use Rattle.laws.specs.Choice.{pick, lookup}
 use Rattle.laws.specs.Each.{some}
+use Rattle.tree.specs.Sizes.{nodeCells}
 use Rattle.tree.specs.Forms.{classOf, highestAttributes, details, highestDetail, allowed}
 use Rattle.tree_places.specs.Places.{firstPlaces, firstPlace, secondPlaces, secondPlace, wrongClass, wrongList, wrongItem, wrongNext, wrongAt, badOperands}
 use Rattle.tree_rules.specs.Refusals.{refusal3, refusal4, badNumbers, refusal6, refusal7, misplaced, badOrder, owners, badOwner, refusal8, empty, refusal9, plainBlock, badOutput, refusal10, refusal11, firstOf, nodeRefusals, refusal, Accepted}
@@ -50,7 +51,7 @@ Meets count cells j = Accepted 0 count cells × (plainTable count cells ≡ true
 
 abbrev pub All : List Example → Type 0
 All [] = Unit {0}
-All (e ∷ es) = Meets (length (e .cells) / 5) (e .cells) (e .pair) × All es
+All (e ∷ es) = Meets (length (e .cells) / nodeCells) (e .cells) (e .pair) × All es
 
 pub witness : All examples
 unfolding pick lookup some classOf highestAttributes details highestDetail allowed firstPlaces firstPlace secondPlaces secondPlace wrongClass wrongList wrongItem wrongNext wrongAt refusal3 refusal4 badNumbers refusal6 badOperands refusal7 misplaced badOrder owners badOwner refusal8 empty refusal9 plainBlock badOutput refusal10 refusal11 firstOf nodeRefusals refusal cellAt labelAt operandOf treeTo treeAt ownLevel levels follow walk atRoot operators ofBinop prefixAttrs ofLines closedBy precedenceOf commaLines requiresComma requiresSemi lastTypeInPath pathLines trailingPath labelLines leadingLabel parenthesize effective leftOfBinary scanLeftLines scanLeft binds consumes consumeBy loose scanned rightBy scanRight rightmostPrecedence bailsOut leftmostPrecedence canBeginExpr canBeginGenerics leftTest rightTest binaryLeft binaryRight callTest firstLines handsFirst secondLines handsSecond beforeOperator beforeDot atEnd afterPrefix neither ofBits flagsOf outerPair innerLines expressionRow rowOf ownContext rowsOf contexts contextNumbered rowStored placed decideRefusal12 decided rowsAfter isPlain plainTable hasPair rowsFor assign binary prefix range jump bareJump lets closed scanLines isLet isStruct isBareReturn isOpenEnded isPlainBlock isBareJump isOpenAhead isCastToPath

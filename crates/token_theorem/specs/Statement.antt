@@ -5,6 +5,7 @@ use mathlib.Core.List.{List, [], _∷_, _++_}
 use Prim.Native.Nat.{ℕ, _*_, _≤_}
 use lib.ListN.{length}
 use Rattle.laws.specs.Lists.{over}
+use Rattle.tree.specs.Sizes.{nodeCells, tokensPerNode, mostNodes}
 use Rattle.tree.specs.Trees.{Tree, treeAt}
 use Rattle.tree_rules.specs.Refusals.{Accepted}
 use Rattle.token_grammar.specs.Tokens.{Token, LeftParen, RightParen, codesOf}
@@ -41,7 +42,7 @@ pub record Removed (inside before after : List Token) : Type 0 where
 
 pub record Demand3 (count : ℕ) (cells : List ℕ) : Type 0 where
   -- The writer stores the codes of the tokens written over the start of any buffer of six cells a node, and answers how many they are.
-  pub stores : (tokens : List ℕ) → 6 * count ≤ length tokens
+  pub stores : (tokens : List ℕ) → tokensPerNode * count ≤ length tokens
       → (answered 0 count cells (length tokens) ≡ Tokens (length (written count cells)))
       × (tokensAfter 0 count cells tokens ≡ over (codesOf (written count cells)) tokens)
   -- They have a reading, which is T without its own parentheses,
@@ -49,7 +50,7 @@ pub record Demand3 (count : ℕ) (cells : List ℕ) : Type 0 where
   -- and no other.
   pub only : (t : Tree) → Reads (codesOf (written count cells)) t → t ≡ meant count cells
   -- The reader stores it over the start of any table of 4,096 nodes, and answers how many nodes it has.
-  pub returned : (table after : List ℕ) (reply : Reply) → 20480 ≤ length table → Answers (codesOf (written count cells)) table reply after
+  pub returned : (table after : List ℕ) (reply : Reply) → nodeCells * mostNodes ≤ length table → Answers (codesOf (written count cells)) table reply after
       → (reply ≡ Nodes (size (meant count cells))) × (after ≡ over (numbered (meant count cells)) table)
   -- Leaving out a pair that we added removes its two tokens, between which node j's own stand, and no other,
   pub left-out : (j : ℕ) → Added count cells j → Removed (writtenBut j count cells j) (written count cells) (writtenBut j count cells 1)
