@@ -4,6 +4,7 @@ use mathlib.Core.List.{List}
 use Prim.Native.Nat.{ℕ, _*_, _≤_}
 use native.Mathlib.Omega.{arith}
 use lib.ListN.{length, take, replicate, length-replicate}
+use Rattle.tree.specs.Sizes.{nodeCells, rowCells, scratchCells, mostNodes}
 use Rattle.tree_rules.specs.Refusals.{refusal}
 use Rattle.file_loader.specs.declared.Loaded.the-variants.{Refused, Accepted}
 use Rattle.file_loader.specs.Files.{loaded, loadedTable}
@@ -15,20 +16,20 @@ use Rattle.parens.specs.Text.{rowsIn, acceptedText, answered, printed}
 
 -- ---- the walk of an accepted table
 
-pub rows-placed : (context count : ℕ) (cells rows scratch after : List ℕ) → refusal context count cells ≡ 0 → count ≤ 4096 → rows ≡ replicate 20480 0 → length scratch ≡ 12288 → after ≡ rowsAfter context count cells rows scratch → after ≡ rowsIn context count cells
+pub rows-placed : (context count : ℕ) (cells rows scratch after : List ℕ) → refusal context count cells ≡ 0 → count ≤ mostNodes → rows ≡ replicate (rowCells * mostNodes) 0 → length scratch ≡ scratchCells * mostNodes → after ≡ rowsAfter context count cells rows scratch → after ≡ rowsIn context count cells
 unfolding rowsIn
 rows-placed context count cells rows scratch after ok most zeros long e =
-    let room : length rows ≡ 20480 = rw zeros (length-replicate {A = ℕ} 20480 0) in
+    let room : length rows ≡ rowCells * mostNodes = rw zeros (length-replicate {A = ℕ} (rowCells * mostNodes) 0) in
     e ∙ sym (done context count cells rows scratch ok (omega arith) (omega arith) (rootHanded context) refl _ refl _ refl .1 .0) ∙ rw zeros
 
 -- ---- the answers of the loader
 
 -- the table as it is lent
 abbrev zeros : List ℕ
-zeros = replicate 20480 0
+zeros = replicate (nodeCells * mostNodes) 0
 
-room : length zeros ≡ 20480
-room = length-replicate {A = ℕ} 20480 0
+room : length zeros ≡ nodeCells * mostNodes
+room = length-replicate {A = ℕ} (nodeCells * mostNodes) 0
 
 module _ (file after : List ℕ) (stores : after ≡ loadedTable file zeros) where
   pub printed-refusal : (n : ℕ) → Refused n ≡ loaded file (length zeros) → headed 110 111 n ≡ printed file
@@ -37,14 +38,14 @@ module _ (file after : List ℕ) (stores : after ≡ loadedTable file zeros) whe
 
   module _ (context count : ℕ) (e : Accepted context count ≡ loaded file (length zeros)) where
     -- the file's numbers are within the table
-    pub cells-within : 5 * count ≤ length after
+    pub cells-within : nodeCells * count ≤ length after
     cells-within = rw stores (stored-room file zeros context count e (omega (arith, room)))
 
     -- and are what `put_rows` requires
-    pub cells-accepted : (refusal context count (take (5 * count) after) ≡ 0) × (count ≤ 4096)
+    pub cells-accepted : (refusal context count (take (nodeCells * count) after) ≡ 0) × (count ≤ mostNodes)
     cells-accepted =
         (rw stores (not-refused file zeros context count e (omega (arith, room))), count-most file zeros context count e (omega (arith, room)))
 
-    pub printed-rows : acceptedText context count (take (5 * count) after) ≡ printed file
+    pub printed-rows : acceptedText context count (take (nodeCells * count) after) ≡ printed file
     unfolding printed answered
     printed-rows = rw (stores, stored-cells file zeros context count e (omega (arith, room)), ← room, ← e)

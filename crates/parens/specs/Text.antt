@@ -1,9 +1,10 @@
 -- Document 01, 'Decisions': what `parens` prints for a file, as ASCII codes.
 use mathlib.Core.List.{List, [], _++_}
-use Prim.Native.Nat.{ℕ}
+use Prim.Native.Nat.{ℕ, _*_}
 use lib.Dec.{eqb}
 use lib.ListN.{replicate}
 use Rattle.laws.specs.Choice.{pick}
+use Rattle.tree.specs.Sizes.{nodeCells, rowCells, mostNodes}
 use Rattle.tree.specs.Forms.{anExpression, classOf}
 use Rattle.tree.specs.Operands.{formIn}
 use Rattle.tree.specs.Trees.{treeAt}
@@ -16,7 +17,7 @@ use Rattle.text.specs.Numbers.{rowLine, joined, headed}
 
 -- "for each expression its node number and row", whose five cells stand in `rows`: nothing for a type or a link
 unfoldable pub nodeText : ℕ → List ℕ → List ℕ → ℕ → List ℕ
-nodeText count cells rows i = pick (eqb (classOf (formIn cells count i)) anExpression) (rowLine 5 rows i) []
+nodeText count cells rows i = pick (eqb (classOf (formIn cells count i)) anExpression) (rowLine rowCells rows i) []
 
 -- the lines of nodes 1 to n
 abbrev pub linesOf : ℕ → List ℕ → List ℕ → ℕ → List ℕ
@@ -28,7 +29,7 @@ allLines count cells rows = headed 111 107 count ++ linesOf count cells rows cou
 
 -- the rows of the tree at node 1, five cells for each of up to 4,096 nodes
 unfoldable pub rowsIn : ℕ → ℕ → List ℕ → List ℕ
-rowsIn context count cells = placed cells count 1 (rowsOf (rootHanded context) (treeAt cells count 1)) (replicate 20480 0)
+rowsIn context count cells = placed cells count 1 (rowsOf (rootHanded context) (treeAt cells count 1)) (replicate (rowCells * mostNodes) 0)
 
 unfoldable pub acceptedText : ℕ → ℕ → List ℕ → List ℕ
 acceptedText context count cells = allLines count cells (rowsIn context count cells)
@@ -40,4 +41,4 @@ answered cells (Accepted context count) = acceptedText context count cells
 
 -- what is printed for a file, with a table of 4,096 nodes lent to the loader
 unfoldable pub printed : List ℕ → List ℕ
-printed file = answered (cellsIn file) (loaded file 20480)
+printed file = answered (cellsIn file) (loaded file (nodeCells * mostNodes))

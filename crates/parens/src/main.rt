@@ -5,26 +5,33 @@ use libc::STDIN_FILENO;
 use libc::STDOUT_FILENO;
 use text::put_head;
 use text::put_row;
+use tree::sizes;
 use tree::table::form_at;
 use tree_labels::form::class_of;
 ghost use mathlib.Core.Path.{_≡_};
-ghost use Prim.Native.Nat.{_≤_};
+ghost use Prim.Native.Nat.{_+_, _*_, _≤_};
 ghost use lib.ListN.{length, take};
 ghost use Rattle.io.specs.Counts.{Counts};
+ghost use Rattle.tree.specs.Sizes.{rowCells, mostNodes};
 ghost use Rattle.tree_rules.specs.Refusals.{refusal};
 ghost use Rattle.text.specs.Growth.{Grown, Added};
 ghost use Rattle.parens.specs.Text.{nodeText, linesOf, allLines, acceptedText, printed};
 
 // One byte more than the longest file, so that a longer one shows.
-const FILE: usize = 65_537;
+const FILE: usize = sizes::MOST_FILE_BYTES + 1;
 
-// The cells of the most nodes: five each in the table and in the rows, three in the walk's scratch.
-const CELLS: usize = 20_480;
+// The cells of the most nodes: in the table, in the rows, and in the walk's scratch.
+const CELLS: usize = sizes::NODE_CELLS * (sizes::MOST_NODES as usize);
 
-const SCRATCH: usize = 12_288;
+const ROWS: usize = sizes::ROW_CELLS * (sizes::MOST_NODES as usize);
 
-// The most bytes that are printed: a first line of 9, and 36 for each of 4,096 nodes.
-const TEXT: usize = 147_465;
+const SCRATCH: usize = sizes::SCRATCH_CELLS * (sizes::MOST_NODES as usize);
+
+// The cells of a row, behind the node's number in a line.
+const WIDTH: u16 = sizes::ROW_CELLS as u16;
+
+// The most bytes that are printed: a first line of 9, and for each node six for its number and for each cell of its row.
+const TEXT: usize = 9 + 6 * (sizes::ROW_CELLS + 1) * (sizes::MOST_NODES as usize);
 
 // ---- lines
 
@@ -35,7 +42,7 @@ fn put_node(out: &mut [u8], end: usize, count: u16, table: &[u16], rows: &[u16],
     if class_of(form_at(table, count, node)) != 1 {
         return end;
     }
-    put_row(out, end, node, 5, rows)
+    put_row(out, end, node, WIDTH, rows)
 }
 
 fn put_lines(out: &mut [u8], end: usize, count: u16, table: &[u16], rows: &[u16]) -> usize
@@ -52,7 +59,7 @@ fn put_lines(out: &mut [u8], end: usize, count: u16, table: &[u16], rows: &[u16]
 
 // The first line, and the lines of all nodes.
 fn put_all(out: &mut [u8], count: u16, table: &[u16], rows: &[u16]) -> usize
-    requires { ⌜ (count ≤ 4096) × (147465 ≤ length (now out)) ⌝ }
+    requires { ⌜ (count ≤ mostNodes) × (9 + 6 * (rowCells + 1) * mostNodes ≤ length (now out)) ⌝ }
     ensures { λ r. ⌜ Added (now (out .entry)) 0 (allLines count (now (table .entry)) (now (rows .entry))) (now (out .exit)) r ⌝ }
 {
     let end = put_head(out, b'o', b'k', count);
@@ -63,10 +70,10 @@ fn put_all(out: &mut [u8], count: u16, table: &[u16], rows: &[u16]) -> usize
 
 // What is printed for an accepted table. It is not refused again: the walk's reply is 0.
 fn put_rows(out: &mut [u8], context: u16, count: u16, table: &[u16]) -> usize
-    requires { ⌜ (refusal context count (now table) ≡ 0) × (count ≤ 4096) × (147465 ≤ length (now out)) ⌝ }
+    requires { ⌜ (refusal context count (now table) ≡ 0) × (count ≤ mostNodes) × (9 + 6 * (rowCells + 1) * mostNodes ≤ length (now out)) ⌝ }
     ensures { λ r. ⌜ Added (now (out .entry)) 0 (acceptedText context count (now (table .entry))) (now (out .exit)) r ⌝ }
 {
-    let mut rows = [0u16; CELLS];
+    let mut rows = [0u16; ROWS];
     let mut scratch = [0u16; SCRATCH];
     row_walk::decide(context, count, table, &mut rows, &mut scratch);
     put_all(out, count, table, &rows)
@@ -81,7 +88,7 @@ fn report(file: &[u8], out: &mut [u8; TEXT]) -> usize
     match file_loader::load(file, &mut table) {
         Loaded::Refused(why) => put_head(out, b'n', b'o', why),
         Loaded::Accepted(context, count) => {
-            let cells = 5 * (count as usize);
+            let cells = sizes::NODE_CELLS * (count as usize);
             put_rows(out, context, count, &table[..cells])
         }
     }

@@ -1,8 +1,9 @@
 -- What `reading` prints for a file of codes, as ASCII codes.
 use mathlib.Core.Path.{_≡_}
 use mathlib.Core.List.{List, _++_}
-use Prim.Native.Nat.{ℕ}
+use Prim.Native.Nat.{ℕ, _*_}
 use lib.ListN.{replicate}
+use Rattle.tree.specs.Sizes.{nodeCells, mostNodes}
 use Rattle.token_reader.specs.declared.Reply.{Reply}
 use Rattle.token_reader.specs.declared.Reply.the-variants.{Refused, Nodes}
 use Rattle.token_reader.specs.Reading.{Answers}
@@ -10,7 +11,7 @@ use Rattle.text.specs.Numbers.{rowLine, joined, headed}
 
 -- the lines of nodes 1 to n: of each its number and its five numbers, which stand in `cells`
 abbrev pub nodesText : List ℕ → ℕ → List ℕ
-nodesText cells n = joined (rowLine 5 cells) n
+nodesText cells n = joined (rowLine nodeCells cells) n
 
 -- "ok" and the number of nodes, then their lines; 111 107 spell `ok`
 unfoldable pub tableText : List ℕ → ℕ → List ℕ
@@ -25,5 +26,5 @@ answerText (Nodes n) cells = tableText cells n
 pub record Printed (codes text : List ℕ) : Type 0 where
   pub reply : Reply
   pub after : List ℕ
-  pub answers : Answers codes (replicate 20480 0) reply after
+  pub answers : Answers codes (replicate (nodeCells * mostNodes) 0) reply after
   pub prints : text ≡ answerText reply after

@@ -8,22 +8,27 @@ use libc::STDOUT_FILENO;
 use text::put_head;
 use text::put_row;
 use token_reader::Reply;
+use tree::sizes;
 ghost use mathlib.Core.Path.{_≡_};
-ghost use Prim.Native.Nat.{_≤_};
+ghost use Prim.Native.Nat.{_+_, _*_, _≤_};
 ghost use lib.ListN.{length, take};
 ghost use Rattle.io.specs.Counts.{Counts};
 ghost use Rattle.laws.specs.Lists.{over};
+ghost use Rattle.tree.specs.Sizes.{nodeCells, mostNodes, mostTokens};
 ghost use Rattle.text.specs.Growth.{Grown, Added};
 ghost use Rattle.reading.specs.Text.{nodesText, tableText, Printed};
 
 // One byte more than the longest token list, so that a longer one shows: the reader refuses it by 14.
-const FILE: usize = 24_577;
+const FILE: usize = sizes::MOST_TOKENS + 1;
 
-// The cells of the most nodes: five each.
-const CELLS: usize = 20_480;
+// The cells of the most nodes.
+const CELLS: usize = sizes::NODE_CELLS * (sizes::MOST_NODES as usize);
 
-// The most bytes that are printed: a first line of 9, and 36 for each of 4,096 nodes.
-const TEXT: usize = 147_465;
+// The numbers of a node, behind its own in a line.
+const WIDTH: u16 = sizes::NODE_CELLS as u16;
+
+// The most bytes that are printed: a first line of 9, and for each node six for its number and for each of its cells.
+const TEXT: usize = 9 + 6 * (sizes::NODE_CELLS + 1) * (sizes::MOST_NODES as usize);
 
 // The bytes as codes, at the start of `codes`.
 fn widen(file: &[u8], codes: &mut [u16])
@@ -45,14 +50,14 @@ fn put_nodes(out: &mut [u8], end: usize, count: u16, table: &[u16]) -> usize
     let mut node = 0;
     while node < count {
         node += 1;
-        at = put_row(out, at, node, 5, table);
+        at = put_row(out, at, node, WIDTH, table);
     }
     at
 }
 
 // What is printed for a reading, whose nodes stand in the table.
 fn put_table(out: &mut [u8], count: u16, table: &[u16]) -> usize
-    requires { ⌜ (count ≤ 4096) × (147465 ≤ length (now out)) ⌝ }
+    requires { ⌜ (count ≤ mostNodes) × (9 + 6 * (nodeCells + 1) * mostNodes ≤ length (now out)) ⌝ }
     ensures { λ r. ⌜ Added (now (out .entry)) 0 (tableText (now (table .entry)) count) (now (out .exit)) r ⌝ }
 {
     let end = put_head(out, b'o', b'k', count);
@@ -73,7 +78,7 @@ fn put_reply(codes: &[u16], out: &mut [u8; TEXT]) -> usize
 
 // What is printed for a file, at the start of `out`.
 fn report(file: &[u8], out: &mut [u8; TEXT]) -> usize
-    requires { ⌜ length (now file) ≤ 24577 ⌝ }
+    requires { ⌜ length (now file) ≤ mostTokens + 1 ⌝ }
     ensures { λ r. ⌜ Counts r (now (out .exit)) ⌝ }
     ensures { λ r. ⌜ Printed (now (file .entry)) (take r (now (out .exit))) ⌝ }
 {

@@ -1,12 +1,17 @@
 // Cells that are lent, and what they hold before and after.
 use crate::record;
-ghost use Prim.Native.Nat.{_≤_};
+use tree::sizes;
+ghost use Prim.Native.Nat.{_*_, _≤_};
+ghost use Rattle.tree.specs.Sizes.{nodeCells, mostNodes};
 
 // The cells of each lent buffer.
 pub const TABLE: usize = 65_535;
 
-// The bytes of the most cells that a reply writes.
-pub const BYTES: usize = 40_960;
+// The most cells that a reply writes: those of the most nodes.
+pub const CELLS: usize = sizes::NODE_CELLS * (sizes::MOST_NODES as usize);
+
+// Their bytes.
+pub const BYTES: usize = 2 * CELLS;
 
 // What cell `i` holds before: no two cells of a buffer hold the same.
 fn pattern(i: usize) -> u16 {
@@ -36,7 +41,7 @@ pub(crate) fn keeps(table: &[u16; TABLE], from: usize) -> bool {
 
 // Whether the first `n` cells are those that are recorded in `cells`.
 fn same(table: &[u16; TABLE], cells: &[u8; BYTES], n: usize) -> bool
-    requires { ⌜ n ≤ 20_480 ⌝ }
+    requires { ⌜ n ≤ nodeCells * mostNodes ⌝ }
 {
     let mut i = 0;
     while i < n {
@@ -50,14 +55,14 @@ fn same(table: &[u16; TABLE], cells: &[u8; BYTES], n: usize) -> bool
 
 // The same, and whether all others keep the pattern.
 pub(crate) fn written(table: &[u16; TABLE], cells: &[u8; BYTES], n: usize) -> bool
-    requires { ⌜ n ≤ 20_480 ⌝ }
+    requires { ⌜ n ≤ nodeCells * mostNodes ⌝ }
 {
     same(table, cells, n) && keeps(table, n)
 }
 
 // Whether the first `n` cells are zeros.
 pub(crate) fn zeros(table: &[u16; TABLE], n: usize) -> bool
-    requires { ⌜ n ≤ 20_480 ⌝ }
+    requires { ⌜ n ≤ nodeCells * mostNodes ⌝ }
 {
     let mut i = 0;
     while i < n {

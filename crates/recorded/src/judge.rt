@@ -1,5 +1,6 @@
 // One record: what it holds is answered anew, and the answer is compared with the recorded one.
 use crate::cells::BYTES;
+use crate::cells::CELLS;
 use crate::cells::TABLE;
 use crate::lists;
 use crate::record;
@@ -8,7 +9,9 @@ use crate::record::Header;
 use crate::record::Sizes;
 use crate::record::Start;
 use crate::trees;
-ghost use Prim.Native.Nat.{_≤_};
+use tree::sizes;
+ghost use Prim.Native.Nat.{_*_, _≤_};
+ghost use Rattle.tree.specs.Sizes.{nodeCells, mostNodes};
 
 // What records hold.
 pub enum Kind {
@@ -30,7 +33,7 @@ pub enum Step {
     Damaged,
 }
 
-// How many cells a reply writes: none on a refusal, otherwise one for each token and five for each node.
+// How many cells a reply writes: none on a refusal, otherwise those of each node, row or token.
 fn cells_of(kind: Kind, reply: u16, count: usize) -> usize
     requires { ⌜ count ≤ 65_535 ⌝ }
     ensures { λ r. ⌜ r ≤ 327_675 ⌝ }
@@ -39,14 +42,16 @@ fn cells_of(kind: Kind, reply: u16, count: usize) -> usize
         return 0;
     }
     match kind {
-        Kind::Tokens => count,
-        _ => 5 * count,
+        Kind::Files => sizes::NODE_CELLS * count,
+        Kind::Rows => sizes::ROW_CELLS * count,
+        Kind::Readings => sizes::NODE_CELLS * count,
+        Kind::Tokens => sizes::TOKEN_CELLS * count,
     }
 }
 
 // Whether the answer to a record is the recorded one.
 fn agrees(kind: Kind, file: &[u8; FILE], h: Header, cells: &[u8; BYTES], s: Sizes) -> bool
-    requires { ⌜ (s .file ≤ 70_000) × (s .lent ≤ 65_535) × (s .written ≤ 20_480) ⌝ }
+    requires { ⌜ (s .file ≤ 70_000) × (s .lent ≤ 65_535) × (s .written ≤ nodeCells * mostNodes) ⌝ }
 {
     match kind {
         Kind::Files => trees::loads(file, h, cells, s),
@@ -62,7 +67,7 @@ fn replay(fd: i32, h: Header, kind: Kind) -> Step {
     let size = h.length;
     let reply = record::wide(h.reply);
     let n = cells_of(kind, h.reply, record::wide(h.count));
-    if lent > TABLE || size > FILE || reply > 16 || n > 20_480 {
+    if lent > TABLE || size > FILE || reply > 16 || n > CELLS {
         return Step::Damaged;
     }
     let mut file = [0u8; FILE];

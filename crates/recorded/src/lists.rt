@@ -7,8 +7,9 @@ use crate::record::FILE;
 use crate::record::Header;
 use crate::record::Sizes;
 use token_reader::Reply;
-ghost use Prim.Native.Nat.{_≤_};
+ghost use Prim.Native.Nat.{_*_, _≤_};
 ghost use lib.ListN.{length};
+ghost use Rattle.tree.specs.Sizes.{nodeCells, mostNodes};
 
 // The most codes: two bytes of a file each.
 const CODES: usize = 35_000;
@@ -54,7 +55,7 @@ fn found(answer: Reply, h: Header) -> bool {
 
 // Whether a token list reads as recorded.
 pub(crate) fn reads(file: &[u8; FILE], h: Header, cells: &[u8; BYTES], s: Sizes) -> bool
-    requires { ⌜ (s .file ≤ 70_000) × (s .lent ≤ 65_535) × (s .written ≤ 20_480) ⌝ }
+    requires { ⌜ (s .file ≤ 70_000) × (s .lent ≤ 65_535) × (s .written ≤ nodeCells * mostNodes) ⌝ }
 {
     let mut table = [0u16; TABLE];
     cells::fill(&mut table);

@@ -9,8 +9,10 @@ use crate::record::Header;
 use crate::record::Sizes;
 use file_loader::Loaded;
 use token_writer::Written;
-ghost use Prim.Native.Nat.{_≤_};
+use tree::sizes;
+ghost use Prim.Native.Nat.{_*_, _≤_};
 ghost use lib.ListN.{length};
+ghost use Rattle.tree.specs.Sizes.{nodeCells, mostNodes};
 
 // The answer to the first `size` bytes of a file, with the first `lent` cells of a table lent.
 fn load_parts(file: &[u8], size: usize, table: &mut [u16], lent: usize) -> Loaded
@@ -40,7 +42,7 @@ fn loaded(answer: Loaded, h: Header) -> bool {
 
 // Whether a file loads as recorded.
 pub(crate) fn loads(file: &[u8; FILE], h: Header, cells: &[u8; BYTES], s: Sizes) -> bool
-    requires { ⌜ (s .file ≤ 70_000) × (s .lent ≤ 65_535) × (s .written ≤ 20_480) ⌝ }
+    requires { ⌜ (s .file ≤ 70_000) × (s .lent ≤ 65_535) × (s .written ≤ nodeCells * mostNodes) ⌝ }
 {
     let mut table = [0u16; TABLE];
     cells::fill(&mut table);
@@ -91,9 +93,9 @@ fn decide(
     decide_loaded(loaded, &table, rows, scratch, lent)
 }
 
-// Whether the rows of a file are as recorded, three cells of the scratch being written for each five of the rows.
+// Whether the rows of a file are as recorded, the scratch of as many nodes being cleared.
 pub(crate) fn decides(file: &[u8; FILE], reply: u16, cells: &[u8; BYTES], s: Sizes) -> bool
-    requires { ⌜ (s .file ≤ 70_000) × (s .lent ≤ 65_535) × (s .written ≤ 20_480) ⌝ }
+    requires { ⌜ (s .file ≤ 70_000) × (s .lent ≤ 65_535) × (s .written ≤ nodeCells * mostNodes) ⌝ }
 {
     let mut rows = [0u16; TABLE];
     cells::fill(&mut rows);
@@ -102,7 +104,7 @@ pub(crate) fn decides(file: &[u8; FILE], reply: u16, cells: &[u8; BYTES], s: Siz
     if decide(file, s.file, &mut rows, &mut scratch, s.lent) != reply {
         return false;
     }
-    let cleared = 3 * (s.written / 5);
+    let cleared = sizes::SCRATCH_CELLS * (s.written / sizes::ROW_CELLS);
     cells::written(&rows, cells, s.written)
         && cells::zeros(&scratch, cleared)
         && cells::keeps(&scratch, cleared)
@@ -142,7 +144,7 @@ fn wrote(answer: Written, h: Header) -> bool {
 
 // Whether the tokens of a file are as recorded.
 pub(crate) fn writes(file: &[u8; FILE], h: Header, cells: &[u8; BYTES], s: Sizes) -> bool
-    requires { ⌜ (s .file ≤ 70_000) × (s .lent ≤ 65_535) × (s .written ≤ 20_480) ⌝ }
+    requires { ⌜ (s .file ≤ 70_000) × (s .lent ≤ 65_535) × (s .written ≤ nodeCells * mostNodes) ⌝ }
 {
     let mut tokens = [0u16; TABLE];
     cells::fill(&mut tokens);

@@ -5,6 +5,8 @@ use crate::stems::BYTES;
 use crate::stems::CELLS;
 use crate::stems::ENDS;
 use crate::stems::NEXTS;
+use crate::stems::ROWS;
+use crate::stems::SCRATCH;
 ghost use Prim.Native.Nat.{_<_, _≤_};
 
 // The forms of a block, by the numbers of their stems, from the top down: one, two or three of them.
@@ -22,8 +24,8 @@ fn with_tree(digest: u64, cells: &[u16; CELLS], count: usize) -> u64
     requires { ⌜ count ≤ 20 ⌝ }
     ensures { λ r. ⌜ r < 70_368_744_177_643 ⌝ }
 {
-    let mut rows = [0u16; CELLS];
-    let mut scratch = [0u16; 60];
+    let mut rows = [0u16; ROWS];
+    let mut scratch = [0u16; SCRATCH];
     let reply = row_walk::decide(0, count as u16, cells, &mut rows, &mut scratch);
     if reply != 0 {
         return digest::add(digest, 1_000);

@@ -1,5 +1,6 @@
 // Digests of rows. A block's digest is recorded from the crate's own rows by the same steps.
-use crate::stems::CELLS;
+use crate::stems::ROWS;
+use tree::sizes;
 ghost use Prim.Native.Nat.{_<_, _≤_};
 
 // A prime below 2^46, so that no step passes 64 bits.
@@ -34,7 +35,7 @@ fn row(pair: u64, precedence: u64, previous: u64, next: u64, flags: u64) -> u64
 }
 
 // The row that begins at a cell.
-fn row_at(rows: &[u16; CELLS], at: usize) -> u64
+fn row_at(rows: &[u16; ROWS], at: usize) -> u64
     requires { ⌜ at ≤ 95 ⌝ }
     ensures { λ r. ⌜ r ≤ 140_000_000_000_000 ⌝ }
 {
@@ -48,7 +49,7 @@ fn row_at(rows: &[u16; CELLS], at: usize) -> u64
 }
 
 // The digest with the rows of so many nodes, behind their number.
-pub(crate) fn add_rows(digest: u64, rows: &[u16; CELLS], count: usize) -> u64
+pub(crate) fn add_rows(digest: u64, rows: &[u16; ROWS], count: usize) -> u64
     requires { ⌜ digest < 70_368_744_177_643 ⌝ }
     requires { ⌜ count ≤ 20 ⌝ }
     ensures { λ r. ⌜ r < 70_368_744_177_643 ⌝ }
@@ -56,7 +57,7 @@ pub(crate) fn add_rows(digest: u64, rows: &[u16; CELLS], count: usize) -> u64
     let mut sum = add(digest, count as u64);
     let mut i = 0;
     while i < count {
-        sum = add(sum, row_at(rows, 5 * i));
+        sum = add(sum, row_at(rows, sizes::ROW_CELLS * i));
         i += 1;
     }
     sum

@@ -1,4 +1,6 @@
 // Stems, and the tables of spines that are put together from them.
+use tree::offsets;
+use tree::sizes;
 ghost use Prim.Native.Nat.{_+_, _<_, _≤_};
 
 // The next operators, with one for none; the ends; the forms with a right operand; and one of these for each kind.
@@ -10,18 +12,24 @@ pub const FORMS: usize = 141;
 
 pub const KINDS: usize = 37;
 
-// A stem's bytes: how many nodes it has, four at the most, and five bytes a node, as in a node table. Operands have their
+// A stem's bytes: how many nodes it has, four at the most, and a byte for each number of a node, as in a node table. Operands have their
 // numbers among the stem's own nodes.
-const STEM: usize = 21;
+const STEM: usize = 1 + 4 * sizes::NODE_CELLS;
 
 // The bytes of all stems.
-pub const BYTES: usize = 10_773;
+pub const BYTES: usize = STEM * (NEXTS + ENDS + FORMS + KINDS);
 
 // The operand whose place the next stem takes.
 const BELOW: usize = 255;
 
-// The cells of a table of five stems.
-pub const CELLS: usize = 100;
+// The most nodes of a table of five stems, and their cells in the table, in the rows and in the walk's scratch.
+const NODES: usize = 20;
+
+pub const CELLS: usize = sizes::NODE_CELLS * NODES;
+
+pub const ROWS: usize = sizes::ROW_CELLS * NODES;
+
+pub const SCRATCH: usize = sizes::SCRATCH_CELLS * NODES;
 
 // A byte as a number to count with.
 fn wide(b: u8) -> usize
@@ -68,10 +76,10 @@ fn lay_node(
     requires { ⌜ before ≤ 16 ⌝ }
 {
     cells[to] = byte(stems, at) as u16;
-    cells[to + 1] = byte(stems, at + 1) as u16;
-    cells[to + 2] = byte(stems, at + 2) as u16;
-    cells[to + 3] = operand(byte(stems, at + 3), nodes, before) as u16;
-    cells[to + 4] = operand(byte(stems, at + 4), nodes, before) as u16;
+    cells[to + offsets::ATTRIBUTES] = byte(stems, at + offsets::ATTRIBUTES) as u16;
+    cells[to + offsets::DETAIL] = byte(stems, at + offsets::DETAIL) as u16;
+    cells[to + offsets::FIRST] = operand(byte(stems, at + offsets::FIRST), nodes, before) as u16;
+    cells[to + offsets::SECOND] = operand(byte(stems, at + offsets::SECOND), nodes, before) as u16;
 }
 
 // How many nodes a stem has.
@@ -99,9 +107,9 @@ pub(crate) fn lay(
     while i < nodes {
         lay_node(
             stems,
-            STEM * stem + 1 + 5 * i,
+            STEM * stem + 1 + sizes::NODE_CELLS * i,
             cells,
-            5 * (before + i),
+            sizes::NODE_CELLS * (before + i),
             nodes,
             before,
         );

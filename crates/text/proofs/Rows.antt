@@ -38,10 +38,10 @@ module _ (f : ℕ → List ℕ) where
 
 -- ---- how many bytes
 
--- a row of five cells of 16 bits
-pub row-most : (cells : List ℕ) → ((i : ℕ) → getD cells i 0 ≤ 65535) → (n : ℕ) → n ≤ 65535 → length (rowLine 5 cells n) ≤ 36
+-- a row of so many cells of 16 bits
+pub row-most : (width : ℕ) (cells : List ℕ) → ((i : ℕ) → getD cells i 0 ≤ 65535) → (n : ℕ) → n ≤ 65535 → length (rowLine width cells n) ≤ 6 * (width + 1)
 unfolding rowLine
-row-most cells fit n h = line-most n cells (5 * (n - 1)) h fit
+row-most width cells fit n h = line-most width n cells (width * (n - 1)) h fit
 
 module _ (f : ℕ → List ℕ) (few : (n : ℕ) → n ≤ 65535 → length (f n) ≤ 36) where
   joined-most : (n : ℕ) → n ≤ 65535 → length (joined f n) ≤ 36 * n
@@ -52,9 +52,9 @@ module _ (f : ℕ → List ℕ) (few : (n : ℕ) → n ≤ 65535 → length (f n
       let last = few (suc n) h in
       rw length-append (omega arith)
 
-  -- behind a first line, for the most nodes
-  pub page-most : (a b n : ℕ) → n ≤ 4096 → length (headed a b n ++ joined f n) ≤ 147465
+  -- behind a first line
+  pub page-most : (a b n : ℕ) → n ≤ 65535 → length (headed a b n ++ joined f n) ≤ 9 + 36 * n
   page-most a b n h =
-      let head = headed-most a b n (omega arith) in
-      let lines = joined-most n (omega arith) in
+      let head = headed-most a b n h in
+      let lines = joined-most n h in
       rw length-append (omega arith)

@@ -37,13 +37,13 @@ below-take most (suc n) [] h i = omega arith
 below-take most (suc n) (x ∷ l) h zero = h 0
 below-take most (suc n) (x ∷ l) h (suc i) = below-take most n l (λ j. h (suc j)) i
 
--- a line of six numbers of 16 bits takes at most 36, where five stand in a table from `from` on
-pub line-most : (n : ℕ) (cells : List ℕ) (from : ℕ) → n ≤ 65535 → ((i : ℕ) → getD cells i 0 ≤ 65535) → length (line n (take 5 (drop from cells))) ≤ 36
+-- a line of a number and so many more, of 16 bits, takes at most six bytes for each, where these stand in a table from `from` on
+pub line-most : (width n : ℕ) (cells : List ℕ) (from : ℕ) → n ≤ 65535 → ((i : ℕ) → getD cells i 0 ≤ 65535) → length (line n (take width (drop from cells))) ≤ 6 * (width + 1)
 unfolding line
-line-most n cells from h fit =
+line-most width n cells from h fit =
     let digits = length-decimal n h in
-    let most = spaced-most (take 5 (drop from cells)) (below-take 65535 5 (drop from cells) (λ i. rw getD-drop (fit (from + i)))) in
-    let five = length-take 5 (drop from cells) in
+    let most = spaced-most (take width (drop from cells)) (below-take 65535 width (drop from cells) (λ i. rw getD-drop (fit (from + i)))) in
+    let few = length-take width (drop from cells) in
     simp length-append (omega arith)
 
 pub headed-most : (a b n : ℕ) → n ≤ 65535 → length (headed a b n) ≤ 9

@@ -12,6 +12,7 @@ use Rattle.laws.specs.Choice.{pick}
 use Rattle.laws.specs.Lists.{over}
 use Rattle.laws.proofs.Choice.{pick-true}
 use Rattle.laws.proofs.Lists.{length-over}
+use Rattle.tree.specs.Sizes.{nodeCells, mostNodes, mostTokens}
 use Rattle.file_loader.specs.declared.Loaded.the-variants as loader
 use Rattle.file_loader.specs.Files.{loaded, loadedTable}
 use Rattle.file_loader.proofs.Loading.{stored-room, stored-cells}
@@ -24,7 +25,7 @@ use Rattle.tokens.specs.Text.{refused, listed, answerText, tableText, lo
 
 -- ---- the answers of the writer
 
-module _ (context count : ℕ) (cells tokens : List ℕ) (room : length tokens ≡ 24576) where
+module _ (context count : ℕ) (cells tokens : List ℕ) (room : length tokens ≡ mostTokens) where
   pub refused-table : (n : ℕ) → Refused n ≡ answered context count cells (length tokens) → refused n ≡ tableText context count cells
   unfolding tableText answerText
   refused-table n e = rw (← room, ← e)
@@ -38,7 +39,7 @@ module _ (context count : ℕ) (cells tokens : List ℕ) (room : length tokens �
         go true p q = (eqb-true _ 0 p, cc)
         go false p q = absurd (let z : _≡_ {A = ℕ} 0 1 = cc in omega arith)
 
-    pub tokens-most : n ≤ 24576
+    pub tokens-most : n ≤ mostTokens
     tokens-most = rw (parts .1) (tokens-bound context count cells (accepted-first context count cells (length tokens) (parts .0)) .1)
 
     -- the codes stand at the start of the buffer
@@ -64,10 +65,10 @@ module _ (context count : ℕ) (cells tokens : List ℕ) (room : length tokens �
 
 -- the table as it is lent
 abbrev zeros : List ℕ
-zeros = replicate 20480 0
+zeros = replicate (nodeCells * mostNodes) 0
 
-room : length zeros ≡ 20480
-room = length-replicate {A = ℕ} 20480 0
+room : length zeros ≡ nodeCells * mostNodes
+room = length-replicate {A = ℕ} (nodeCells * mostNodes) 0
 
 module _ (file after : List ℕ) (stores : after ≡ loadedTable file zeros) where
   pub refused-file : (n : ℕ) → loader.Refused n ≡ loaded file (length zeros) → refused n ≡ printed file
@@ -76,9 +77,9 @@ module _ (file after : List ℕ) (stores : after ≡ loadedTable file zeros) whe
 
   module _ (context count : ℕ) (e : loader.Accepted context count ≡ loaded file (length zeros)) where
     -- the file's numbers are within the table
-    pub cells-within : 5 * count ≤ length after
+    pub cells-within : nodeCells * count ≤ length after
     cells-within = rw stores (stored-room file zeros context count e (omega (arith, room)))
 
-    pub accepted-file : tableText context count (take (5 * count) after) ≡ printed file
+    pub accepted-file : tableText context count (take (nodeCells * count) after) ≡ printed file
     unfolding printed loadedText
     accepted-file = rw (stores, stored-cells file zeros context count e (omega (arith, room)), ← room, ← e)

@@ -4,6 +4,7 @@ use mathlib.Core.List.{List, [], _∷_, _++_}
 use Prim.Native.Nat.{ℕ, suc, _+_, _*_, _≤_}
 use native.Mathlib.Omega.{arith}
 use lib.ListN.{length, drop, getD, length-append}
+use Rattle.tree.specs.Sizes.{mostTokens}
 use Rattle.text.specs.Numbers.{decimal, spaced}
 use Rattle.text.proofs.Digits.{length-decimal}
 use Rattle.text.proofs.Spaces.{spaced-most, headed-most}
@@ -30,7 +31,7 @@ parted-most (n ∷ ns) h =
     let others = spaced-most ns (λ i. h (suc i)) in
     rw length-append (omega arith)
 
-pub listed-most : (codes : List ℕ) → length codes ≤ 24576 → ((i : ℕ) → getD codes i 0 ≤ 65535) → length (listed codes) ≤ 147466
+pub listed-most : (codes : List ℕ) → length codes ≤ mostTokens → ((i : ℕ) → getD codes i 0 ≤ 65535) → length (listed codes) ≤ 9 + 6 * mostTokens + 1
 unfolding listed
 listed-most codes h fit =
     let head = headed-most 111 107 (length codes) (omega arith) in

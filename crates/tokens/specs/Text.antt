@@ -1,7 +1,8 @@
 -- What `tokens` prints for a file, as ASCII codes.
 use mathlib.Core.List.{List, [], _∷_, _++_}
-use Prim.Native.Nat.{ℕ}
+use Prim.Native.Nat.{ℕ, _*_}
 use lib.ListN.{length}
+use Rattle.tree.specs.Sizes.{nodeCells, mostNodes, mostTokens}
 use Rattle.file_loader.specs.declared.Loaded.{Loaded}
 use Rattle.file_loader.specs.declared.Loaded.the-variants as loaded
 use Rattle.file_loader.specs.Files.{cellsIn}
@@ -32,7 +33,7 @@ answerText codes (Tokens n) = listed codes
 
 -- what is printed for a table, with a buffer of 24,576 cells lent to the writer
 unfoldable pub tableText : ℕ → ℕ → List ℕ → List ℕ
-tableText context count cells = answerText (codesOf (written count cells)) (answered context count cells 24576)
+tableText context count cells = answerText (codesOf (written count cells)) (answered context count cells mostTokens)
 
 -- what is printed for the loader's answer
 unfoldable pub loadedText : List ℕ → Loaded → List ℕ
@@ -41,4 +42,4 @@ loadedText cells (loaded.Accepted context count) = tableText context count cells
 
 -- what is printed for a file, with a table of 4,096 nodes lent to the loader
 unfoldable pub printed : List ℕ → List ℕ
-printed file = loadedText (cellsIn file) (files.loaded file 20480)
+printed file = loadedText (cellsIn file) (files.loaded file (nodeCells * mostNodes))

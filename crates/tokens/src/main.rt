@@ -8,23 +8,25 @@ use text::put_head;
 use text::put_number;
 use text::put_spaced;
 use token_writer::Written;
+use tree::sizes;
 ghost use mathlib.Core.Path.{_≡_};
-ghost use Prim.Native.Nat.{_*_, _≤_};
+ghost use Prim.Native.Nat.{_+_, _*_, _≤_};
 ghost use lib.ListN.{length, take};
 ghost use Rattle.io.specs.Counts.{Counts};
+ghost use Rattle.tree.specs.Sizes.{mostTokens};
 ghost use Rattle.text.specs.Growth.{Grown, Added};
 ghost use Rattle.tokens.specs.Text.{parted, listed, tableText, printed};
 
 // One byte more than the longest file, so that a longer one shows.
-const FILE: usize = 65_537;
+const FILE: usize = sizes::MOST_FILE_BYTES + 1;
 
-// The cells of the most nodes: five each in the table, and six for the tokens.
-const CELLS: usize = 20_480;
+// The cells of the most nodes in the table, and of the tokens.
+const CELLS: usize = sizes::NODE_CELLS * (sizes::MOST_NODES as usize);
 
-const TOKENS: usize = 24_576;
+const TOKENS: usize = sizes::MOST_TOKENS;
 
 // The most bytes that are printed: a first line of 9, six for each token, and a line's end.
-const TEXT: usize = 147_466;
+const TEXT: usize = 9 + 6 * TOKENS + 1;
 
 // Numbers with a space between two.
 fn put_parted(out: &mut [u8], end: usize, numbers: &[u16]) -> usize
@@ -39,7 +41,7 @@ fn put_parted(out: &mut [u8], end: usize, numbers: &[u16]) -> usize
 
 // What is printed for tokens.
 fn put_tokens(out: &mut [u8], codes: &[u16]) -> usize
-    requires { ⌜ (length (now codes) ≤ 24576) × (147466 ≤ length (now out)) ⌝ }
+    requires { ⌜ (length (now codes) ≤ mostTokens) × (9 + 6 * mostTokens + 1 ≤ length (now out)) ⌝ }
     ensures { λ r. ⌜ Added (now (out .entry)) 0 (listed (now (codes .entry))) (now (out .exit)) r ⌝ }
 {
     let head = put_head(out, b'o', b'k', codes.len() as u16);
@@ -49,7 +51,7 @@ fn put_tokens(out: &mut [u8], codes: &[u16]) -> usize
 
 // What is printed for a table.
 fn put_table(out: &mut [u8], context: u16, count: u16, table: &[u16]) -> usize
-    requires { ⌜ 147466 ≤ length (now out) ⌝ }
+    requires { ⌜ 9 + 6 * mostTokens + 1 ≤ length (now out) ⌝ }
     ensures { λ r. ⌜ Added (now (out .entry)) 0 (tableText context count (now (table .entry))) (now (out .exit)) r ⌝ }
 {
     let mut tokens = [0u16; TOKENS];
@@ -71,7 +73,7 @@ fn report(file: &[u8], out: &mut [u8; TEXT]) -> usize
     match file_loader::load(file, &mut table) {
         Loaded::Refused(why) => put_head(out, b'n', b'o', why),
         Loaded::Accepted(context, count) => {
-            let cells = 5 * (count as usize);
+            let cells = sizes::NODE_CELLS * (count as usize);
             put_table(out, context, count, &table[..cells])
         }
     }

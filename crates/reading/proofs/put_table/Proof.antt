@@ -1,5 +1,6 @@
 -- `reading::put_table` meets its contract. Assumes nothing.
 use native.Mathlib.Omega.{arith}
+use Rattle.tree.specs.Sizes.{nodeCells}
 use Rattle.text.specs.Numbers.{rowLine}
 use Rattle.text.proofs.Growing.{grown-more, fits}
 use Rattle.reading.specs.Text.{tableText}
@@ -12,8 +13,8 @@ returns : tie.Need-returns
 unfolding tableText
 returns c =
     let s = c .before .before .before .before .before .before .before .before .before .before in
-    let row = row-most (s .args .table .now) (λ i. omega (arith, c .before .before .before .before .before .before .before .before .shared-slice-known .given i)) in
-    let most = page-most (rowLine 5 (s .args .table .now)) row 111 107 (s .args .count) (s .pre .0) in
+    let row = row-most nodeCells (s .args .table .now) (λ i. omega (arith, c .before .before .before .before .before .before .before .before .shared-slice-known .given i)) in
+    let most = page-most (rowLine nodeCells (s .args .table .now)) row 111 107 (s .args .count) (omega (arith, s .pre .0)) in
     fits (omega arith) (grown-more (c .before .before .before .before .before .before .put-head .ensures) (c .before .before .put-nodes .ensures))
 
 pub put-table-spec : {M : Type 1} → statement M

@@ -1,24 +1,25 @@
 -- `reading::report` meets its contract. Assumes nothing.
 use mathlib.Core.Path.{_≡_, refl, sym}
 use mathlib.Core.List.{List}
-use Prim.Native.Nat.{ℕ, _≤_}
+use Prim.Native.Nat.{ℕ, _+_, _≤_}
 use lib.ListN.{length, take, replicate, length-replicate}
 use lib.Seq.{take-at, length-take-le}
 use Rattle.laws.specs.Lists.{over}
 use Rattle.laws.proofs.Lists.{length-over}
+use Rattle.tree.specs.Sizes.{mostTokens}
 use borrow.Author.Needs.{needs}
 use Rattle.reading.proofs.report.Statement.{statement}
 use Rattle.reading.proofs.report.Tie as tie
 
 -- the codes as they are lent
 abbrev zeros : List ℕ
-zeros = replicate 24577 0
+zeros = replicate (mostTokens + 1) 0
 
-room : length zeros ≡ 24577
-room = length-replicate {A = ℕ} 24577 0
+room : length zeros ≡ mostTokens + 1
+room = length-replicate {A = ℕ} (mostTokens + 1) 0
 
 -- there is room for the file
-within : (file : List ℕ) → length file ≤ 24577 → length file ≤ length (over file zeros)
+within : (file : List ℕ) → length file ≤ mostTokens + 1 → length file ≤ length (over file zeros)
 within file h = rw (length-over file zeros (rw room h), room) h
 
 -- which then stands at the start

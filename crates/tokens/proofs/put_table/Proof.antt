@@ -8,16 +8,17 @@ use lib.Seq.{length-take-le}
 use Rattle.text.proofs.Growing.{fits}
 use Rattle.text.proofs.Spaces.{headed-most}
 use Rattle.tokens.proofs.Files.{refused-table, tokens-most, tokens-within, tokens-table}
+use Rattle.tree.specs.Sizes.{mostTokens}
 use borrow.Author.Needs.{needs}
 use Rattle.tokens.proofs.put_table.Statement.{statement}
 use Rattle.tokens.proofs.put_table.Tie as tie
 
 -- the buffer as it is lent
 abbrev zeros : List ℕ
-zeros = replicate 24576 0
+zeros = replicate mostTokens 0
 
-room : length zeros ≡ 24576
-room = length-replicate {A = ℕ} 24576 0
+room : length zeros ≡ mostTokens
+room = length-replicate {A = ℕ} mostTokens 0
 
 array-share-prefix-tokens : tie.Need-array-share-prefix-tokens
 array-share-prefix-tokens c =
