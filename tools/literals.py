@@ -7,7 +7,7 @@
 
 Looks at src/, specs/ and proofs/ of each crate, comments left out. KINDS says what is
 looked for, ALLOWED which of it may stay as digits, and why. Fails if more than LIMIT
-are left.
+are left, or if the specs and the code of `tree` give a name different numbers.
 """
 
 import re
@@ -19,7 +19,7 @@ from pathlib import Path
 CRATES = Path(__file__).resolve().parent.parent / 'crates'
 
 # The most that may be left.
-LIMIT = 1207
+LIMIT = 290
 
 
 def number(*values):
@@ -75,21 +75,25 @@ KINDS = [
 # The kind, the files, the text that the digits stand in (the whole line if none is given), and why they stay.
 ALLOWED = [
     ('*', '*', r'^\s*(pub )?const \w+: \w+ = [\d_]+;', 'the definition of the name, in the code'),
-    ('*', '*/specs/*', r'^(nodeCells|rowCells|scratchCells|tokenCells|tokensPerNode|most\w+|lastCode|\w*[eE]nd\w*) = \d+', 'the definition of the name, in the specs'),
+    ('*', '*/specs/*', r'^(nodeCells|rowCells|scratchCells|tokenCells|tokensPerNode|most\w+|lastCode|\w*[eE]nd\w*|\w+Column) = \d+', 'the definition of the name, in the specs'),
     ('*', '*/specs/Cases.antt', '', 'an example'),
     ('last', '*/specs/Forms.antt', r'^Type\w+ = \d+', 'the table of forms'),
     ('last', '*/specs/Tokens.antt', r'^code \w+ = \d+', 'the table of codes'),
     ('*', '*/proofs/*', r'^(expressions|types) = [\d ∷]+', 'forms, in the proof of a table over them'),
-    ('last', '*/proofs/*', r'eqb f 10\)\) \(\d+ ∷|suits f d.* \(\d+ ∷', 'forms, in the proof of a table over them'),
+    ('last', '*/proofs/*', r'eqb f 10\)\) \([\d ∷]+|suits f d.* \([\d ∷]+', 'forms, in the proof of a table over them'),
     ('code', '*', r'[Rr]efuse[ds]?[ (]\d+', 'the number of a refusal'),
     ('code', '*/proofs/*', r'pick(-true|-false)? (\(refusal.*\) )?1[23] |\) 13 0', 'the number of a refusal'),
     ('code', '*/proofs/*', r'_ \d+ tt', 'the place of a row in its table'),
     ('code', '*/src/*', r'1 \| 3 => true', 'the pairs of a row, which are no codes'),
     ('levels', 'file_numbers/*', '', 'the base of the groups of seven bits'),
     ('place', 'file_numbers/*', '', 'a byte of a number'),
+    ('place', 'tree_one_pass/src/*', r'marks\[at \+ \d\]', 'a mark among four'),
+    ('place', 'token_writer/src/*', r'tokens\[at \+ \d\]', 'a code among up to three'),
+    ('place', 'row_walk/src/* spines/src/digest.rt', r'rows\[at \+ \d\]', 'a cell of a row, beside its name'),
+    ('nodes', 'spines/src/*', '', 'a row as one number'),
     ('levels', 'tree_one_pass/*', r'row / 128 % 8', 'a part of a number that holds a row of the table of forms'),
     ('levels', 'row_pack/*', '', 'the weight of a flag'),
-    ('a node', 'text/* tokens/*', '', 'the most bytes of a number with its space'),
+    ('a node', 'text/* parens/* tokens/* reading/*', '', 'the most bytes of a number with its space'),
     ('bytes', '*/proofs/*', r'65536 - ', 'what a loop counts down from: all numbers of two bytes'),
     ('bytes', 'answers/*', r'65536 \*', 'a refusal as a part of one number'),
     ('bytes', 'recorded/src/* spines/src/*', '', 'the weight of a byte'),
@@ -133,6 +137,33 @@ def reason(kind, name, line, match):
     return None
 
 
+def defined(path, pattern, name=str):
+    """The numbers that a file of `tree` defines, by name."""
+    text = (CRATES / 'tree' / path).read_text()
+    return {name(found): int(value.replace('_', '')) for found, value in re.findall(pattern, text, re.MULTILINE)}
+
+
+def in_specs(name):
+    """A name as specs spell it: NODE_CELLS is nodeCells."""
+    first, *others = name.lower().split('_')
+    return first + ''.join(word.capitalize() for word in others)
+
+
+def differences():
+    """The names whose numbers are not the same in the specs and in the code."""
+    const = r'^pub const (\w+): \w+ = ([\d_]+);'
+    pairs = [
+        ('sizes.rt', in_specs, defined('specs/Sizes.antt', r'^(\w+) = (\d+)$')),
+        ('columns.rt', lambda name: in_specs(name) + 'Column', defined('specs/Table.antt', r'^(\w+Column) = (\d+)$')),
+        ('offsets.rt', lambda name: in_specs(name) + 'Column', defined('specs/Table.antt', r'^(\w+Column) = (\d+)$')),
+    ]
+    for file, name, specs in pairs:
+        code = defined(f'src/{file}', const, name)
+        for found in sorted(specs.keys() | code.keys()):
+            if specs.get(found) != code.get(found):
+                yield f'{found}: {specs.get(found)} in the specs, {code.get(found)} in {file}'
+
+
 def table(left):
     """A line for each crate, a column for each kind."""
     kinds = list(dict.fromkeys(kind for kind, *_ in KINDS))
@@ -162,7 +193,11 @@ def main(arguments):
         print(f'{times:5}  {why}')
     print('\nkinds: ' + '; '.join(f'{kind}, {what}' for kind, what, *_ in KINDS))
     print(f'{len(left)} digits without a name, at most {LIMIT}')
-    return int(len(left) > LIMIT)
+    differ = list(differences())
+    for difference in differ:
+        print(difference)
+    print(f'{len(differ)} names of `tree` whose numbers differ between specs and code')
+    return int(len(left) > LIMIT or bool(differ))
 
 
 if __name__ == '__main__':
