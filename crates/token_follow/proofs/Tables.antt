@@ -19,7 +19,7 @@ use Rattle.token_grammar.specs.Next.{Next, nextOf, levelAt}
 use Rattle.token_follow.specs.Follow.{beforeAt, barredAt}
 use Rattle.token_follow.specs.Tables.{levelLines, pastLines, levelPast, levelOf, beforeOf, barredLines, barred}
 
--- from 46 on a code stands for no token, and nothing goes on
+-- from `listEnd` on a code stands for no token, and nothing goes on
 past-token : (n : ℕ) → listEnd ≤ n → tokenOf n ≡ Await
 unfolding tokenOf
 past-token n h = List·getD-eq-default (spelled allOperators) Await h
@@ -28,7 +28,7 @@ past-level : (n : ℕ) → listEnd ≤ n → levelOf n ≡ 0
 unfolding levelOf levelPast levelLines pastLines
 past-level n h = past-rows levelLines (levelPast n) listEnd n tt h ∙ past-rows pastLines 0 listEnd n tt h
 
--- what holds of each code below 46, and of the others, holds of all
+-- what holds of each code below `listEnd`, and of the others, holds of all
 each-code : {A : Type 0} (f : ℕ → A) (g : Token → A) → ((n : ℕ) → n < listEnd → f n ≡ g (tokenOf n)) → ((n : ℕ) → listEnd ≤ n → f n ≡ g Await) → (n : ℕ) → f n ≡ g (tokenOf n)
 each-code f g below above n = go (decLe listEnd n)
   where

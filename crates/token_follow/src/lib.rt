@@ -1,4 +1,6 @@
 // What may follow an expression, by the code of the next token.
+use token_grammar::codes;
+use token_grammar::level;
 ghost use mathlib.Core.Path.{_≡_};
 ghost use Rattle.token_grammar.specs.Codes.{tokenOf};
 ghost use Rattle.token_grammar.specs.Next.{nextOf, levelAt};
@@ -10,10 +12,10 @@ fn level_past(code: u16) -> u16
     ensures { λ r. ⌜ r ≡ levelPast code ⌝ }
 {
     match code {
-        31 => 13,
-        34 => 15,
-        35 => 15,
-        37 | 40 => 15,
+        codes::AS => level::CASTS,
+        codes::DOT => level::POSTFIXES,
+        codes::LEFT_PAREN => level::POSTFIXES,
+        codes::LEFT_BRACKET | codes::QUESTION => level::POSTFIXES,
         _ => 0,
     }
 }
@@ -23,28 +25,33 @@ pub fn level_of(code: u16) -> u16
     ensures { λ r. ⌜ r ≡ levelAt (nextOf (tokenOf code)) ⌝ }
 {
     match code {
-        0..=1 => 11,
-        2..=4 => 12,
-        5 => 4,
-        6 => 3,
-        7 => 8,
-        8 => 9,
-        9 => 7,
-        10..=11 => 10,
-        12..=17 => 6,
-        18..=28 => 1,
+        codes::ADD..=codes::SUB => level::SUMS,
+        codes::MUL..=codes::REM => level::PRODUCTS,
+        codes::AND => level::ANDS,
+        codes::OR => level::ORS,
+        codes::BIT_XOR => level::BIT_XORS,
+        codes::BIT_AND => level::BIT_ANDS,
+        codes::BIT_OR => level::BIT_ORS,
+        codes::SHL..=codes::SHR => level::SHIFTS,
+        codes::EQ..=codes::GT => level::COMPARISONS,
+        codes::ADD_ASSIGN..=codes::ASSIGN => level::ASSIGNMENTS,
         _ => level_past(code),
     }
 }
 
-// The lowest level of an operand that stands before: assignments (1) lean right, comparisons (6) to neither side.
-fn lowest_before(level: u16) -> u16
-    ensures { λ r. ⌜ r ≡ beforeOf level ⌝ }
+// The levels straight above those that don't lean left: assignments lean right, comparisons to neither side.
+const ABOVE_ASSIGNMENTS: u16 = level::ASSIGNMENTS + 1;
+
+const ABOVE_COMPARISONS: u16 = level::COMPARISONS + 1;
+
+// The lowest level of an operand that stands before.
+fn lowest_before(made: u16) -> u16
+    ensures { λ r. ⌜ r ≡ beforeOf made ⌝ }
 {
-    match level {
-        1 => 2,
-        6 => 7,
-        _ => level,
+    match made {
+        level::ASSIGNMENTS => ABOVE_ASSIGNMENTS,
+        level::COMPARISONS => ABOVE_COMPARISONS,
+        _ => made,
     }
 }
 
@@ -53,8 +60,8 @@ fn is_barred(named: bool, dotted: bool, code: u16) -> bool
     ensures { λ r. ⌜ r ≡ barred named dotted code ⌝ }
 {
     match code {
-        10 | 13 => named,
-        35 => dotted,
+        codes::SHL | codes::LT => named,
+        codes::LEFT_PAREN => dotted,
         _ => false,
     }
 }

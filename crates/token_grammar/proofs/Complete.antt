@@ -8,6 +8,7 @@ use lib.ListN.{length}
 use Rattle.laws.specs.Choice.{pick, lookup}
 use Rattle.token_grammar.specs.Tokens.{Lt, Token, operator, As, Name, Dot, LeftParen, RightParen, LeftBracket, RightBracket, Comma, Question}
 use Rattle.token_grammar.specs.Levels.{prefixes, kind, level, after}
+use Rattle.token_grammar.specs.Bounds.{loosest}
 use Rattle.token_grammar.specs.Types.{Sort, one, list, items, Ty, writeType}
 use Rattle.token_grammar.specs.Expressions.{Atom, path, literal, Prefix, neg, deref, invert, ref, refMut, Member, byName, byNumber, awaited, Expr, atom, paren, prefix, binary, cast, member, try, index, call, method, noArguments, arguments, lastArgument, moreArguments, atomToken, prefixToken, memberToken, write, kindOf}
 use Rattle.token_grammar.specs.Grammar.{Context, NONE, opensArguments, fits}
@@ -163,7 +164,7 @@ onStep f c n e ts x =
       | castsTo ↦ then (typeBy f (tail ts)) (λ t r. onBy f c n (cast e t) r)
       | dots ↦ dotStep f c n e (tail ts) (afterDot (tail ts))
       | calls ↦ then (argumentsBy f (tail ts)) (λ l r. onBy f c n (call e l) r)
-      | indexes ↦ then (exprBy f NONE 1 (tail ts)) (λ b r. elim (isFirst RightBracket r) [ true ↦ onBy f c n (index e b) (tail r) | false ↦ fail ])
+      | indexes ↦ then (exprBy f NONE loosest (tail ts)) (λ b r. elim (isFirst RightBracket r) [ true ↦ onBy f c n (index e b) (tail r) | false ↦ fail ])
       | tries ↦ onBy f c n (try e) (tail ts)
     ]
 

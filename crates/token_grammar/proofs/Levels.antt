@@ -20,13 +20,13 @@ use Rattle.token_grammar.proofs.Tokens.{allIn, all-in, each-operator, o
 -- ---- the same levels elsewhere
 
 -- an operator's level is the precedence that of_binop gives; `=`, which is no Binary operator, has that of Assign
-pub binop-level : (o : Operator) → number o < 28 → rankOf (ofBinop (number o)) ≡ level (kind o)
+pub binop-level : (o : Operator) → number o < number Assign → rankOf (ofBinop (number o)) ≡ level (kind o)
 unfolding ofBinop operators lookup pick kind
 binop-level o h =
-    go (eqb (number o) 28) refl (each-operator (λ x. pick (eqb (number x) 28) true (eqb (rankOf (ofBinop (number x))) (level (kind x)))) tt o)
+    go (eqb (number o) (number Assign)) refl (each-operator (λ x. pick (eqb (number x) (number Assign)) true (eqb (rankOf (ofBinop (number x))) (level (kind x)))) tt o)
   where
-    go : (b : Bool) → eqb (number o) 28 ≡ b → T (pick b true (eqb (rankOf (ofBinop (number o))) (level (kind o)))) → rankOf (ofBinop (number o)) ≡ level (kind o)
-    go true e t = absurd (omega (arith, eqb-true (number o) 28 e))
+    go : (b : Bool) → eqb (number o) (number Assign) ≡ b → T (pick b true (eqb (rankOf (ofBinop (number o))) (level (kind o)))) → rankOf (ofBinop (number o)) ≡ level (kind o)
+    go true e t = absurd (omega (arith, eqb-true (number o) (number Assign) e))
     go false e t = eqb→eq (rankOf (ofBinop (number o))) (level (kind o)) t
 
 pub form-levels : (rankOf AssignPrecedence ≡ level (kind Assign)) × (rankOf Cast ≡ level casts) × (rankOf Prefix ≡ level prefixes) × (rankOf Unambiguous ≡ level postfixes)
@@ -34,7 +34,7 @@ unfolding kind lookup pick
 form-levels = (refl, refl, refl, refl)
 
 -- one operator's level is below another's exactly where the Reference has it weaker
-pub reference-order : (o p : Operator) → number o < 28 → number p < 28 → ltb (level (kind o)) (level (kind p)) ≡ weaker (number o) (number p)
+pub reference-order : (o p : Operator) → number o < number Assign → number p < number Assign → ltb (level (kind o)) (level (kind p)) ≡ weaker (number o) (number p)
 reference-order o p h k = sym (ap₂ ltb (binop-level o h) (binop-level p k)) ∙ levels-agree (number o) (number p) h k
 
 -- ---- what the rule of level and lean gives

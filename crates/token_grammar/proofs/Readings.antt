@@ -5,6 +5,7 @@ use Prim.Native.Nat.{_*_}
 use native.Mathlib.Omega.{arith}
 use lib.ListN.{length}
 use Rattle.token_grammar.specs.Tokens.{Token}
+use Rattle.token_grammar.specs.Bounds.{loosest}
 use Rattle.token_grammar.specs.Types.{one}
 use Rattle.token_grammar.specs.Expressions.{Expr, write}
 use Rattle.token_grammar.specs.Grammar.{Context, fits}
@@ -21,7 +22,7 @@ complete c e k =
 pub correct : (c : Context) (ts : List Token) (e : Expr one) → parse c ts ≡ ok e [] → fits c e × (write e [] ≡ ts)
 unfolding parse
 correct c ts e h =
-    let g : Sound c 1 ts e [] = subst (Good (Sound c 1 ts)) h (sound (2 * length ts) .0 c 1 ts (omega arith)) in
+    let g : Sound c loosest ts e [] = subst (Good (Sound c loosest ts)) h (sound (2 * length ts) .0 c loosest ts (omega arith)) in
     (g .0, g .2)
 
 -- Fitting trees that write the same tokens are one.

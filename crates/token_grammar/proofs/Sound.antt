@@ -7,6 +7,7 @@ use native.Mathlib.Omega.{arith}
 use Rattle.laws.proofs.Choice.{and-true, true-not-false}
 use Rattle.token_grammar.specs.Tokens.{Token, operator, As, Name, Dot, LeftParen, RightParen, LeftBracket, RightBracket, Comma, Question}
 use Rattle.token_grammar.specs.Levels.{prefixes, kind, after}
+use Rattle.token_grammar.specs.Bounds.{loosest}
 use Rattle.token_grammar.specs.Types.{Sort, one, list, items}
 use Rattle.token_grammar.specs.Expressions.{Member, byName, byNumber, awaited, Expr, atom, paren, prefix, binary, cast, member, try, index, call, method, noArguments, arguments, lastArgument, moreArguments, prefixToken, memberToken, write}
 use Rattle.token_grammar.specs.Grammar.{Context, NONE, AtLeast, fits}
@@ -42,7 +43,7 @@ exprStep f c n ts x =
       | noStart ↦ fail
       | anAtom a ↦ onBy f c n (atom a) (tail ts)
       | aPrefix p ↦ then (exprBy f c (after prefixes) (tail ts)) (λ a r. onBy f c n (prefix p a) r)
-      | aGroup ↦ then (exprBy f NONE 1 (tail ts)) (λ a r. closeStep f c n (paren a) r (isFirst RightParen r))
+      | aGroup ↦ then (exprBy f NONE loosest (tail ts)) (λ a r. closeStep f c n (paren a) r (isFirst RightParen r))
     ]
 
 abbrev memberStep : ℕ → Context → ℕ → Expr one → Member → List Token → Bool → Out (Expr one)
@@ -86,7 +87,7 @@ module _ (f : ℕ) (ih : Sounds f) (c : Context) where
         (λ a r h. onward n ts (prefix p a) r (cc) small (h .1, h .0))
     sound-expr aGroup e =
         let u : LeftParen ∷ tail ts ≡ ts = start-is ts aGroup e in
-        good-then (Sound NONE 1 (tail ts)) (Sound c n ts) (exprBy f NONE 1 (tail ts)) (λ a r. closeStep f c n (paren a) r (isFirst RightParen r)) (ih .0 NONE 1 (tail ts) (omega arith))
+        good-then (Sound NONE loosest (tail ts)) (Sound c n ts) (exprBy f NONE loosest (tail ts)) (λ a r. closeStep f c n (paren a) r (isFirst RightParen r)) (ih .0 NONE loosest (tail ts) (omega arith))
         (λ a r h. sound-group a r (h .0) (cc) (isFirst RightParen r) refl)
 
   module _ (n : ℕ) (e : Expr one) (ts : List Token) (enough : AtLeast n e) (k : fits c e) where
@@ -132,7 +133,7 @@ module _ (f : ℕ) (ih : Sounds f) (c : Context) where
         (λ a r h. onward n (write e ts) (call e a) r (cc) l (p .0, p .1, k, h .0 c))
     sound-step indexes q l p =
         let u : LeftBracket ∷ tail ts ≡ ts = next-is ts indexes q in
-        good-then (Sound NONE 1 (tail ts)) S (exprBy f NONE 1 (tail ts)) (λ b r. closeStep f c n (index e b) r (isFirst RightBracket r)) (ih .0 NONE 1 (tail ts) (omega arith))
+        good-then (Sound NONE loosest (tail ts)) S (exprBy f NONE loosest (tail ts)) (λ b r. closeStep f c n (index e b) r (isFirst RightBracket r)) (ih .0 NONE loosest (tail ts) (omega arith))
         (λ b r h. sound-index b r (cc) p (h .0) l (isFirst RightBracket r) refl)
     sound-step tries q l p =
         let u : Question ∷ tail ts ≡ ts = next-is ts tries q in
@@ -164,6 +165,6 @@ sound (suc f) =
       λ c n ts h. sound-expr f ih c n ts h (start ts) refl,
       λ c n e ts h k. sound-on f ih c n e ts h k (goesOn n e (next ts)) refl,
       λ ts. sound-arguments f ih ts (isFirst RightParen ts) refl,
-      λ ts. good-then (Sound NONE 1 ts) (ListSound {s = items} ts) (exprBy f NONE 1 ts) (λ a r. someStep f a r (isFirst RightParen r) (isFirst Comma r)) (ih .0 NONE 1 ts (omega arith))
+      λ ts. good-then (Sound NONE loosest ts) (ListSound {s = items} ts) (exprBy f NONE loosest ts) (λ a r. someStep f a r (isFirst RightParen r) (isFirst Comma r)) (ih .0 NONE loosest ts (omega arith))
           (λ a r h. sound-some f ih ts a r (h .0) (h .2) (isFirst RightParen r) (isFirst Comma r) refl refl),
     )

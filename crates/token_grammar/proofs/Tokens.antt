@@ -1,4 +1,4 @@
--- 46 tokens, one for each code; a rule for every operator, or for every token, is one computed test. Assumes nothing.
+-- A token for each code below `listEnd`; a rule for every operator, or for every token, is one computed test. Assumes nothing.
 use mathlib.Core.Path.{_≡_, refl, sym, subst, ap, ap₂, _∙_}
 use mathlib.Core.Bool.{Bool, true, _&&_}
 use mathlib.Core.List.{List, [], _∷_}
@@ -12,6 +12,7 @@ use Rattle.laws.proofs.Each.{all-at}
 use Rattle.laws.proofs.Keys.{allBelow}
 use Rattle.tree.specs.Sizes.{listEnd}
 use Rattle.token_grammar.specs.Tokens.{Operator, Add, Sub, Mul, Div, Rem, And, Or, BitXor, BitAnd, BitOr, Shl, Shr, Eq, Lt, Le, Ne, Ge, Gt, AddAssign, SubAssign, MulAssign, DivAssign, RemAssign, BitXorAssign, BitAndAssign, BitOrAssign, ShlAssign, ShrAssign, Assign, number, Token, operator, code, Bang, AndMut, As, Name, Literal, Dot, LeftParen, RightParen, LeftBracket, RightBracket, Comma, Question, StarConst, StarMut, Underscore, NumberedMember, Await, allOperators, operatorOf, codesOf}
+use Rattle.token_grammar.specs.Bounds.{pastOperators}
 use Rattle.token_grammar.specs.Codes.{spelled, tokenOf, tokensOf}
 
 -- ---- the operators, by number
@@ -68,14 +69,14 @@ each-operator p h o =
     let d = and-true (p Assign) (allIn p allOperators) (true-of h) in
     subst (λ x. T (p x)) (operator-number o) (all-in p Assign allOperators (of-true (d .0)) (of-true (d .1)) (number o))
 
-pub number-operator : (n : ℕ) → n < 29 → number (operatorOf n) ≡ n
+pub number-operator : (n : ℕ) → n < pastOperators → number (operatorOf n) ≡ n
 unfolding operatorOf
-number-operator n h = eqb→eq (number (operatorOf n)) n (all-at (λ m. eqb (number (operatorOf m)) m) 29 tt n h)
+number-operator n h = eqb→eq (number (operatorOf n)) n (all-at (λ m. eqb (number (operatorOf m)) m) pastOperators tt n h)
 
-pub number-below : (o : Operator) → number o < 29
-number-below o = ltb→lt (number o) 29 (each-operator (λ x. ltb (number x) 29) tt o)
+pub number-below : (o : Operator) → number o < pastOperators
+number-below o = ltb→lt (number o) pastOperators (each-operator (λ x. ltb (number x) pastOperators) tt o)
 
--- ---- a token has one code, and each code below 46 a token
+-- ---- a token has one code, and each code below `listEnd` a token
 
 -- along the list of operators, the token at a place is the operator's
 at-place : (os : List Operator) (n : ℕ) (d : Operator) → n < length os → getD (spelled os) n Await ≡ operator (getD os n d)

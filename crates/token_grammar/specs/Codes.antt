@@ -1,4 +1,4 @@
--- The token that a code stands for: proofs/Tokens says that each code below 46 is its token's.
+-- The token that a code stands for: proofs/Tokens says that each code below the end's (`listEnd`) is its token's.
 use mathlib.Core.List.{List, [], _∷_}
 use Prim.Native.Nat.{ℕ}
 use lib.ListN.{getD}
@@ -13,7 +13,7 @@ abbrev pub spelled : List Operator → List Token
 spelled [] = others
 spelled (o ∷ os) = operator o ∷ spelled os
 
--- from 46 on no token has the code
+-- from `listEnd` on no token has the code
 unfoldable pub tokenOf : ℕ → Token
 tokenOf n = getD (spelled allOperators) n Await
 

@@ -1,6 +1,7 @@
 pub mod Tokens
 pub mod Codes
 pub mod Levels
+pub mod Bounds
 pub mod Types
 pub mod Expressions
 pub mod Grammar

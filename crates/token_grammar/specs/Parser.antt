@@ -5,8 +5,9 @@ use Prim.Native.Nat.{ℕ, zero, suc, _*_}
 use lib.Dec.{leb, eqb}
 use lib.ListN.{length}
 use Rattle.laws.specs.Choice.{Line, line, lookup}
-use Rattle.token_grammar.specs.Tokens.{Operator, Lt, Gt, Token, operator, code, Bang, AndMut, As, Name, Literal, Dot, LeftParen, RightParen, LeftBracket, RightBracket, Comma, Question, StarConst, StarMut, Underscore, NumberedMember, Await}
+use Rattle.token_grammar.specs.Tokens.{Operator, Sub, Mul, BitAnd, Lt, Gt, number, Token, operator, code, Bang, AndMut, As, Name, Literal, Dot, LeftParen, RightParen, LeftBracket, RightBracket, Comma, Question, StarConst, StarMut, Underscore, NumberedMember, Await}
 use Rattle.token_grammar.specs.Levels.{casts, prefixes, postfixes, kind, level, before, after}
+use Rattle.token_grammar.specs.Bounds.{loosest}
 use Rattle.token_grammar.specs.Next.{Next, stops, operates, castsTo, dots, calls, indexes, tries, nextOf, levelAt}
 use Rattle.token_grammar.specs.Types.{one, list, items, TypePrefix, constPtr, mutPtr, sharedRef, mutRef, TypeSign, infer, never, Ty, named, applied, pointing, sign, noTypes, types, lastType, moreTypes}
 use Rattle.token_grammar.specs.Expressions.{Atom, path, literal, Prefix, neg, deref, invert, ref, refMut, Member, byName, byNumber, awaited, Expr, atom, paren, prefix, binary, cast, member, try, index, call, method, noArguments, arguments, lastArgument, moreArguments, kindOf, endsInTypeName, endsInDotName}
@@ -44,14 +45,14 @@ pub data Start : Type 0 where
 
 abbrev pub startLines : List (Line Start)
 startLines =
-    line (1 ∷ []) (aPrefix neg) ∷
-    line (2 ∷ []) (aPrefix deref) ∷
-    line (8 ∷ []) (aPrefix ref) ∷
-    line (29 ∷ []) (aPrefix invert) ∷
-    line (30 ∷ []) (aPrefix refMut) ∷
-    line (32 ∷ []) (anAtom path) ∷
-    line (33 ∷ []) (anAtom literal) ∷
-    line (35 ∷ []) aGroup ∷
+    line (number Sub ∷ []) (aPrefix neg) ∷
+    line (number Mul ∷ []) (aPrefix deref) ∷
+    line (number BitAnd ∷ []) (aPrefix ref) ∷
+    line (code Bang ∷ []) (aPrefix invert) ∷
+    line (code AndMut ∷ []) (aPrefix refMut) ∷
+    line (code Name ∷ []) (anAtom path) ∷
+    line (code Literal ∷ []) (anAtom literal) ∷
+    line (code LeftParen ∷ []) aGroup ∷
     []
 
 abbrev pub startBy : ℕ → Start
@@ -72,13 +73,13 @@ pub data TypeStart : Type 0 where
 
 abbrev pub typeStartLines : List (Line TypeStart)
 typeStartLines =
-    line (8 ∷ []) (aTypePrefix sharedRef) ∷
-    line (29 ∷ []) (aSign never) ∷
-    line (30 ∷ []) (aTypePrefix mutRef) ∷
-    line (32 ∷ []) aName ∷
-    line (41 ∷ []) (aTypePrefix constPtr) ∷
-    line (42 ∷ []) (aTypePrefix mutPtr) ∷
-    line (43 ∷ []) (aSign infer) ∷
+    line (number BitAnd ∷ []) (aTypePrefix sharedRef) ∷
+    line (code Bang ∷ []) (aSign never) ∷
+    line (code AndMut ∷ []) (aTypePrefix mutRef) ∷
+    line (code Name ∷ []) aName ∷
+    line (code StarConst ∷ []) (aTypePrefix constPtr) ∷
+    line (code StarMut ∷ []) (aTypePrefix mutPtr) ∷
+    line (code Underscore ∷ []) (aSign infer) ∷
     []
 
 abbrev pub typeStartBy : ℕ → TypeStart
@@ -97,9 +98,9 @@ pub data AfterDot : Type 0 where
 
 abbrev pub afterDotLines : List (Line AfterDot)
 afterDotLines =
-    line (32 ∷ []) (aMember byName) ∷
-    line (44 ∷ []) (aMember byNumber) ∷
-    line (45 ∷ []) (aMember awaited) ∷
+    line (code Name ∷ []) (aMember byName) ∷
+    line (code NumberedMember ∷ []) (aMember byNumber) ∷
+    line (code Await ∷ []) (aMember awaited) ∷
     []
 
 abbrev pub afterDotBy : ℕ → AfterDot
@@ -169,7 +170,7 @@ unfoldable mutual
         | noStart ↦ fail
         | anAtom x ↦ onBy f c n (atom x) (tail ts)
         | aPrefix p ↦ then (exprBy f c (after prefixes) (tail ts)) (λ a r. onBy f c n (prefix p a) r)
-        | aGroup ↦ then (exprBy f NONE 1 (tail ts)) (λ a r. elim (isFirst RightParen r) [ true ↦ onBy f c n (paren a) (tail r) | false ↦ fail ])
+        | aGroup ↦ then (exprBy f NONE loosest (tail ts)) (λ a r. elim (isFirst RightParen r) [ true ↦ onBy f c n (paren a) (tail r) | false ↦ fail ])
       ]
 
   -- an expression that begins with e, which was read
@@ -190,7 +191,7 @@ unfoldable mutual
             ]
           ]
           | calls ↦ then (argumentsBy f (tail ts)) (λ l r. onBy f c n (call e l) r)
-          | indexes ↦ then (exprBy f NONE 1 (tail ts)) (λ b r. elim (isFirst RightBracket r) [ true ↦ onBy f c n (index e b) (tail r) | false ↦ fail ])
+          | indexes ↦ then (exprBy f NONE loosest (tail ts)) (λ b r. elim (isFirst RightBracket r) [ true ↦ onBy f c n (index e b) (tail r) | false ↦ fail ])
           | tries ↦ onBy f c n (try e) (tail ts)
         ]
       ]
@@ -202,7 +203,7 @@ unfoldable mutual
   pub someArgumentsBy : ℕ → List Token → Out (Expr items)
   someArgumentsBy zero ts = fail
   someArgumentsBy (suc f) ts =
-      then (exprBy f NONE 1 ts) (λ a r.
+      then (exprBy f NONE loosest ts) (λ a r.
       elim (isFirst RightParen r) [
         | true ↦ ok (lastArgument a) (tail r)
         | false ↦ elim (isFirst Comma r) [ true ↦ then (someArgumentsBy f (tail r)) (λ l q. ok (moreArguments a l) q) | false ↦ fail ]
@@ -210,4 +211,4 @@ unfoldable mutual
 
 -- twice the tokens are fuel enough
 unfoldable pub parse : Context → List Token → Out (Expr one)
-parse c ts = exprBy (2 * length ts) c 1 ts
+parse c ts = exprBy (2 * length ts) c loosest ts

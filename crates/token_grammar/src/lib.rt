@@ -1,1 +1,3 @@
-// The plain tokens, their grammar and the theorems on it stand in specs/ and proofs/: this crate has no code of its own.
+// The plain tokens and the levels of their grammar, as numbers. The grammar and the theorems on it stand in specs/ and proofs/.
+pub mod codes; // codes.rt: the codes of the tokens by name
+pub mod level; // level.rt: how strongly the forms bind, by name

@@ -168,7 +168,7 @@ module _ (cells : List ℕ) (count : ℕ) where
       unfolding highestDetail details firstPlace firstPlaces secondPlace secondPlaces lookup pick operatorLabel
       is-binary h u v =
           let n = number-operator d (omega arith) in
-          between (operatorOf d) ExprBinary (number (operatorOf d)) (pick-false _ _ (ne-eqb (number (operatorOf d)) 28 (λ e. omega arith))) n u v
+          between (operatorOf d) ExprBinary (number (operatorOf d)) (pick-false _ _ (ne-eqb (number (operatorOf d)) (number Assign) (λ e. omega arith))) n u v
 
       is-assign : Node AnExpr ExprAssign
       unfolding highestDetail details firstPlace firstPlaces secondPlace secondPlaces lookup pick operatorLabel

@@ -100,10 +100,10 @@ Back items l = (partsOf (treeOf l) .exprs ≡ l) × (partsOf (treeOf l) .there �
 -- an operator's node has its number, but for `=`
 back-operator : (o : Operator) (a b : Parts) → exprBy (operatorLabel o) a b ≡ binary o (a .expr) (b .expr)
 unfolding exprBy operatorLabel lookup pick operatorOf
-back-operator o a b = go (eqb (number o) 28) refl
+back-operator o a b = go (eqb (number o) (number Assign)) refl
   where
-    go : (c : Bool) → eqb (number o) 28 ≡ c → exprBy (pick c (label ExprAssign 0) (label ExprBinary (number o))) a b ≡ binary o (a .expr) (b .expr)
-    go true e = ap (λ p. binary p (a .expr) (b .expr)) (sym (ap operatorOf (eqb-true (number o) 28 e)) ∙ operator-number o)
+    go : (c : Bool) → eqb (number o) (number Assign) ≡ c → exprBy (pick c (label ExprAssign 0) (label ExprBinary (number o))) a b ≡ binary o (a .expr) (b .expr)
+    go true e = ap (λ p. binary p (a .expr) (b .expr)) (sym (ap operatorOf (eqb-true (number o) (number Assign) e)) ∙ operator-number o)
     go false e = ap (λ p. binary p (a .expr) (b .expr)) (operator-number o)
 
 back : (s : Sort) (e : Expr s) → Back s e

@@ -6,7 +6,7 @@ use Rattle.laws.specs.Choice.{pick}
 use Rattle.laws.proofs.Choice.{pick-false}
 use Rattle.tree.specs.Forms.{ExprParen}
 use Rattle.tree.specs.Trees.{Label, Tree, none, node}
-use Rattle.token_grammar.specs.Tokens.{Operator, number}
+use Rattle.token_grammar.specs.Tokens.{Operator, Assign, number}
 use Rattle.token_grammar.specs.Types.{Sort, TypePrefix, constPtr, mutPtr, sharedRef, mutRef, TypeSign, infer, never, Ty, named, applied, pointing, sign, noTypes, types, lastType, moreTypes}
 use Rattle.token_grammar.specs.Expressions.{Atom, path, literal, Prefix, neg, deref, invert, ref, refMut, Member, byName, byNumber, awaited, Expr, atom, paren, prefix, binary, cast, member, try, index, call, method, noArguments, arguments, lastArgument, moreArguments}
 use Rattle.token_grammar.specs.Bare.{bare}
@@ -34,7 +34,7 @@ prefix-keeps refMut = refl
 
 operator-keeps : (o : Operator) → eqb (operatorLabel o .form) ExprParen ≡ false
 unfolding operatorLabel pick
-operator-keeps o = go (eqb (number o) 28)
+operator-keeps o = go (eqb (number o) (number Assign))
   where
     go : (b : Bool) → eqb ((pick {A = Label} b (record { form = 2; attributes = 0; detail = 0 }) (record { form = 5; attributes = 0; detail = number o })) .form) ExprParen ≡ false
     go true = refl

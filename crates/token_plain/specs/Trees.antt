@@ -5,7 +5,7 @@ use lib.Dec.{eqb}
 use Rattle.laws.specs.Choice.{pick}
 use Rattle.tree.specs.Forms.{ExprAssign, ExprAwait, ExprBinary, ExprCall, ExprCast, ExprField, ExprIndex, ExprLit, ExprMethodCall, ExprParen, ExprPath, ExprReference, ExprTry, ExprUnary, TypeInfer, TypeNever, TypePath, TypePtr, TypeReference, Link}
 use Rattle.tree.specs.Trees.{Label, Tree, none, node}
-use Rattle.token_grammar.specs.Tokens.{Operator, number}
+use Rattle.token_grammar.specs.Tokens.{Operator, Assign, number}
 use Rattle.token_grammar.specs.Types.{Sort, TypePrefix, constPtr, mutPtr, sharedRef, mutRef, TypeSign, infer, never, Ty, named, applied, pointing, sign, noTypes, types, lastType, moreTypes}
 use Rattle.token_grammar.specs.Expressions.{Atom, path, literal, Prefix, neg, deref, invert, ref, refMut, Member, byName, byNumber, awaited, Expr, atom, paren, prefix, binary, cast, member, try, index, call, method, noArguments, arguments, lastArgument, moreArguments}
 
@@ -27,7 +27,7 @@ prefixLabel refMut = label ExprReference 1
 
 -- "Binary 0 to 27"; 28 is `=`, of Assign
 unfoldable pub operatorLabel : Operator → Label
-operatorLabel o = pick (eqb (number o) 28) (label ExprAssign 0) (label ExprBinary (number o))
+operatorLabel o = pick (eqb (number o) (number Assign)) (label ExprAssign 0) (label ExprBinary (number o))
 
 -- "Field: 0 named, 1 numbered."
 abbrev pub memberLabel : Member → Label

@@ -4,12 +4,14 @@ use Prim.Native.Nat.{ℕ, _≤_}
 use native.Mathlib.Omega.{arith}
 use borrow.Author.Needs.{needs}
 use Rattle.laws.proofs.Keys.{in-row, found, past-rows, upTo, in-range}
+use Rattle.token_grammar.specs.Tokens.{Add, Mul, And, Or, BitXor, BitAnd, BitOr, Shl, Eq, AddAssign, number}
+use Rattle.token_grammar.specs.Bounds.{pastOperators}
 use Rattle.token_follow.specs.Tables.{levelLines, levelPast, levelOf}
 use Rattle.token_follow.proofs.Tables.{level-at}
 use Rattle.token_follow.proofs.level_of.Statement.{statement}
 use Rattle.token_follow.proofs.level_of.Tie as tie
 
-shifts : (x : ℕ) → 5 ≤ x → (x ≡ 5 → ⊥) → (x ≡ 6 → ⊥) → (x ≡ 7 → ⊥) → (x ≡ 8 → ⊥) → (x ≡ 9 → ⊥) → 10 ≤ x
+shifts : (x : ℕ) → number And ≤ x → (x ≡ number And → ⊥) → (x ≡ number Or → ⊥) → (x ≡ number BitXor → ⊥) → (x ≡ number BitAnd → ⊥) → (x ≡ number BitOr → ⊥) → number Shl ≤ x
 shifts x h a b c d e = omega arith
 
 level-past-requires : tie.Need-level-past-requires
@@ -37,29 +39,29 @@ returns-5 c = sym (in-row levelLines (levelPast _) _ 6 tt (c .match .keys5)) ∙
 
 returns-6 : tie.Need-returns-6
 unfolding levelOf levelLines
-returns-6 c = sym (found levelLines (levelPast _) 0 (upTo 0 2) _ tt tt (in-range 0 2 _ (omega arith) (c .if1 .taken))) ∙ level-at _
+returns-6 c = sym (found levelLines (levelPast _) 0 (upTo (number Add) 2) _ tt tt (in-range (number Add) 2 _ (omega arith) (c .if1 .taken))) ∙ level-at _
 
 returns-7 : tie.Need-returns-7
 unfolding levelOf levelLines
-returns-7 c = sym (found levelLines (levelPast _) 1 (upTo 2 3) _ tt tt (in-range 2 3 _ (c .before .if1 .left) (c .if2 .taken))) ∙ level-at _
+returns-7 c = sym (found levelLines (levelPast _) 1 (upTo (number Mul) 3) _ tt tt (in-range (number Mul) 3 _ (c .before .if1 .left) (c .if2 .taken))) ∙ level-at _
 
 returns-8 : tie.Need-returns-8
 unfolding levelOf levelLines
 returns-8 c =
     let r = c .before .before .before .match .rest in
-    sym (found levelLines (levelPast _) 7 (upTo 10 2) _ tt tt (in-range 10 2 _ (shifts _ (c .before .if2 .left) (r .0 .0 .0 .0 .1) (r .0 .0 .0 .1) (r .0 .0 .1) (r .0 .1) (r .1)) (c .if3 .taken))) ∙ level-at _
+    sym (found levelLines (levelPast _) 7 (upTo (number Shl) 2) _ tt tt (in-range (number Shl) 2 _ (shifts _ (c .before .if2 .left) (r .0 .0 .0 .0 .1) (r .0 .0 .0 .1) (r .0 .0 .1) (r .0 .1) (r .1)) (c .if3 .taken))) ∙ level-at _
 
 returns-9 : tie.Need-returns-9
 unfolding levelOf levelLines
-returns-9 c = sym (found levelLines (levelPast _) 8 (upTo 12 6) _ tt tt (in-range 12 6 _ (c .before .if3 .left) (c .if4 .taken))) ∙ level-at _
+returns-9 c = sym (found levelLines (levelPast _) 8 (upTo (number Eq) 6) _ tt tt (in-range (number Eq) 6 _ (c .before .if3 .left) (c .if4 .taken))) ∙ level-at _
 
 returns-10 : tie.Need-returns-10
 unfolding levelOf levelLines
-returns-10 c = sym (found levelLines (levelPast _) 9 (upTo 18 11) _ tt tt (in-range 18 11 _ (c .before .if4 .left) (c .if5 .taken))) ∙ level-at _
+returns-10 c = sym (found levelLines (levelPast _) 9 (upTo (number AddAssign) 11) _ tt tt (in-range (number AddAssign) 11 _ (c .before .if4 .left) (c .if5 .taken))) ∙ level-at _
 
 returns-11 : tie.Need-returns-11
 unfolding levelOf levelLines
-returns-11 c = c .level-past .ensures ∙ sym (past-rows levelLines (levelPast _) 29 _ tt (c .before .if5 .left)) ∙ level-at _
+returns-11 c = c .level-past .ensures ∙ sym (past-rows levelLines (levelPast _) pastOperators _ tt (c .before .if5 .left)) ∙ level-at _
 
 pub level-of-spec : {M : Type 1} → statement M
 level-of-spec =
