@@ -1,7 +1,7 @@
 -- What the reader of expressions answers at each of its ends is what the parser gives. Assumes nothing.
 use mathlib.Core.Path.{_≡_, refl, sym, subst, ap, ap₂, _∙_}
 use mathlib.Core.Bool.{Bool, true, false, _&&_}
-use mathlib.Core.List.{List, [], _∷_}
+use mathlib.Core.List.{List}
 use Prim.Native.Nat.{ℕ, zero, suc, _+_, _-_, _≤_, _<_}
 use native.Mathlib.Omega.{arith}
 use native.Mathlib.Decide.{decLe}
@@ -10,9 +10,10 @@ use Rattle.laws.specs.Choice.{isOneOf}
 use Rattle.tree.specs.Sizes.{lastCode, listEnd}
 use Rattle.tree.specs.Forms.{ExprCall, ExprCast, ExprIndex, ExprMethodCall, ExprTry, Link}
 use Rattle.tree.specs.Trees.{Tree, none, node}
-use Rattle.token_grammar.specs.Tokens.{Token, code, LeftParen, RightParen, RightBracket, Comma, operatorOf}
+use Rattle.token_grammar.specs.Tokens.{Token, As, Dot, LeftParen, RightParen, LeftBracket, RightBracket, Comma, Question, code, operatorOf}
 use Rattle.token_grammar.specs.Codes.{tokenOf}
-use Rattle.token_grammar.specs.Levels.{kind, level, after}
+use Rattle.token_grammar.specs.Levels.{casts, prefixes, postfixes, kind, level, after}
+use Rattle.token_grammar.specs.Bounds.{pastOperators, loosest}
 use Rattle.token_grammar.specs.Types.{one, list, items}
 use Rattle.token_grammar.specs.Expressions.{Atom, Prefix, Member, byName, byNumber, awaited, Expr, atom, paren, prefix, binary, cast, member, try, index, call, method, noArguments, arguments, lastArgument, moreArguments, kindOf, endsInTypeName, endsInDotName}
 use Rattle.token_grammar.specs.Grammar.{NONE}
@@ -29,7 +30,7 @@ use Rattle.token_reader.specs.Pieces.{Placed, Stored, Ready, Grew, Tells
 use Rattle.token_reader.proofs.Cells.{past-list}
 use Rattle.token_reader.proofs.First.{there, code-most, tail-from, tail-from-next, first-there, first-other, start-at, after-dot-at, next-at}
 use Rattle.token_reader.proofs.Nodes.{carried, lower, placed, grew-none, grew-wider, grew-on, grew-node}
-use Rattle.token_reader.proofs.Tables.{operator-token, operator-level, operator-after, operator-labelled, goes-on-at, past-goes, others-stop}
+use Rattle.token_reader.proofs.Tables.{operator-token, operator-level, operator-after, operator-labelled, goes-on-at, past-goes, formCodes, others-stop}
 use Rattle.token_reader.proofs.Tells.{tells-none, tells-some, tells-then, ready-grew}
 use Rattle.token_reader.proofs.Steps.{expr-step, on-by}
 
@@ -41,7 +42,7 @@ pub record OnAt (codes own now : List ℕ) (left : Parsed) (least : ℕ) (r : Pa
 -- ---- what binds most strongly
 
 module _ {at left : ℕ} {r : Parsed} (s : Postfix at left r) where
-  is-strong : (now : List ℕ) (e : Expr one) → 15 ≡ level (kindOf e) → false ≡ endsInTypeName e → false ≡ endsInDotName e → Placed now left (left + 1) (treeOf (bare e)) → IsExpr now r e
+  is-strong : (now : List ℕ) (e : Expr one) → level postfixes ≡ level (kindOf e) → false ≡ endsInTypeName e → false ≡ endsInDotName e → Placed now left (left + 1) (treeOf (bare e)) → IsExpr now r e
   is-strong now e l t d p =
       record {
         strong = s .strong ∙ l;
@@ -68,16 +69,16 @@ closes close whole a r e = rw (e, closeBy)
 closes-not : (close : Token) (whole : Expr one → Expr one) (a : Expr one) (r : List Token) → isFirst close r ≡ false → closeBy close whole a r ≡ fail
 closes-not close whole a r e = rw (e, closeBy)
 
-module _ {codes own mid : List ℕ} {at free : ℕ} (known : anyAbove lastCode codes ≡ false) (inner : Parsed) (i : ExprAt codes own mid at free 1 inner) (close : Token) (whole : Expr one → Expr one) (Be : Expr one → Type 0) where
-  not-closed : (to : ℕ) → (getD codes (inner .at) listEnd ≡ code close → ⊥) → length codes < to → (g : ℕ) → Enough codes at 0 g → Tells Be codes to (then (exprBy g NONE 1 (from codes at)) (closeBy close whole))
+module _ {codes own mid : List ℕ} {at free : ℕ} (known : anyAbove lastCode codes ≡ false) (inner : Parsed) (i : ExprAt codes own mid at free loosest inner) (close : Token) (whole : Expr one → Expr one) (Be : Expr one → Type 0) where
+  not-closed : (to : ℕ) → (getD codes (inner .at) listEnd ≡ code close → ⊥) → length codes < to → (g : ℕ) → Enough codes at 0 g → Tells Be codes to (then (exprBy g NONE loosest (from codes at)) (closeBy close whole))
   not-closed to n h g q =
-      tells-then (IsExpr mid inner) Be codes (inner .at) to (exprBy g NONE 1 (from codes at)) (closeBy close whole) (i .tells g q) (λ z. h)
+      tells-then (IsExpr mid inner) Be codes (inner .at) to (exprBy g NONE loosest (from codes at)) (closeBy close whole) (i .tells g q) (λ z. h)
       (λ a z y. rw (closes-not close whole a (from codes (inner .at)) (first-other close codes (inner .at) known n)) h)
 
   is-closed : (to : ℕ) → getD codes (inner .at) listEnd ≡ code close → inner .at < length codes → ((a : Expr one) → IsExpr mid inner a → Tells Be codes to (ok (whole a) (from codes (inner .at + 1)))) →
-      (g : ℕ) → Enough codes at 0 g → Tells Be codes to (then (exprBy g NONE 1 (from codes at)) (closeBy close whole))
+      (g : ℕ) → Enough codes at 0 g → Tells Be codes to (then (exprBy g NONE loosest (from codes at)) (closeBy close whole))
   is-closed to e h k g q =
-      tells-some (IsExpr mid inner) Be codes (inner .at) to (exprBy g NONE 1 (from codes at)) (closeBy close whole) (omega arith) (i .tells g q)
+      tells-some (IsExpr mid inner) Be codes (inner .at) to (exprBy g NONE loosest (from codes at)) (closeBy close whole) (omega arith) (i .tells g q)
       (λ a y. rw (closes close whole a (from codes (inner .at)) (first-there close codes (inner .at) known e), tail-from codes (inner .at)) (k a y))
 
 -- ---- what an expression begins with
@@ -118,15 +119,15 @@ module _ {codes own now : List ℕ} {at free : ℕ} (ready : Ready codes own at 
         tells = λ g q. begun codes at (ready .known) (Tells (IsExpr now r) codes (r .at)) g noStart e (omega arith);
       }
 
-  pub prefixed-none : {form detail : ℕ} {r : Parsed} → length codes < r .at → ExprAt codes own now (at + 1) free 14 r → PrefixedAt codes own now at free form detail r
+  pub prefixed-none : {form detail : ℕ} {r : Parsed} → length codes < r .at → ExprAt codes own now (at + 1) free (level prefixes) r → PrefixedAt codes own now at free form detail r
   prefixed-none {form} {detail} {r} h i =
       record {
         past = λ q. absurd (omega arith);
         grew = λ q. absurd (omega arith);
-        tells = λ p e g q. tells-none (IsExpr now r) (IsExpr now r) codes (r .at) (r .at) (exprBy g NONE 14 (from codes (at + 1))) (λ a rest. ok (prefix p a) rest) h h (i .tells g q);
+        tells = λ p e g q. tells-none (IsExpr now r) (IsExpr now r) codes (r .at) (r .at) (exprBy g NONE (level prefixes) (from codes (at + 1))) (λ a rest. ok (prefix p a) rest) h h (i .tells g q);
       }
 
-  pub group-none : {mid : List ℕ} {r : Parsed} (inner : Parsed) → (getD codes (inner .at) listEnd ≡ 36 → ⊥) → ExprAt codes own mid (at + 1) free 1 inner → r .at ≡ length codes + 1 → GroupAt codes own now at free r
+  pub group-none : {mid : List ℕ} {r : Parsed} (inner : Parsed) → (getD codes (inner .at) listEnd ≡ code RightParen → ⊥) → ExprAt codes own mid (at + 1) free loosest inner → r .at ≡ length codes + 1 → GroupAt codes own now at free r
   group-none {mid} {r} inner n i z =
       record {
         past = λ q. absurd (omega arith);
@@ -134,9 +135,9 @@ module _ {codes own now : List ℕ} {at free : ℕ} (ready : Ready codes own at 
         tells = not-closed (ready .known) inner i RightParen paren (IsExpr now r) (r .at) n (omega arith);
       }
 
-  pub group-closed : {r : Parsed} (inner : Parsed) → getD codes (inner .at) listEnd ≡ 36 → ExprAt codes own now (at + 1) free 1 inner → Postfix (inner .at + 1) (inner .free) r → GroupAt codes own now at free r
+  pub group-closed : {r : Parsed} (inner : Parsed) → getD codes (inner .at) listEnd ≡ code RightParen → ExprAt codes own now (at + 1) free loosest inner → Postfix (inner .at + 1) (inner .free) r → GroupAt codes own now at free r
   group-closed {r} inner e i x =
-      let b = there codes (inner .at) 36 e (omega arith) in
+      let b = there codes (inner .at) (code RightParen) e (omega arith) in
       let w = i .grew (omega arith) in
       record {
         past = λ q. omega (arith, w .upto, x .to);
@@ -169,16 +170,16 @@ module _ {codes own mid now : List ℕ} {at free : ℕ} (ready : Ready codes own
           (tells-some (IsExpr mid left) (IsExpr now r) codes (left .at) (r .at) (operandBy g (tail (from codes at)) (start (from codes at))) (λ e rest. onBy g NONE least e rest) h (i .tells g (omega arith))
           (λ e y. o .tells e y g (omega (arith, i .past h))))
 
-  pub prefixed-stored : {form detail left : ℕ} (r : Parsed) → r .at ≤ length codes → ExprAt codes own mid (at + 1) free 14 r → Stored mid now (r .free) left form detail (r .free + 1) 0 →
-      PrefixedAt codes own now at free form detail (record { at = r .at; free = left; level = 14; named = r .named; dotted = r .dotted })
+  pub prefixed-stored : {form detail left : ℕ} (r : Parsed) → r .at ≤ length codes → ExprAt codes own mid (at + 1) free (level prefixes) r → Stored mid now (r .free) left form detail (r .free + 1) 0 →
+      PrefixedAt codes own now at free form detail (record { at = r .at; free = left; level = level prefixes; named = r .named; dotted = r .dotted })
   prefixed-stored {form} {detail} {left} r h i s =
       let w = i .grew h in
-      let z : Parsed = record { at = r .at; free = left; level = 14; named = r .named; dotted = r .dotted } in
+      let z : Parsed = record { at = r .at; free = left; level = level prefixes; named = r .named; dotted = r .dotted } in
       record {
         past = λ q. omega (arith, w .upto);
         grew = λ q. grew-node at (r .at) (omega (arith, w .upto)) (omega arith) w s;
         tells = λ p e g q.
-            tells-some (IsExpr mid r) (IsExpr now z) codes (r .at) (r .at) (exprBy g NONE 14 (from codes (at + 1))) (λ a rest. ok (prefix p a) rest) h (i .tells g q)
+            tells-some (IsExpr mid r) (IsExpr now z) codes (r .at) (r .at) (exprBy g NONE (level prefixes) (from codes (at + 1))) (λ a rest. ok (prefix p a) rest) h (i .tells g q)
             (λ a y. (
               h,
               refl,
@@ -235,7 +236,7 @@ module _ {codes own : List ℕ} (left : Parsed) (ready : Ready codes own (left .
       subst (λ ts. P (stepBy g e ts (next (from codes (left .at))))) (sym (tail-from codes (left .at)))
       (subst (λ y. P (stepBy g e (from codes (left .at + 1)) y)) (sym (next-at codes (left .at) ∙ q)) p)
 
-  pub step-binary : {now : List ℕ} {r : Parsed} (n : ℕ) → n < 29 → getD codes (left .at) listEnd ≡ n → BinaryAt codes own now left n r → StepAt codes own now left r
+  pub step-binary : {now : List ℕ} {r : Parsed} (n : ℕ) → n < pastOperators → getD codes (left .at) listEnd ≡ n → BinaryAt codes own now left n r → StepAt codes own now left r
   step-binary {now} {r} n h e s =
       record {
         past = s .past;
@@ -243,17 +244,17 @@ module _ {codes own : List ℕ} (left : Parsed) (ready : Ready codes own (left .
         tells = λ a y g q. followed (Tells (IsExpr now r) codes (r .at)) g a (operates (operatorOf n)) (ap (λ k. nextOf (tokenOf k)) e ∙ ap nextOf (operator-token n h)) (s .tells a y g q);
       }
 
-  pub step-cast : {now : List ℕ} {r : Parsed} → getD codes (left .at) listEnd ≡ 31 → CastAt codes own now left r → StepAt codes own now left r
+  pub step-cast : {now : List ℕ} {r : Parsed} → getD codes (left .at) listEnd ≡ code As → CastAt codes own now left r → StepAt codes own now left r
   unfolding tokenOf
   step-cast {now} {r} e s =
       record { past = s .past; grew = s .grew; tells = λ a y g q. followed (Tells (IsExpr now r) codes (r .at)) g a castsTo (ap (λ k. nextOf (tokenOf k)) e) (s .tells a y g q) }
 
-  pub step-dot : {now : List ℕ} {r : Parsed} → getD codes (left .at) listEnd ≡ 34 → DotAt codes own now left r → StepAt codes own now left r
+  pub step-dot : {now : List ℕ} {r : Parsed} → getD codes (left .at) listEnd ≡ code Dot → DotAt codes own now left r → StepAt codes own now left r
   unfolding tokenOf
   step-dot {now} {r} e s =
       record { past = s .past; grew = s .grew; tells = λ a y g q. followed (Tells (IsExpr now r) codes (r .at)) g a dots (ap (λ k. nextOf (tokenOf k)) e) (s .tells a y g q) }
 
-  pub step-call : {now : List ℕ} {r : Parsed} → getD codes (left .at) listEnd ≡ 35 → CallAt codes own now (left .at) (left .free) ExprCall r → StepAt codes own now left r
+  pub step-call : {now : List ℕ} {r : Parsed} → getD codes (left .at) listEnd ≡ code LeftParen → CallAt codes own now (left .at) (left .free) ExprCall r → StepAt codes own now left r
   unfolding tokenOf
   step-call {now} {r} e s =
       record {
@@ -264,17 +265,17 @@ module _ {codes own : List ℕ} (left : Parsed) (ready : Ready codes own (left .
             (s .tells (treeOf (bare a)) (y .placed) (call a) (λ l. record { strong = refl; type-last = refl; name-last = refl; tree = refl }) g q);
       }
 
-  pub step-index : {now : List ℕ} {r : Parsed} → getD codes (left .at) listEnd ≡ 37 → IndexAt codes own now left r → StepAt codes own now left r
+  pub step-index : {now : List ℕ} {r : Parsed} → getD codes (left .at) listEnd ≡ code LeftBracket → IndexAt codes own now left r → StepAt codes own now left r
   unfolding tokenOf
   step-index {now} {r} e s =
       record { past = s .past; grew = s .grew; tells = λ a y g q. followed (Tells (IsExpr now r) codes (r .at)) g a indexes (ap (λ k. nextOf (tokenOf k)) e) (s .tells a y g q) }
 
-  pub step-try : {now : List ℕ} {r : Parsed} → getD codes (left .at) listEnd ≡ 40 → TryAt codes own now left r → StepAt codes own now left r
+  pub step-try : {now : List ℕ} {r : Parsed} → getD codes (left .at) listEnd ≡ code Question → TryAt codes own now left r → StepAt codes own now left r
   unfolding tokenOf
   step-try {now} {r} e s =
       record { past = λ q. s .past; grew = λ q. s .grew; tells = λ a y g q. followed (Tells (IsExpr now r) codes (r .at)) g a tries (ap (λ k. nextOf (tokenOf k)) e) (s .tells a y) }
 
-  pub step-none : {now : List ℕ} {r : Parsed} → 29 ≤ getD codes (left .at) listEnd → isOneOf (31 ∷ 34 ∷ 35 ∷ 37 ∷ 40 ∷ []) (getD codes (left .at) listEnd) ≡ false → r .at ≡ length codes + 1 →
+  pub step-none : {now : List ℕ} {r : Parsed} → pastOperators ≤ getD codes (left .at) listEnd → isOneOf formCodes (getD codes (left .at) listEnd) ≡ false → r .at ≡ length codes + 1 →
       StepAt codes own now left r
   step-none {now} {r} h e z =
       record {
@@ -361,7 +362,7 @@ step-less {codes} left more h i = go (decLe (more .at) (length codes))
 -- ---- the forms
 
 module _ {codes own now : List ℕ} (left : Parsed) (ready : Ready codes own (left .at) (left .free)) where
-  pub binary-none : {n : ℕ} {r : Parsed} → n < 29 → length codes < r .at → ExprAt codes own now (left .at + 1) (left .free) (afterOf (levelOf n)) r → BinaryAt codes own now left n r
+  pub binary-none : {n : ℕ} {r : Parsed} → n < pastOperators → length codes < r .at → ExprAt codes own now (left .at + 1) (left .free) (afterOf (levelOf n)) r → BinaryAt codes own now left n r
   binary-none {n} {r} k h i =
       record {
         past = λ q. absurd (omega arith);
@@ -372,7 +373,7 @@ module _ {codes own now : List ℕ} (left : Parsed) (ready : Ready codes own (le
       }
 
 module _ {codes own mid now : List ℕ} (left : Parsed) (ready : Ready codes own (left .at) (left .free)) where
-  pub binary-stored : {n left₂ strength form detail : ℕ} (r : Parsed) → n < 29 → strength ≡ levelOf n → form ≡ operatorForm n → detail ≡ operatorDetail n → r .at ≤ length codes →
+  pub binary-stored : {n left₂ strength form detail : ℕ} (r : Parsed) → n < pastOperators → strength ≡ levelOf n → form ≡ operatorForm n → detail ≡ operatorDetail n → r .at ≤ length codes →
       ExprAt codes own mid (left .at + 1) (left .free) (afterOf (levelOf n)) r → Stored mid now (r .free) left₂ form detail (left .free + 1) (r .free + 1) →
       BinaryAt codes own now left n (record { at = r .at; free = left₂; level = strength; named = r .named; dotted = r .dotted })
   binary-stored {n} {left₂} {strength} {form} {detail} r k l f d h i s =
@@ -408,10 +409,10 @@ module _ {codes own mid now : List ℕ} (left : Parsed) (ready : Ready codes own
       }
 
   pub cast-stored : {left₂ : ℕ} (t : Piece) → t .at ≤ length codes → TypeAt codes own mid (left .at + 1) (left .free) t → Stored mid now (t .free) left₂ ExprCast 0 (left .free + 1) (t .free + 1) →
-      CastAt codes own now left (record { at = t .at; free = left₂; level = 13; named = t .named; dotted = false })
+      CastAt codes own now left (record { at = t .at; free = left₂; level = level casts; named = t .named; dotted = false })
   cast-stored {left₂} t h i s =
       let w = i .grew h in
-      let z : Parsed = record { at = t .at; free = left₂; level = 13; named = t .named; dotted = false } in
+      let z : Parsed = record { at = t .at; free = left₂; level = level casts; named = t .named; dotted = false } in
       record {
         past = λ q. omega (arith, w .upto);
         grew = λ q. grew-node (left .at) (t .at) (omega (arith, w .upto)) (omega arith) w s;
@@ -431,7 +432,7 @@ module _ {codes own mid now : List ℕ} (left : Parsed) (ready : Ready codes own
             ));
       }
 
-  pub index-none : {r : Parsed} (inner : Parsed) → (getD codes (inner .at) listEnd ≡ 38 → ⊥) → ExprAt codes own mid (left .at + 1) (left .free) 1 inner → r .at ≡ length codes + 1 → IndexAt codes own now left r
+  pub index-none : {r : Parsed} (inner : Parsed) → (getD codes (inner .at) listEnd ≡ code RightBracket → ⊥) → ExprAt codes own mid (left .at + 1) (left .free) loosest inner → r .at ≡ length codes + 1 → IndexAt codes own now left r
   index-none {r} inner n i z =
       record {
         past = λ q. absurd (omega arith);
@@ -439,10 +440,10 @@ module _ {codes own mid now : List ℕ} (left : Parsed) (ready : Ready codes own
         tells = λ e y g q. not-closed (ready .known) inner i RightBracket (index e) (IsExpr now r) (r .at) n (omega arith) g (omega arith);
       }
 
-  pub index-stored : {left₂ : ℕ} {r : Parsed} (inner : Parsed) → getD codes (inner .at) listEnd ≡ 38 → ExprAt codes own mid (left .at + 1) (left .free) 1 inner →
+  pub index-stored : {left₂ : ℕ} {r : Parsed} (inner : Parsed) → getD codes (inner .at) listEnd ≡ code RightBracket → ExprAt codes own mid (left .at + 1) (left .free) loosest inner →
       Stored mid now (inner .free) left₂ ExprIndex 0 (left .free + 1) (inner .free + 1) → Postfix (inner .at + 1) left₂ r → IndexAt codes own now left r
   index-stored {left₂} {r} inner c i s x =
-      let b = there codes (inner .at) 38 c (omega arith) in
+      let b = there codes (inner .at) (code RightBracket) c (omega arith) in
       let w = i .grew (omega arith) in
       record {
         past = λ q. omega (arith, w .upto, x .to);
@@ -469,7 +470,7 @@ module _ {codes own now : List ℕ} (left : Parsed) (ready : Ready codes own (le
       }
 
   pub member-stored : {form detail left₂ : ℕ} {dotted : Bool} → left .at + 1 < length codes → Stored own now (left .free) left₂ form detail (left .free + 1) 0 →
-      MemberAt codes own now left form detail dotted (record { at = left .at + 2; free = left₂; level = 15; named = false; dotted = dotted })
+      MemberAt codes own now left form detail dotted (record { at = left .at + 2; free = left₂; level = level postfixes; named = false; dotted = dotted })
   member-stored {form} {detail} {left₂} {dotted} h s =
       record {
         past = omega arith;
@@ -528,7 +529,7 @@ module _ {codes own now : List ℕ} (left : Parsed) (ready : Ready codes own (le
         tells = λ e y g h. dotted-by codes left (ready .known) (Tells (IsExpr now r) codes (r .at)) g e noMember q (omega arith);
       }
 
-  pub named-member : {form detail : ℕ} {r : Parsed} → (getD codes (left .at + 2) listEnd ≡ 35 → ⊥) → label form detail ≡ memberLabel byName → MemberAt codes own now left form detail true r → NamedAt codes own now left r
+  pub named-member : {form detail : ℕ} {r : Parsed} → (getD codes (left .at + 2) listEnd ≡ code LeftParen → ⊥) → label form detail ≡ memberLabel byName → MemberAt codes own now left form detail true r → NamedAt codes own now left r
   named-member {form} {detail} {r} n l s =
       record {
         past = λ h. s .past;
@@ -537,7 +538,7 @@ module _ {codes own now : List ℕ} (left : Parsed) (ready : Ready codes own (le
             subst (λ z. Tells (IsExpr now r) codes (r .at) (memberBy g e byName (from codes (left .at + 2)) z)) (sym (first-other LeftParen codes (left .at + 2) (ready .known) n)) (s .tells e y byName l refl);
       }
 
-  pub named-call : {r : Parsed} → getD codes (left .at + 2) listEnd ≡ 35 → CallAt codes own now (left .at + 2) (left .free) ExprMethodCall r → NamedAt codes own now left r
+  pub named-call : {r : Parsed} → getD codes (left .at + 2) listEnd ≡ code LeftParen → CallAt codes own now (left .at + 2) (left .free) ExprMethodCall r → NamedAt codes own now left r
   named-call {r} c s =
       record {
         past = λ h. omega (arith, s .past h);
@@ -572,9 +573,9 @@ called-strong {form} {at} {left} {now} {r} a l e c x p =
     is-strong x now e (sym (c .strong)) (sym (c .type-last)) (sym (c .name-last)) (subst (λ t. Placed now left (left + 1) t) (sym (c .tree)) p)
 
 module _ {codes own now : List ℕ} {at free form : ℕ} (ready : Ready codes own at free) (here : at < length codes) where
-  pub call-empty : {left : ℕ} {r : Parsed} → getD codes (at + 1) listEnd ≡ 36 → Stored own now free left form 0 (free + 1) 0 → Postfix (at + 2) left r → CallAt codes own now at free form r
+  pub call-empty : {left : ℕ} {r : Parsed} → getD codes (at + 1) listEnd ≡ code RightParen → Stored own now free left form 0 (free + 1) 0 → Postfix (at + 2) left r → CallAt codes own now at free form r
   call-empty {left} {r} c s x =
-      let b = there codes (at + 1) 36 c (omega arith) in
+      let b = there codes (at + 1) (code RightParen) c (omega arith) in
       record {
         past = λ q. omega (arith, x .to);
         grew = λ q. grew-strong x at free (grew-node at (at + 2) (omega arith) (omega arith) (grew-none own at free at (omega arith)) s);
@@ -585,7 +586,7 @@ module _ {codes own now : List ℕ} {at free form : ℕ} (ready : Ready codes ow
             (called-strong a noArguments (whole noArguments) (k noArguments) x (placed a none (label form 0) s refl (ready .most) p refl))));
       }
 
-  pub call-none : {t : Piece} {mid : List ℕ} {r : Parsed} → (getD codes (at + 1) listEnd ≡ 36 → ⊥) → length codes < t .at → ArgumentsAt codes own mid (at + 1) free t → r .at ≡ length codes + 1 → CallAt codes own now at free form r
+  pub call-none : {t : Piece} {mid : List ℕ} {r : Parsed} → (getD codes (at + 1) listEnd ≡ code RightParen → ⊥) → length codes < t .at → ArgumentsAt codes own mid (at + 1) free t → r .at ≡ length codes + 1 → CallAt codes own now at free form r
   call-none {t} {mid} {r} n h i z =
       record {
         past = λ q. absurd (omega arith);
@@ -595,7 +596,7 @@ module _ {codes own now : List ℕ} {at free form : ℕ} (ready : Ready codes ow
             (arguments-items (IsArguments mid t) (λ l. Unit {0}) codes (at + 1) (t .at) g (omega arith) (omega arith) (first-other RightParen codes (at + 1) (ready .known) n) (i .tells) (λ l y. tt));
       }
 
-  pub call-stored : {mid : List ℕ} {left : ℕ} {r : Parsed} (t : Piece) → (getD codes (at + 1) listEnd ≡ 36 → ⊥) → t .at ≤ length codes → ArgumentsAt codes own mid (at + 1) free t →
+  pub call-stored : {mid : List ℕ} {left : ℕ} {r : Parsed} (t : Piece) → (getD codes (at + 1) listEnd ≡ code RightParen → ⊥) → t .at ≤ length codes → ArgumentsAt codes own mid (at + 1) free t →
       Stored mid now (t .free) left form 0 (free + 1) (t .free + 1) → Postfix (t .at) left r → CallAt codes own now at free form r
   call-stored {mid} {left} {r} t n h i s x =
       let w = i .grew h in
@@ -620,7 +621,7 @@ argumentsStep g a r last more =
       | false ↦ elim more [ true ↦ then (someArgumentsBy g (tail r)) (λ l q. ok (moreArguments a l) q) | false ↦ fail ]
     ]
 
-module _ {codes own mid : List ℕ} {at free : ℕ} (ready : Ready codes own at free) (first : Parsed) (i : ExprAt codes own mid at free 1 first) where
+module _ {codes own mid : List ℕ} {at free : ℕ} (ready : Ready codes own at free) (first : Parsed) (i : ExprAt codes own mid at free loosest first) where
   after-first : (Be : Expr items → Type 0) (to : ℕ) (last more : Bool) → isFirst RightParen (from codes (first .at)) ≡ last → isFirst Comma (from codes (first .at)) ≡ more →
       (length codes < first .at → length codes < to) →
       ((g : ℕ) → Enough codes at 0 g → (a : Expr one) → first .at ≤ length codes → IsExpr mid first a → Tells Be codes to (argumentsStep g a (from codes (first .at)) last more)) →
@@ -628,15 +629,15 @@ module _ {codes own mid : List ℕ} {at free : ℕ} (ready : Ready codes own at 
   unfolding someArgumentsBy
   after-first Be to last more p q b k zero h = absurd (omega (arith, ready .within))
   after-first Be to last more p q b k (suc g) h =
-      tells-then (IsExpr mid first) Be codes (first .at) to (exprBy g NONE 1 (from codes at)) _ (i .tells g (omega arith)) b
+      tells-then (IsExpr mid first) Be codes (first .at) to (exprBy g NONE loosest (from codes at)) _ (i .tells g (omega arith)) b
       (λ a z y.
       subst (λ x. Tells Be codes to (argumentsStep g a (from codes (first .at)) x (isFirst Comma (from codes (first .at))))) (sym p)
       (subst (λ x. Tells Be codes to (argumentsStep g a (from codes (first .at)) last x)) (sym q) (k g (omega arith) a z y)))
 
-  pub arguments-last : {now : List ℕ} {left : ℕ} → getD codes (first .at) listEnd ≡ 36 → Stored mid now (first .free) left Link 0 (first .free + 1) 0 →
+  pub arguments-last : {now : List ℕ} {left : ℕ} → getD codes (first .at) listEnd ≡ code RightParen → Stored mid now (first .free) left Link 0 (first .free + 1) 0 →
       ArgumentsAt codes own now at free (record { at = first .at + 1; free = left; named = false })
   arguments-last {now} {left} e s =
-      let b = there codes (first .at) 36 e (omega arith) in
+      let b = there codes (first .at) (code RightParen) e (omega arith) in
       let w = i .grew (omega arith) in
       record {
         grew = λ q. grew-node at (first .at + 1) (omega (arith, w .upto)) (omega arith) w s;
@@ -644,7 +645,7 @@ module _ {codes own mid : List ℕ} {at free : ℕ} (ready : Ready codes own at 
             (λ g q t z y. (omega arith, tail-from codes (first .at), record { placed = placed (treeOf (bare t)) none (label Link 0) s refl (omega (arith, ready .most, w .less)) (y .placed) refl }));
       }
 
-  pub arguments-none : {now : List ℕ} {r : Piece} → (getD codes (first .at) listEnd ≡ 36 → ⊥) → (getD codes (first .at) listEnd ≡ 39 → ⊥) → r .at ≡ length codes + 1 → ArgumentsAt codes own now at free r
+  pub arguments-none : {now : List ℕ} {r : Piece} → (getD codes (first .at) listEnd ≡ code RightParen → ⊥) → (getD codes (first .at) listEnd ≡ code Comma → ⊥) → r .at ≡ length codes + 1 → ArgumentsAt codes own now at free r
   arguments-none {now} {r} n m z =
       record {
         grew = λ q. absurd (omega arith);
@@ -652,10 +653,10 @@ module _ {codes own mid : List ℕ} {at free : ℕ} (ready : Ready codes own at 
             (λ g q t x y. omega arith);
       }
 
-  pub arguments-more-none : {now : List ℕ} {r : Piece} → (getD codes (first .at) listEnd ≡ 36 → ⊥) → getD codes (first .at) listEnd ≡ 39 → length codes < r .at →
+  pub arguments-more-none : {now : List ℕ} {r : Piece} → (getD codes (first .at) listEnd ≡ code RightParen → ⊥) → getD codes (first .at) listEnd ≡ code Comma → length codes < r .at →
       ArgumentsAt codes mid now (first .at + 1) (first .free) r → ArgumentsAt codes own now at free r
   arguments-more-none {now} {r} n m h j =
-      let b = there codes (first .at) 39 m (omega arith) in
+      let b = there codes (first .at) (code Comma) m (omega arith) in
       let w = i .grew (omega arith) in
       record {
         grew = λ q. absurd (omega arith);
@@ -665,11 +666,11 @@ module _ {codes own mid : List ℕ} {at free : ℕ} (ready : Ready codes own at 
             (tells-none (IsArguments now r) (IsArguments now r) codes (r .at) (r .at) (someArgumentsBy g (from codes (first .at + 1))) (λ l z. ok (moreArguments t l) z) h h (j .tells g (omega (arith, w .upto)))));
       }
 
-  pub arguments-more : {mid₂ now : List ℕ} {left : ℕ} (r : Piece) → (getD codes (first .at) listEnd ≡ 36 → ⊥) → getD codes (first .at) listEnd ≡ 39 → r .at ≤ length codes →
+  pub arguments-more : {mid₂ now : List ℕ} {left : ℕ} (r : Piece) → (getD codes (first .at) listEnd ≡ code RightParen → ⊥) → getD codes (first .at) listEnd ≡ code Comma → r .at ≤ length codes →
       ArgumentsAt codes mid mid₂ (first .at + 1) (first .free) r → Stored mid₂ now (r .free) left Link 0 (first .free + 1) (r .free + 1) →
       ArgumentsAt codes own now at free (record { at = r .at; free = left; named = false })
   arguments-more {mid₂} {now} {left} r n m h j s =
-      let b = there codes (first .at) 39 m (omega arith) in
+      let b = there codes (first .at) (code Comma) m (omega arith) in
       let w = i .grew (omega arith) in
       let v = j .grew h in
       record {

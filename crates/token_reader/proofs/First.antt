@@ -25,7 +25,7 @@ there [] at k e h = absurd (omega arith)
 there (n ∷ ns) zero k e h = omega arith
 there (n ∷ ns) (suc at) k e h = omega (arith, there ns at k e h)
 
--- and what stands past its end reads as 46
+-- and what stands past its end reads as `listEnd`
 pub code-most : (codes : List ℕ) (at : ℕ) → anyAbove lastCode codes ≡ false → getD codes at listEnd < listEnd + 1
 unfolding anyAbove
 code-most [] at h = omega arith

@@ -5,6 +5,7 @@ use mathlib.Core.List.{List}
 use Prim.Native.Nat.{ℕ, suc, _≤_}
 use Rattle.token_grammar.specs.Tokens.{Token, LeftParen, RightParen, RightBracket}
 use Rattle.token_grammar.specs.Levels.{prefixes, kind, after}
+use Rattle.token_grammar.specs.Bounds.{loosest}
 use Rattle.token_grammar.specs.Types.{one}
 use Rattle.token_grammar.specs.Expressions.{Expr, Member, atom, paren, prefix, binary, cast, member, index, call, method}
 use Rattle.token_grammar.specs.Grammar.{NONE}
@@ -41,14 +42,14 @@ exprStep g n ts x =
       | noStart ↦ fail
       | anAtom y ↦ onBy g NONE n (atom y) ts
       | aPrefix p ↦ then (exprBy g NONE (after prefixes) ts) (λ a r. onBy g NONE n (prefix p a) r)
-      | aGroup ↦ then (exprBy g NONE 1 ts) (λ a r. elim (isFirst RightParen r) [ true ↦ onBy g NONE n (paren a) (tail r) | false ↦ fail ])
+      | aGroup ↦ then (exprBy g NONE loosest ts) (λ a r. elim (isFirst RightParen r) [ true ↦ onBy g NONE n (paren a) (tail r) | false ↦ fail ])
     ]
 
 by-operand : (g n : ℕ) (ts : List Token) (x : Start) → exprStep g n ts x ≡ then (operandBy g ts x) (λ e r. onBy g NONE n e r)
 by-operand g n ts noStart = refl
 by-operand g n ts (anAtom y) = refl
 by-operand g n ts (aPrefix p) = then-then (exprBy g NONE (after prefixes) ts) (λ a r. ok (prefix p a) r) (λ e r. onBy g NONE n e r)
-by-operand g n ts aGroup = closed g n RightParen paren (exprBy g NONE 1 ts)
+by-operand g n ts aGroup = closed g n RightParen paren (exprBy g NONE loosest ts)
 
 pub expr-step : (g n : ℕ) (ts : List Token) → exprBy (suc g) NONE n ts ≡ then (operandBy g (tail ts) (start ts)) (λ e r. onBy g NONE n e r)
 unfolding exprBy
@@ -71,7 +72,7 @@ by-step g n e ts (operates o) h = then-then (exprBy g NONE (after (kind o)) (tai
 by-step g n e ts castsTo h = then-then (typeBy g (tail ts)) (λ t r. ok (cast e t) r) (λ y r. onBy g NONE n y r)
 by-step g n e ts dots h = by-dot g n e (tail ts) (afterDot (tail ts))
 by-step g n e ts calls h = then-then (argumentsBy g (tail ts)) (λ l r. ok (call e l) r) (λ y r. onBy g NONE n y r)
-by-step g n e ts indexes h = closed g n RightBracket (index e) (exprBy g NONE 1 (tail ts))
+by-step g n e ts indexes h = closed g n RightBracket (index e) (exprBy g NONE loosest (tail ts))
 by-step g n e ts tries h = refl
 
 pub on-by : (g n : ℕ) (e : Expr one) (ts : List Token) → 1 ≤ n → goesOn n e (next ts) ≡ true → onBy (suc g) NONE n e ts ≡ then (stepBy g e (tail ts) (next ts)) (λ y r. onBy g NONE n y r)

@@ -1,7 +1,7 @@
 -- The reader's tables give what the parser asks of the token that a code stands for. Assumes nothing.
 use mathlib.Core.Path.{_≡_, refl, sym, ap, ap₂, _∙_}
 use mathlib.Core.Bool.{Bool, true, false, not, _&&_, _||_}
-use mathlib.Core.List.{[], _∷_}
+use mathlib.Core.List.{List, [], _∷_}
 use Prim.Native.Nat.{ℕ, _+_, _≤_, _<_}
 use native.Mathlib.Omega.{arith}
 use lib.Dec.{T, eqb, leb, ltb, eqb→eq, leb→le}
@@ -11,9 +11,10 @@ use Rattle.laws.proofs.Choice.{of-true, and-true, alike, alike-same}
 use Rattle.laws.proofs.Each.{all-at}
 use Rattle.tree.specs.Sizes.{listEnd}
 use Rattle.tree.specs.Forms.{ExprAssign, ExprBinary}
-use Rattle.token_grammar.specs.Tokens.{number, operator, operatorOf}
+use Rattle.token_grammar.specs.Tokens.{Assign, number, operator, As, Dot, LeftParen, LeftBracket, Question, code, operatorOf}
 use Rattle.token_grammar.specs.Codes.{tokenOf}
 use Rattle.token_grammar.specs.Levels.{casts, postfixes, kind, level, before, after}
+use Rattle.token_grammar.specs.Bounds.{pastOperators, highest}
 use Rattle.token_grammar.specs.Types.{one}
 use Rattle.token_grammar.specs.Expressions.{Expr, kindOf, endsInTypeName, endsInDotName}
 use Rattle.token_grammar.specs.Grammar.{opensArguments}
@@ -26,26 +27,26 @@ use Rattle.token_reader.specs.Tables.{levelOf, afterOf, goesOnWith, oper
 
 -- ---- operators
 
-pub operator-token : (n : ℕ) → n < 29 → tokenOf n ≡ operator (operatorOf n)
+pub operator-token : (n : ℕ) → n < pastOperators → tokenOf n ≡ operator (operatorOf n)
 operator-token n h = code-same (tokenOf n) (operator (operatorOf n)) (code-token n (omega arith) ∙ sym (number-operator n h))
 
-pub operator-level : (n : ℕ) → n < 29 → levelOf n ≡ level (kind (operatorOf n))
+pub operator-level : (n : ℕ) → n < pastOperators → levelOf n ≡ level (kind (operatorOf n))
 unfolding operatorOf tokenOf kind lookup pick
-operator-level n h = eqb→eq (levelOf n) (level (kind (operatorOf n))) (all-at (λ m. eqb (levelOf m) (level (kind (operatorOf m)))) 29 tt n h)
+operator-level n h = eqb→eq (levelOf n) (level (kind (operatorOf n))) (all-at (λ m. eqb (levelOf m) (level (kind (operatorOf m)))) pastOperators tt n h)
 
-pub operator-after : (n : ℕ) → n < 29 → afterOf (levelOf n) ≡ after (kind (operatorOf n))
+pub operator-after : (n : ℕ) → n < pastOperators → afterOf (levelOf n) ≡ after (kind (operatorOf n))
 unfolding operatorOf tokenOf afterOf kind lookup pick
-operator-after n h = eqb→eq (afterOf (levelOf n)) (after (kind (operatorOf n))) (all-at (λ m. eqb (afterOf (levelOf m)) (after (kind (operatorOf m)))) 29 tt n h)
+operator-after n h = eqb→eq (afterOf (levelOf n)) (after (kind (operatorOf n))) (all-at (λ m. eqb (afterOf (levelOf m)) (after (kind (operatorOf m)))) pastOperators tt n h)
 
-pub level-most : (n : ℕ) → n < 29 → levelOf n ≤ 15
+pub level-most : (n : ℕ) → n < pastOperators → levelOf n ≤ highest
 unfolding tokenOf kind lookup pick
-level-most n h = leb→le (levelOf n) 15 (all-at (λ m. leb (levelOf m) 15) 29 tt n h)
+level-most n h = leb→le (levelOf n) highest (all-at (λ m. leb (levelOf m) highest) pastOperators tt n h)
 
-pub after-least : (n : ℕ) → n < 29 → 1 ≤ afterOf (levelOf n)
+pub after-least : (n : ℕ) → n < pastOperators → 1 ≤ afterOf (levelOf n)
 unfolding tokenOf afterOf kind lookup pick
-after-least n h = leb→le 1 (afterOf (levelOf n)) (all-at (λ m. leb 1 (afterOf (levelOf m))) 29 tt n h)
+after-least n h = leb→le 1 (afterOf (levelOf n)) (all-at (λ m. leb 1 (afterOf (levelOf m))) pastOperators tt n h)
 
-pub operator-labelled : (n : ℕ) → n < 29 → label (operatorForm n) (operatorDetail n) ≡ operatorLabel (operatorOf n)
+pub operator-labelled : (n : ℕ) → n < pastOperators → label (operatorForm n) (operatorDetail n) ≡ operatorLabel (operatorOf n)
 unfolding operatorForm operatorDetail operatorLabel pick
 operator-labelled n h = go (number (operatorOf n)) (number-operator n h)
   where
@@ -53,8 +54,8 @@ operator-labelled n h = go (number (operatorOf n)) (number-operator n h)
     by true = refl
     by false = refl
 
-    go : (m : ℕ) → m ≡ n → label (pick (eqb n 28) ExprAssign ExprBinary) (pick (eqb n 28) 0 n) ≡ pick (eqb m 28) (label ExprAssign 0) (label ExprBinary m)
-    go m e = by (eqb n 28) ∙ ap (λ k. pick (eqb k 28) (label ExprAssign 0) (label ExprBinary k)) (sym e)
+    go : (m : ℕ) → m ≡ n → label (pick (eqb n (number Assign)) ExprAssign ExprBinary) (pick (eqb n (number Assign)) 0 n) ≡ pick (eqb m (number Assign)) (label ExprAssign 0) (label ExprBinary m)
+    go m e = by (eqb n (number Assign)) ∙ ap (λ k. pick (eqb k (number Assign)) (label ExprAssign 0) (label ExprBinary k)) (sym e)
 
 -- ---- what may follow
 
@@ -108,13 +109,17 @@ stop-is calls t = absurd t
 stop-is indexes t = absurd t
 stop-is tries t = absurd t
 
-pub others-stop : (n : ℕ) → n < listEnd + 1 → 29 ≤ n → isOneOf (31 ∷ 34 ∷ 35 ∷ 37 ∷ 40 ∷ []) n ≡ false → nextOf (tokenOf n) ≡ stops
+-- the tokens but the operators that make a form there
+abbrev pub formCodes : List ℕ
+formCodes = code As ∷ code Dot ∷ code LeftParen ∷ code LeftBracket ∷ code Question ∷ []
+
+pub others-stop : (n : ℕ) → n < listEnd + 1 → pastOperators ≤ n → isOneOf formCodes n ≡ false → nextOf (tokenOf n) ≡ stops
 unfolding tokenOf
 others-stop n h k e =
     stop-is (nextOf (tokenOf n))
-    (rw (le-ltb n 29 k, e) at (all-at (λ m. ltb m 29 || (isOneOf (31 ∷ 34 ∷ 35 ∷ 37 ∷ 40 ∷ []) m || isStop (nextOf (tokenOf m)))) (listEnd + 1) tt n h))
+    (rw (le-ltb n pastOperators k, e) at (all-at (λ m. ltb m pastOperators || (isOneOf formCodes m || isStop (nextOf (tokenOf m)))) (listEnd + 1) tt n h))
 
 -- what the reader's last arm knows of a code
-pub no-form : (n : ℕ) → (n ≡ 31 → ⊥) → (n ≡ 34 → ⊥) → (n ≡ 35 → ⊥) → (n ≡ 37 → ⊥) → (n ≡ 40 → ⊥) → isOneOf (31 ∷ 34 ∷ 35 ∷ 37 ∷ 40 ∷ []) n ≡ false
+pub no-form : (n : ℕ) → (n ≡ code As → ⊥) → (n ≡ code Dot → ⊥) → (n ≡ code LeftParen → ⊥) → (n ≡ code LeftBracket → ⊥) → (n ≡ code Question → ⊥) → isOneOf formCodes n ≡ false
 no-form n a b c d e =
-    rw (ne-eqb 31 n (λ q. a (sym q)), ne-eqb 34 n (λ q. b (sym q)), ne-eqb 35 n (λ q. c (sym q)), ne-eqb 37 n (λ q. d (sym q)), ne-eqb 40 n (λ q. e (sym q)))
+    rw (ne-eqb (code As) n (λ q. a (sym q)), ne-eqb (code Dot) n (λ q. b (sym q)), ne-eqb (code LeftParen) n (λ q. c (sym q)), ne-eqb (code LeftBracket) n (λ q. d (sym q)), ne-eqb (code Question) n (λ q. e (sym q)))

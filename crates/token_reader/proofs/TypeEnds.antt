@@ -8,7 +8,7 @@ use lib.ListN.{length, getD}
 use Rattle.tree.specs.Sizes.{listEnd}
 use Rattle.tree.specs.Forms.{TypePath, Link}
 use Rattle.tree.specs.Trees.{none}
-use Rattle.token_grammar.specs.Tokens.{Token, operator, Lt, Gt, Comma}
+use Rattle.token_grammar.specs.Tokens.{Lt, Gt, number, Token, operator, Comma, code}
 use Rattle.token_grammar.specs.Types.{one, list, items, TypePrefix, TypeSign, Ty, named, applied, pointing, sign, noTypes, types, lastType, moreTypes}
 use Rattle.token_grammar.specs.Parser.{Out, fail, ok, then, tail, isFirst, TypeStart, noType, aName, aTypePrefix, aSign, typeStart, typeStartBy, typeBy, typesBy, someTypesBy}
 use Rattle.token_plain.specs.Trees.{label, treeOfType, typePrefixLabel, typeSignLabel}
@@ -130,7 +130,7 @@ types-items Is Be codes at to (suc g) h q e t k =
     (tells-then Is Be codes to to (someTypesBy g (from codes at)) (λ l r. ok (types l) r) (t g (omega arith)) (λ z. z) (λ l z y. (z, refl, k l y)))
 
 module _ {codes own now : List ℕ} {at free : ℕ} (ready : Ready codes own at free) (here : at < length codes) where
-  pub path-named : {left : ℕ} → (getD codes (at + 1) listEnd ≡ 13 → ⊥) → Stored own now free left TypePath 1 0 0 → PathAt codes own now at free (record { at = at + 1; free = left; named = true })
+  pub path-named : {left : ℕ} → (getD codes (at + 1) listEnd ≡ number Lt → ⊥) → Stored own now free left TypePath 1 0 0 → PathAt codes own now at free (record { at = at + 1; free = left; named = true })
   path-named n s =
       record {
         grew = λ q. grew-node at (at + 1) (omega arith) (omega arith) (grew-none own at free at (omega arith)) s;
@@ -139,10 +139,10 @@ module _ {codes own now : List ℕ} {at free : ℕ} (ready : Ready codes own at 
             (omega arith, refl, record { ends = refl; placed = placed none none (label TypePath 1) s refl (ready .most) refl refl });
       }
 
-  pub path-empty : {left : ℕ} → getD codes (at + 1) listEnd ≡ 13 → getD codes (at + 2) listEnd ≡ 17 → Stored own now free left TypePath 2 0 0 →
+  pub path-empty : {left : ℕ} → getD codes (at + 1) listEnd ≡ number Lt → getD codes (at + 2) listEnd ≡ number Gt → Stored own now free left TypePath 2 0 0 →
       PathAt codes own now at free (record { at = at + 3; free = left; named = false })
   path-empty {left} e z s =
-      let b = there codes (at + 2) 17 z (omega arith) in
+      let b = there codes (at + 2) (number Gt) z (omega arith) in
       record {
         grew = λ q. grew-node at (at + 3) (omega arith) (omega arith) (grew-none own at free at (omega arith)) s;
         tells = λ g q.
@@ -153,9 +153,9 @@ module _ {codes own now : List ℕ} {at free : ℕ} (ready : Ready codes own at 
             (omega arith, ap (from codes) (let p : at + 2 + 1 ≡ at + 3 = omega arith in p), record { ends = refl; placed = placed none none (label TypePath 2) s refl (ready .most) refl refl });
       }
 
-  pub path-none : {r : Piece} → getD codes (at + 1) listEnd ≡ 13 → (getD codes (at + 2) listEnd ≡ 17 → ⊥) → length codes < r .at → TypesAt codes own now (at + 2) free r → PathAt codes own now at free r
+  pub path-none : {r : Piece} → getD codes (at + 1) listEnd ≡ number Lt → (getD codes (at + 2) listEnd ≡ number Gt → ⊥) → length codes < r .at → TypesAt codes own now (at + 2) free r → PathAt codes own now at free r
   path-none {r} e n h i =
-      let b = there codes (at + 1) 13 e (omega arith) in
+      let b = there codes (at + 1) (number Lt) e (omega arith) in
       record {
         grew = λ q. absurd (omega arith);
         tells = λ g q.
@@ -169,10 +169,10 @@ pub record Listed (mid : List ℕ) (r : Piece) (l : Ty list) : Type 0 where
   pub placed : Placed mid (r .free) (r .free + 1) (treeOfType l)
 
 module _ {codes own mid now : List ℕ} {at free : ℕ} (ready : Ready codes own at free) where
-  pub path-stored : {left : ℕ} (r : Piece) → getD codes (at + 1) listEnd ≡ 13 → (getD codes (at + 2) listEnd ≡ 17 → ⊥) → r .at ≤ length codes → TypesAt codes own mid (at + 2) free r →
+  pub path-stored : {left : ℕ} (r : Piece) → getD codes (at + 1) listEnd ≡ number Lt → (getD codes (at + 2) listEnd ≡ number Gt → ⊥) → r .at ≤ length codes → TypesAt codes own mid (at + 2) free r →
       Stored mid now (r .free) left TypePath 2 0 (r .free + 1) → PathAt codes own now at free (record { at = r .at; free = left; named = false })
   path-stored {left} r e n h i s =
-      let b = there codes (at + 1) 13 e (omega arith) in
+      let b = there codes (at + 1) (number Lt) e (omega arith) in
       let w = i .grew h in
       record {
         grew = λ q. grew-node at (r .at) (omega (arith, w .upto)) (omega arith) w s;
@@ -205,10 +205,10 @@ module _ {codes own mid : List ℕ} {at free : ℕ} (ready : Ready codes own at 
       subst (λ x. Tells Be codes to (typesStep g t (from codes (first .at)) x (isFirst Comma (from codes (first .at))))) (sym p)
       (subst (λ x. Tells Be codes to (typesStep g t (from codes (first .at)) last x)) (sym q) (k g (omega arith) t z y)))
 
-  pub types-last : {now : List ℕ} {left : ℕ} → getD codes (first .at) listEnd ≡ 17 → Stored mid now (first .free) left Link 0 (first .free + 1) 0 →
+  pub types-last : {now : List ℕ} {left : ℕ} → getD codes (first .at) listEnd ≡ number Gt → Stored mid now (first .free) left Link 0 (first .free + 1) 0 →
       TypesAt codes own now at free (record { at = first .at + 1; free = left; named = false })
   types-last {now} {left} e s =
-      let b = there codes (first .at) 17 e (omega arith) in
+      let b = there codes (first .at) (number Gt) e (omega arith) in
       let w = i .grew (omega arith) in
       record {
         grew = λ q. grew-node at (first .at + 1) (omega (arith, w .upto)) (omega arith) w s;
@@ -216,7 +216,7 @@ module _ {codes own mid : List ℕ} {at free : ℕ} (ready : Ready codes own at 
             (λ g q t z y. (omega arith, tail-from codes (first .at), record { placed = placed (treeOfType t) none (label Link 0) s refl (omega (arith, ready .most, w .less)) (y .placed) refl }));
       }
 
-  pub types-none : {now : List ℕ} {r : Piece} → (getD codes (first .at) listEnd ≡ 17 → ⊥) → (getD codes (first .at) listEnd ≡ 39 → ⊥) → r .at ≡ length codes + 1 → TypesAt codes own now at free r
+  pub types-none : {now : List ℕ} {r : Piece} → (getD codes (first .at) listEnd ≡ number Gt → ⊥) → (getD codes (first .at) listEnd ≡ code Comma → ⊥) → r .at ≡ length codes + 1 → TypesAt codes own now at free r
   types-none {now} {r} n m z =
       record {
         grew = λ q. absurd (omega arith);
@@ -224,10 +224,10 @@ module _ {codes own mid : List ℕ} {at free : ℕ} (ready : Ready codes own at 
             (λ g q t x y. omega arith);
       }
 
-  pub types-more-none : {now : List ℕ} {r : Piece} → (getD codes (first .at) listEnd ≡ 17 → ⊥) → getD codes (first .at) listEnd ≡ 39 → length codes < r .at →
+  pub types-more-none : {now : List ℕ} {r : Piece} → (getD codes (first .at) listEnd ≡ number Gt → ⊥) → getD codes (first .at) listEnd ≡ code Comma → length codes < r .at →
       TypesAt codes mid now (first .at + 1) (first .free) r → TypesAt codes own now at free r
   types-more-none {now} {r} n m h j =
-      let b = there codes (first .at) 39 m (omega arith) in
+      let b = there codes (first .at) (code Comma) m (omega arith) in
       let w = i .grew (omega arith) in
       record {
         grew = λ q. absurd (omega arith);
@@ -237,11 +237,11 @@ module _ {codes own mid : List ℕ} {at free : ℕ} (ready : Ready codes own at 
             (tells-none (IsTypes now r) (IsTypes now r) codes (r .at) (r .at) (someTypesBy g (from codes (first .at + 1))) (λ l z. ok (moreTypes t l) z) h h (j .tells g (omega (arith, w .upto)))));
       }
 
-  pub types-more : {mid₂ now : List ℕ} {left : ℕ} (r : Piece) → (getD codes (first .at) listEnd ≡ 17 → ⊥) → getD codes (first .at) listEnd ≡ 39 → r .at ≤ length codes →
+  pub types-more : {mid₂ now : List ℕ} {left : ℕ} (r : Piece) → (getD codes (first .at) listEnd ≡ number Gt → ⊥) → getD codes (first .at) listEnd ≡ code Comma → r .at ≤ length codes →
       TypesAt codes mid mid₂ (first .at + 1) (first .free) r → Stored mid₂ now (r .free) left Link 0 (first .free + 1) (r .free + 1) →
       TypesAt codes own now at free (record { at = r .at; free = left; named = false })
   types-more {mid₂} {now} {left} r n m h j s =
-      let b = there codes (first .at) 39 m (omega arith) in
+      let b = there codes (first .at) (code Comma) m (omega arith) in
       let w = i .grew (omega arith) in
       let v = j .grew h in
       record {

@@ -12,6 +12,7 @@ use Rattle.tree.specs.Sizes.{nodeCells, mostNodes, mostTokens, lastCode}
 use Rattle.tree.specs.Trees.{Tree, treeAt}
 use Rattle.token_grammar.specs.Tokens.{Token}
 use Rattle.token_grammar.specs.Codes.{tokensOf}
+use Rattle.token_grammar.specs.Bounds.{loosest}
 use Rattle.token_grammar.specs.Types.{one}
 use Rattle.token_grammar.specs.Expressions.{Expr}
 use Rattle.token_grammar.specs.Grammar.{NONE}
@@ -44,10 +45,10 @@ none-left : (ts : List Token) → drop (length ts) ts ≡ []
 none-left [] = refl
 none-left (t ∷ ts) = none-left ts
 
-module _ {codes own now : List ℕ} {free : ℕ} (r : Parsed) (i : ExprAt codes own now 0 free 1 r) where
+module _ {codes own now : List ℕ} {free : ℕ} (r : Parsed) (i : ExprAt codes own now 0 free loosest r) where
   tells : Tells (IsExpr now r) codes (r .at) (parse NONE (tokensOf codes))
   unfolding parse
-  tells = subst (λ n. Tells (IsExpr now r) codes (r .at) (exprBy (2 * n) NONE 1 (tokensOf codes))) (sym (length-tokens codes)) (i .tells (2 * length codes) (omega arith))
+  tells = subst (λ n. Tells (IsExpr now r) codes (r .at) (exprBy (2 * n) NONE loosest (tokensOf codes))) (sym (length-tokens codes)) (i .tells (2 * length codes) (omega arith))
 
   pub unread : (r .at ≡ length codes → ⊥) → (t : Tree) → Reads codes t → ⊥
   unread n t x =
@@ -133,7 +134,7 @@ module _ (codes table : List ℕ) where
         read = λ p q t x. absurd (n t x);
       }
 
-  pub answers-read : {own now out : List ℕ} {free : ℕ} {r : Reply} (x : Parsed) → nodeCells * mostNodes ≤ length table → length codes ≤ mostTokens → anyAbove lastCode codes ≡ false → ExprAt codes own now 0 free 1 x → x .at ≡ length codes →
+  pub answers-read : {own now out : List ℕ} {free : ℕ} {r : Reply} (x : Parsed) → nodeCells * mostNodes ≤ length table → length codes ≤ mostTokens → anyAbove lastCode codes ≡ false → ExprAt codes own now 0 free loosest x → x .at ≡ length codes →
       r ≡ replyOf (renumbered (treeAt now mostTokens (x .free + 1)) (length table)) → out ≡ renumberedAfter (treeAt now mostTokens (x .free + 1)) table → Answers codes table r out
   unfolding readRefusal12
   answers-read {own} {now} {out} {free} {r} x h k e i z p q =

@@ -9,7 +9,8 @@ use Rattle.tree.specs.Table.{firstAt, secondAt}
 use Rattle.tree.specs.Trees.{Tree, none, node, labelAt}
 use Rattle.token_grammar.specs.Tokens.{Token, Operator, operator, Lt, LeftParen, RightBracket, RightParen, operatorOf}
 use Rattle.token_grammar.specs.Codes.{tokensOf}
-use Rattle.token_grammar.specs.Levels.{kind, level, prefixes, after}
+use Rattle.token_grammar.specs.Levels.{prefixes, postfixes, kind, level, after}
+use Rattle.token_grammar.specs.Bounds.{loosest}
 use Rattle.token_grammar.specs.Types.{one, list, items, TypePrefix, TypeSign, Ty, named, applied, pointing, sign, typeEndsInName}
 use Rattle.token_grammar.specs.Expressions.{Atom, Prefix, Member, byName, Expr, atom, paren, prefix, binary, cast, member, try, index, call, method, kindOf, endsInTypeName, endsInDotName}
 use Rattle.token_grammar.specs.Grammar.{NONE}
@@ -125,7 +126,7 @@ pub record IsArguments (now : List ℕ) (r : Piece) (l : Expr items) : Type 0 wh
 pub record Postfix (at free : ℕ) (r : Parsed) : Type 0 where
   pub to : r .at ≡ at
   pub left : r .free ≡ free
-  pub strong : r .level ≡ 15
+  pub strong : r .level ≡ level postfixes
   pub type-last : r .named ≡ false
   pub name-last : r .dotted ≡ false
 
@@ -157,7 +158,7 @@ abbrev pub closeBy : Token → (Expr one → Expr one) → Expr one → List Tok
 closeBy close whole a r = elim (isFirst close r) [ true ↦ ok (whole a) (tail r) | false ↦ fail ]
 
 abbrev pub groupBy : ℕ → List Token → Out (Expr one)
-groupBy g ts = then (exprBy g NONE 1 ts) (closeBy RightParen paren)
+groupBy g ts = then (exprBy g NONE loosest ts) (closeBy RightParen paren)
 
 pub record GroupAt (codes own now : List ℕ) (at free : ℕ) (r : Parsed) : Type 0 where
   pub past : r .at ≤ length codes → at < r .at
@@ -190,7 +191,7 @@ abbrev pub callBy : ℕ → (Expr list → Expr one) → List Token → Out (Exp
 callBy g whole ts = then (argumentsBy g ts) (λ l r. ok (whole l) r)
 
 abbrev pub indexBy : ℕ → Expr one → List Token → Out (Expr one)
-indexBy g e ts = then (exprBy g NONE 1 ts) (closeBy RightBracket (index e))
+indexBy g e ts = then (exprBy g NONE loosest ts) (closeBy RightBracket (index e))
 
 -- behind a member's name
 abbrev pub memberBy : ℕ → Expr one → Member → List Token → Bool → Out (Expr one)
@@ -257,7 +258,7 @@ pub record NamedAt (codes own now : List ℕ) (left r : Parsed) : Type 0 where
 
 -- a call of what stands for the tree `a`, with the arguments l
 pub record Called (form : ℕ) (a : Tree) (l : Expr list) (e : Expr one) : Type 0 where
-  pub strong : level (kindOf e) ≡ 15
+  pub strong : level (kindOf e) ≡ level postfixes
   pub type-last : endsInTypeName e ≡ false
   pub name-last : endsInDotName e ≡ false
   pub tree : treeOf (bare e) ≡ node (label form 0) a (treeOf (bare l))

@@ -4,7 +4,9 @@ use Prim.Native.Nat.{ℕ, _+_}
 use lib.Dec.{eqb}
 use Rattle.laws.specs.Choice.{pick}
 use Rattle.tree.specs.Forms.{ExprAssign, ExprBinary}
+use Rattle.token_grammar.specs.Tokens.{Assign, number}
 use Rattle.token_grammar.specs.Codes.{tokenOf}
+use Rattle.token_grammar.specs.Levels.{assignments, level}
 use Rattle.token_grammar.specs.Next.{nextOf, levelAt}
 use Rattle.token_follow.specs.Follow.{goesOnBy}
 
@@ -16,7 +18,7 @@ levelOf code = levelAt (nextOf (tokenOf code))
 
 -- the lowest level of an operand that stands after
 unfoldable pub afterOf : ℕ → ℕ
-afterOf level = pick (eqb level 1) 1 (level + 1)
+afterOf n = pick (eqb n (level assignments)) (level assignments) (n + 1)
 
 -- whether an expression goes on with a token
 abbrev pub goesOnWith : ℕ → ℕ → Bool → Bool → ℕ → Bool
@@ -25,7 +27,7 @@ goesOnWith least level typeName dotName code = goesOnBy least level typeName dot
 -- ---- Binary and Assign
 
 unfoldable pub operatorForm : ℕ → ℕ
-operatorForm code = pick (eqb code 28) ExprAssign ExprBinary
+operatorForm code = pick (eqb code (number Assign)) ExprAssign ExprBinary
 
 unfoldable pub operatorDetail : ℕ → ℕ
-operatorDetail code = pick (eqb code 28) 0 code
+operatorDetail code = pick (eqb code (number Assign)) 0 code

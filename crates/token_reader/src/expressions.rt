@@ -11,9 +11,12 @@ use crate::token::operator_form;
 use crate::types::ty;
 use token_follow::goes_on;
 use token_follow::level_of;
+use token_grammar::codes;
+use token_grammar::level;
 use tree::forms;
 ghost use Prim.Native.Nat.{_+_, _≤_, _<_};
 ghost use lib.ListN.{length};
+ghost use Rattle.token_grammar.specs.Bounds.{pastOperators};
 ghost use Rattle.token_reader.specs.Pieces.{Ready, Postfix, AtomAt, ExprAt, OperandAt, PrefixedAt, GroupAt, StepAt, BinaryAt, CastAt, DotAt, NamedAt, MemberAt, TryAt, IndexAt, CallAt, ArgumentsAt};
 
 // What binds as strongly as the postfix forms, and ends in no name that matters.
@@ -23,7 +26,7 @@ fn strongest(at: usize, free: u16) -> Parsed
     Parsed {
         at: at,
         free: free,
-        level: 15,
+        level: level::POSTFIXES,
         named: false,
         dotted: false,
     }
@@ -56,7 +59,7 @@ fn cast(tokens: &[u16], own: &mut [u16], left: Parsed) -> Parsed
             left.free + 1,
             target.free + 1,
         ),
-        level: 13,
+        level: level::CASTS,
         named: target.named,
         dotted: false,
     }
@@ -77,7 +80,7 @@ fn member(
     Parsed {
         at: left.at + 2,
         free: store(own, left.free, form, detail, left.free + 1, 0),
-        level: 15,
+        level: level::POSTFIXES,
         named: false,
         dotted: dotted,
     }
@@ -119,14 +122,14 @@ fn operand(tokens: &[u16], own: &mut [u16], at: usize, free: u16) -> Parsed
     ensures { λ r. ⌜ OperandAt (now (tokens .entry)) (now (own .entry)) (now (own .exit)) at free r ⌝ }
 {
     match code_at(tokens, at) {
-        1 => prefixed(tokens, own, at, free, forms::EXPR_UNARY, 2),
-        2 => prefixed(tokens, own, at, free, forms::EXPR_UNARY, 0),
-        8 => prefixed(tokens, own, at, free, forms::EXPR_REFERENCE, 0),
-        29 => prefixed(tokens, own, at, free, forms::EXPR_UNARY, 1),
-        30 => prefixed(tokens, own, at, free, forms::EXPR_REFERENCE, 1),
-        32 => atom(tokens, own, at, free, forms::EXPR_PATH),
-        33 => atom(tokens, own, at, free, forms::EXPR_LIT),
-        35 => group(tokens, own, at, free),
+        codes::SUB => prefixed(tokens, own, at, free, forms::EXPR_UNARY, 2),
+        codes::MUL => prefixed(tokens, own, at, free, forms::EXPR_UNARY, 0),
+        codes::BIT_AND => prefixed(tokens, own, at, free, forms::EXPR_REFERENCE, 0),
+        codes::BANG => prefixed(tokens, own, at, free, forms::EXPR_UNARY, 1),
+        codes::AND_MUT => prefixed(tokens, own, at, free, forms::EXPR_REFERENCE, 1),
+        codes::NAME => atom(tokens, own, at, free, forms::EXPR_PATH),
+        codes::LITERAL => atom(tokens, own, at, free, forms::EXPR_LIT),
+        codes::LEFT_PAREN => group(tokens, own, at, free),
         _ => no_expr(tokens),
     }
 }
@@ -136,14 +139,14 @@ fn prefixed(tokens: &[u16], own: &mut [u16], at: usize, free: u16, form: u16, de
     requires { ⌜ Ready (now tokens) (now own) at free × (at < length (now tokens)) ⌝ }
     ensures { λ r. ⌜ PrefixedAt (now (tokens .entry)) (now (own .entry)) (now (own .exit)) at free form detail r ⌝ }
 {
-    let inner = expr(tokens, own, at + 1, free, 14);
+    let inner = expr(tokens, own, at + 1, free, level::PREFIXES);
     if inner.at > tokens.len() {
         return inner;
     }
     Parsed {
         at: inner.at,
         free: store(own, inner.free, form, detail, inner.free + 1, 0),
-        level: 14,
+        level: level::PREFIXES,
         named: inner.named,
         dotted: inner.dotted,
     }
@@ -154,9 +157,9 @@ fn group(tokens: &[u16], own: &mut [u16], at: usize, free: u16) -> Parsed
     requires { ⌜ Ready (now tokens) (now own) at free × (at < length (now tokens)) ⌝ }
     ensures { λ r. ⌜ GroupAt (now (tokens .entry)) (now (own .entry)) (now (own .exit)) at free r ⌝ }
 {
-    let inner = expr(tokens, own, at + 1, free, 1);
+    let inner = expr(tokens, own, at + 1, free, level::LOOSEST);
     // An expression that isn't there ends past the end, where no sign stands.
-    if code_at(tokens, inner.at) != 36 {
+    if code_at(tokens, inner.at) != codes::RIGHT_PAREN {
         return no_expr(tokens);
     }
     strongest(inner.at + 1, inner.free)
@@ -169,23 +172,23 @@ fn step(tokens: &[u16], own: &mut [u16], left: Parsed) -> Parsed
 {
     let code = code_at(tokens, left.at);
     match code {
-        0..=28 => binary(tokens, own, left, code),
-        31 => cast(tokens, own, left),
-        34 => dot(tokens, own, left),
-        35 => call(tokens, own, left.at, left.free, forms::EXPR_CALL),
-        37 => index(tokens, own, left),
-        40 => attempt(tokens, own, left),
+        codes::ADD..=codes::ASSIGN => binary(tokens, own, left, code),
+        codes::AS => cast(tokens, own, left),
+        codes::DOT => dot(tokens, own, left),
+        codes::LEFT_PAREN => call(tokens, own, left.at, left.free, forms::EXPR_CALL),
+        codes::LEFT_BRACKET => index(tokens, own, left),
+        codes::QUESTION => attempt(tokens, own, left),
         _ => no_expr(tokens),
     }
 }
 
 // A Binary or an Assign.
 fn binary(tokens: &[u16], own: &mut [u16], left: Parsed, code: u16) -> Parsed
-    requires { ⌜ Ready (now tokens) (now own) (left .at) (left .free) × (left .at < length (now tokens)) × (code < 29) ⌝ }
+    requires { ⌜ Ready (now tokens) (now own) (left .at) (left .free) × (left .at < length (now tokens)) × (code < pastOperators) ⌝ }
     ensures { λ r. ⌜ BinaryAt (now (tokens .entry)) (now (own .entry)) (now (own .exit)) left code r ⌝ }
 {
-    let level = level_of(code);
-    let right = expr(tokens, own, left.at + 1, left.free, lowest_after(level));
+    let made = level_of(code);
+    let right = expr(tokens, own, left.at + 1, left.free, lowest_after(made));
     if right.at > tokens.len() {
         return right;
     }
@@ -199,7 +202,7 @@ fn binary(tokens: &[u16], own: &mut [u16], left: Parsed, code: u16) -> Parsed
             left.free + 1,
             right.free + 1,
         ),
-        level: level,
+        level: made,
         named: right.named,
         dotted: right.dotted,
     }
@@ -211,9 +214,9 @@ fn dot(tokens: &[u16], own: &mut [u16], left: Parsed) -> Parsed
     ensures { λ r. ⌜ DotAt (now (tokens .entry)) (now (own .entry)) (now (own .exit)) left r ⌝ }
 {
     match code_at(tokens, left.at + 1) {
-        32 => named(tokens, own, left),
-        44 => member(tokens, own, left, forms::EXPR_FIELD, 1, false),
-        45 => member(tokens, own, left, forms::EXPR_AWAIT, 0, false),
+        codes::NAME => named(tokens, own, left),
+        codes::NUMBERED_MEMBER => member(tokens, own, left, forms::EXPR_FIELD, 1, false),
+        codes::AWAIT => member(tokens, own, left, forms::EXPR_AWAIT, 0, false),
         _ => no_expr(tokens),
     }
 }
@@ -223,7 +226,7 @@ fn named(tokens: &[u16], own: &mut [u16], left: Parsed) -> Parsed
     requires { ⌜ Ready (now tokens) (now own) (left .at) (left .free) × (left .at + 1 < length (now tokens)) ⌝ }
     ensures { λ r. ⌜ NamedAt (now (tokens .entry)) (now (own .entry)) (now (own .exit)) left r ⌝ }
 {
-    if code_at(tokens, left.at + 2) != 35 {
+    if code_at(tokens, left.at + 2) != codes::LEFT_PAREN {
         return member(tokens, own, left, forms::EXPR_FIELD, 0, true);
     }
     call(tokens, own, left.at + 2, left.free, forms::EXPR_METHOD_CALL)
@@ -234,8 +237,8 @@ fn index(tokens: &[u16], own: &mut [u16], left: Parsed) -> Parsed
     requires { ⌜ Ready (now tokens) (now own) (left .at) (left .free) × (left .at < length (now tokens)) ⌝ }
     ensures { λ r. ⌜ IndexAt (now (tokens .entry)) (now (own .entry)) (now (own .exit)) left r ⌝ }
 {
-    let inner = expr(tokens, own, left.at + 1, left.free, 1);
-    if code_at(tokens, inner.at) != 38 {
+    let inner = expr(tokens, own, left.at + 1, left.free, level::LOOSEST);
+    if code_at(tokens, inner.at) != codes::RIGHT_BRACKET {
         return no_expr(tokens);
     }
     strongest(
@@ -256,7 +259,7 @@ fn call(tokens: &[u16], own: &mut [u16], at: usize, free: u16, form: u16) -> Par
     requires { ⌜ Ready (now tokens) (now own) at free × (at < length (now tokens)) ⌝ }
     ensures { λ r. ⌜ CallAt (now (tokens .entry)) (now (own .entry)) (now (own .exit)) at free form r ⌝ }
 {
-    if code_at(tokens, at + 1) == 36 {
+    if code_at(tokens, at + 1) == codes::RIGHT_PAREN {
         return strongest(at + 2, store(own, free, form, 0, free + 1, 0));
     }
     let list = arguments(tokens, own, at + 1, free);
@@ -274,16 +277,16 @@ fn arguments(tokens: &[u16], own: &mut [u16], at: usize, free: u16) -> Piece
     requires { ⌜ Ready (now tokens) (now own) at free ⌝ }
     ensures { λ r. ⌜ ArgumentsAt (now (tokens .entry)) (now (own .entry)) (now (own .exit)) at free r ⌝ }
 {
-    let first = expr(tokens, own, at, free, 1);
+    let first = expr(tokens, own, at, free, level::LOOSEST);
     let sign = code_at(tokens, first.at);
-    if sign == 36 {
+    if sign == codes::RIGHT_PAREN {
         return Piece {
             at: first.at + 1,
             free: store(own, first.free, forms::LINK, 0, first.free + 1, 0),
             named: false,
         };
     }
-    if sign != 39 {
+    if sign != codes::COMMA {
         return no_piece(tokens);
     }
     let more = arguments(tokens, own, first.at + 1, first.free);

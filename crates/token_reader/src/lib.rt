@@ -6,6 +6,7 @@ mod token; // token.rt: what a token says
 mod types; // types.rt: types and their lists
 
 use expressions::expr;
+use token_grammar::level;
 use tree::sizes;
 use tree_numbering::Renumbered;
 use tree_numbering::renumber;
@@ -66,7 +67,7 @@ pub fn read(tokens: &[u16], table: &mut [u16]) -> Reply
         return Reply::Refused(14);
     }
     let mut own = [0u16; sizes::NODE_CELLS * sizes::MOST_TOKENS];
-    let whole = expr(tokens, &mut own, 0, OWN, 1);
+    let whole = expr(tokens, &mut own, 0, OWN, level::LOOSEST);
     if whole.at != tokens.len() {
         return Reply::Refused(15);
     }

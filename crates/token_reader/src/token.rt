@@ -1,13 +1,16 @@
 // What a token says where it stands, by its code.
+use token_grammar::codes;
+use token_grammar::level;
 use tree::forms;
 use tree::sizes;
 ghost use mathlib.Core.Path.{_≡_};
 ghost use Prim.Native.Nat.{_≤_};
 ghost use lib.ListN.{getD};
 ghost use Rattle.tree.specs.Sizes.{listEnd};
+ghost use Rattle.token_grammar.specs.Bounds.{highest};
 ghost use Rattle.token_reader.specs.Tables.{afterOf, operatorForm, operatorDetail};
 
-// The code at a place, or 46, which no token has.
+// The code at a place, or the one that stands for the end of the list, which no token has.
 pub fn code_at(tokens: &[u16], at: usize) -> u16
     ensures { λ r. ⌜ r ≡ getD (now (tokens .entry)) at listEnd ⌝ }
 {
@@ -19,18 +22,22 @@ pub fn code_at(tokens: &[u16], at: usize) -> u16
 }
 
 // The lowest level of an operand that stands after.
-pub(crate) fn lowest_after(level: u16) -> u16
-    requires { ⌜ level ≤ 15 ⌝ }
-    ensures { λ r. ⌜ r ≡ afterOf level ⌝ }
+pub(crate) fn lowest_after(made: u16) -> u16
+    requires { ⌜ made ≤ highest ⌝ }
+    ensures { λ r. ⌜ r ≡ afterOf made ⌝ }
 {
-    if level == 1 { 1 } else { level + 1 }
+    if made == level::ASSIGNMENTS {
+        level::ASSIGNMENTS
+    } else {
+        made + 1
+    }
 }
 
 // Binary, Assign
 pub fn operator_form(code: u16) -> u16
     ensures { λ r. ⌜ r ≡ operatorForm code ⌝ }
 {
-    if code == 28 {
+    if code == codes::ASSIGN {
         forms::EXPR_ASSIGN
     } else {
         forms::EXPR_BINARY
@@ -40,5 +47,5 @@ pub fn operator_form(code: u16) -> u16
 pub fn operator_detail(code: u16) -> u16
     ensures { λ r. ⌜ r ≡ operatorDetail code ⌝ }
 {
-    if code == 28 { 0 } else { code }
+    if code == codes::ASSIGN { 0 } else { code }
 }

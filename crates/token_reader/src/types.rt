@@ -3,6 +3,7 @@ use crate::node::store;
 use crate::piece::Piece;
 use crate::piece::no_piece;
 use crate::token::code_at;
+use token_grammar::codes;
 use tree::forms;
 ghost use Prim.Native.Nat.{_<_};
 ghost use lib.ListN.{length};
@@ -26,13 +27,13 @@ pub(crate) fn ty(tokens: &[u16], own: &mut [u16], at: usize, free: u16) -> Piece
     ensures { λ r. ⌜ TypeAt (now (tokens .entry)) (now (own .entry)) (now (own .exit)) at free r ⌝ }
 {
     match code_at(tokens, at) {
-        8 => pointing(tokens, own, at, free, forms::TYPE_REFERENCE, 0),
-        29 => sign(tokens, own, at, free, forms::TYPE_NEVER),
-        30 => pointing(tokens, own, at, free, forms::TYPE_REFERENCE, 1),
-        32 => path(tokens, own, at, free),
-        41 => pointing(tokens, own, at, free, forms::TYPE_PTR, 0),
-        42 => pointing(tokens, own, at, free, forms::TYPE_PTR, 1),
-        43 => sign(tokens, own, at, free, forms::TYPE_INFER),
+        codes::BIT_AND => pointing(tokens, own, at, free, forms::TYPE_REFERENCE, 0),
+        codes::BANG => sign(tokens, own, at, free, forms::TYPE_NEVER),
+        codes::AND_MUT => pointing(tokens, own, at, free, forms::TYPE_REFERENCE, 1),
+        codes::NAME => path(tokens, own, at, free),
+        codes::STAR_CONST => pointing(tokens, own, at, free, forms::TYPE_PTR, 0),
+        codes::STAR_MUT => pointing(tokens, own, at, free, forms::TYPE_PTR, 1),
+        codes::UNDERSCORE => sign(tokens, own, at, free, forms::TYPE_INFER),
         _ => no_piece(tokens),
     }
 }
@@ -58,14 +59,14 @@ fn path(tokens: &[u16], own: &mut [u16], at: usize, free: u16) -> Piece
     requires { ⌜ Ready (now tokens) (now own) at free × (at < length (now tokens)) ⌝ }
     ensures { λ r. ⌜ PathAt (now (tokens .entry)) (now (own .entry)) (now (own .exit)) at free r ⌝ }
 {
-    if code_at(tokens, at + 1) != 13 {
+    if code_at(tokens, at + 1) != codes::LT {
         return Piece {
             at: at + 1,
             free: store(own, free, forms::TYPE_PATH, 1, 0, 0),
             named: true,
         };
     }
-    if code_at(tokens, at + 2) == 17 {
+    if code_at(tokens, at + 2) == codes::GT {
         return Piece {
             at: at + 3,
             free: store(own, free, forms::TYPE_PATH, 2, 0, 0),
@@ -91,14 +92,14 @@ fn types(tokens: &[u16], own: &mut [u16], at: usize, free: u16) -> Piece
     let first = ty(tokens, own, at, free);
     // A type that isn't there ends past the end, where no sign stands.
     let sign = code_at(tokens, first.at);
-    if sign == 17 {
+    if sign == codes::GT {
         return Piece {
             at: first.at + 1,
             free: store(own, first.free, forms::LINK, 0, first.free + 1, 0),
             named: false,
         };
     }
-    if sign != 39 {
+    if sign != codes::COMMA {
         return no_piece(tokens);
     }
     let more = types(tokens, own, first.at + 1, first.free);

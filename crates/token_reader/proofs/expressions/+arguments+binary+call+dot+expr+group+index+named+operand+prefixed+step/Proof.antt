@@ -1,18 +1,18 @@
 -- The reader of expressions meets its contracts: with each call there are fewer tokens left to read, or the call goes to a smaller part of the work. Assumes nothing.
 use mathlib.Core.Path.{_≡_, refl, sym, subst, ap, _∙_}
 use mathlib.Core.Bool.{false}
-use mathlib.Core.List.{[], _∷_}
 use Prim.Native.Nat.{ℕ, _+_, _*_, _-_, _<_}
 use native.Mathlib.Omega.{arith}
 use lib.ListN.{length}
 use borrow.Author.Needs.{needs}
 use Rattle.laws.specs.Choice.{isOneOf}
 use Rattle.laws.proofs.Keys.{arm, rest}
+use Rattle.token_grammar.specs.Tokens.{Sub, Mul, BitAnd, number, Bang, AndMut, As, Name, Literal, Dot, LeftParen, RightParen, LeftBracket, RightBracket, Comma, Question, NumberedMember, Await, code}
 use Rattle.token_grammar.specs.Expressions.{path, literal, neg, deref, invert, ref, refMut, byNumber, awaited}
 use Rattle.token_grammar.specs.Parser.{noStart, startLines, startBy, noMember, afterDotLines, afterDotBy}
 use Rattle.token_reader.specs.Tables.{goesOnWith}
 use Rattle.token_reader.proofs.First.{there}
-use Rattle.token_reader.proofs.Tables.{level-most, after-least, no-form}
+use Rattle.token_reader.proofs.Tables.{level-most, after-least, formCodes, no-form}
 use Rattle.token_reader.proofs.Tells.{ready-on, ready-grew}
 use Rattle.token_reader.proofs.ExprEnds.{operand-atom, operand-prefixed, operand-group, operand-none, prefixed-none, prefixed-stored, group-none, group-closed, goes-inside, Under, under-start, under-ready, under-past, under-step, under-end, step-less}
 use Rattle.token_reader.proofs.ExprEnds.{step-binary, step-cast, step-dot, step-call, step-index, step-try, step-none, binary-none, binary-stored, index-none, index-stored, dot-named, dot-member, dot-none, named-member, named-call}
@@ -217,15 +217,15 @@ arguments-code-at-requires : (t : ℕ) → arguments-lts.Need-code-at-requires (
 arguments-code-at-requires t c κs = search needs
 
 arguments-add-t11 : (t : ℕ) → arguments-lts.Need-add-t11 (arguments-claims t) (arguments-at t) arguments.Post
-arguments-add-t11 t c = let b = there (c .before .before .before .before .before .before .before .before .before .args .tokens .now) (c .before .before .before .before .before .expr .result .at) 36 (sym (c .before .before .code-at .ensures) ∙ c .before .if1 .taken) (omega arith) in search needs
+arguments-add-t11 t c = let b = there (c .before .before .before .before .before .before .before .before .before .args .tokens .now) (c .before .before .before .before .before .expr .result .at) (code RightParen) (sym (c .before .before .code-at .ensures) ∙ c .before .if1 .taken) (omega arith) in search needs
 
 arguments-add-store : (t : ℕ) → arguments-lts.Need-add-store (arguments-claims t) (arguments-at t) arguments.Post
-arguments-add-store t c = let r = c .before .before .before .before .before .before .before .before .before .before .before .pre .1 in let b = there (c .before .before .before .before .before .before .before .before .before .before .before .args .tokens .now) (c .before .before .before .before .before .before .before .expr .result .at) 36 (sym (c .before .before .before .before .code-at .ensures) ∙ c .before .before .before .if1 .taken) (omega arith) in let w = c .before .before .before .before .before .before .before .expr .ensures .grew (omega arith) in omega (arith, r .most, w .less)
+arguments-add-store t c = let r = c .before .before .before .before .before .before .before .before .before .before .before .pre .1 in let b = there (c .before .before .before .before .before .before .before .before .before .before .before .args .tokens .now) (c .before .before .before .before .before .before .before .expr .result .at) (code RightParen) (sym (c .before .before .before .before .code-at .ensures) ∙ c .before .before .before .if1 .taken) (omega arith) in let w = c .before .before .before .before .before .before .before .expr .ensures .grew (omega arith) in omega (arith, r .most, w .less)
 
 arguments-store-requires : (t : ℕ) → arguments-lts.Need-store-requires (arguments-claims t) (arguments-at t) arguments.Post
 arguments-store-requires t c κs =
     let r = c .before .before .before .before .before .before .before .before .before .before .before .pre .1 in
-    let b = there (c .before .before .before .before .before .before .before .before .before .before .before .args .tokens .now) (c .before .before .before .before .before .before .before .expr .result .at) 36 (sym (c .before .before .before .before .code-at .ensures) ∙ c .before .before .before .if1 .taken) (omega arith) in
+    let b = there (c .before .before .before .before .before .before .before .before .before .before .before .args .tokens .now) (c .before .before .before .before .before .before .before .expr .result .at) (code RightParen) (sym (c .before .before .before .before .code-at .ensures) ∙ c .before .before .before .if1 .taken) (omega arith) in
     let w = c .before .before .before .before .before .before .before .expr .ensures .grew (omega arith) in
     (omega (arith, r .room, r .short, w .room), omega (arith, r .cells, r .most, w .less, w .same))
 
@@ -245,12 +245,12 @@ arguments-returns-2 : (t : ℕ) → arguments-lts.Need-returns-2 (arguments-clai
 arguments-returns-2 t c = arguments-none (c .before .before .before .before .before .before .before .before .before .before .pre .1) _ (c .before .before .before .before .before .before .expr .ensures) (λ e. c .before .before .if1 .left (c .before .before .before .code-at .ensures ∙ e)) (λ e. c .before .if2 .taken (c .before .before .before .code-at .ensures ∙ e)) (c .no-piece .ensures)
 
 arguments-add-arguments : (t : ℕ) → arguments-lts.Need-add-arguments (arguments-claims t) (arguments-at t) arguments.Post
-arguments-add-arguments t c = let b = there (c .before .before .before .before .before .before .before .before .before .before .before .args .tokens .now) (c .before .before .before .before .before .before .before .expr .result .at) 39 (sym (c .before .before .before .before .code-at .ensures) ∙ c .before .before .if2 .left) (omega arith) in search needs
+arguments-add-arguments t c = let b = there (c .before .before .before .before .before .before .before .before .before .before .before .args .tokens .now) (c .before .before .before .before .before .before .before .expr .result .at) (code Comma) (sym (c .before .before .before .before .code-at .ensures) ∙ c .before .before .if2 .left) (omega arith) in search needs
 
 arguments-arguments-requires : (t : ℕ) → arguments-lts.Need-arguments-requires (arguments-claims t) (arguments-at t) arguments.Post
 arguments-arguments-requires t c κs =
     let p = c .before .before .before .before .before .before .before .before .before .before .before .pre .0 in
-    let b = there (c .before .before .before .before .before .before .before .before .before .before .before .args .tokens .now) (c .before .before .before .before .before .before .before .expr .result .at) 39 (sym (c .before .before .before .before .code-at .ensures) ∙ c .before .before .if2 .left) (omega arith) in
+    let b = there (c .before .before .before .before .before .before .before .before .before .before .before .args .tokens .now) (c .before .before .before .before .before .before .before .expr .result .at) (code Comma) (sym (c .before .before .before .before .code-at .ensures) ∙ c .before .before .if2 .left) (omega arith) in
     let w = c .before .before .before .before .before .before .before .expr .ensures .grew (omega arith) in
     let u = w .upto in
     (omega arith, ready-grew _ (omega arith) (omega arith) (c .before .before .before .before .before .before .before .before .before .before .before .pre .1) w)
@@ -264,7 +264,7 @@ arguments-returns-3 t c = arguments-more-none (c .before .before .before .before
 arguments-add-store-2 : (t : ℕ) → arguments-lts.Need-add-store-2 (arguments-claims t) (arguments-at t) arguments.Post
 arguments-add-store-2 t c =
     let r = c .before .before .before .before .before .before .before .before .before .before .before .before .before .before .before .before .before .before .pre .1 in
-    let b = there (c .before .before .before .before .before .before .before .before .before .before .before .before .before .before .before .before .before .before .args .tokens .now) (c .before .before .before .before .before .before .before .before .before .before .before .before .before .before .expr .result .at) 39 (sym (c .before .before .before .before .before .before .before .before .before .before .before .code-at .ensures) ∙ c .before .before .before .before .before .before .before .before .before .if2 .left) (omega arith) in
+    let b = there (c .before .before .before .before .before .before .before .before .before .before .before .before .before .before .before .before .before .before .args .tokens .now) (c .before .before .before .before .before .before .before .before .before .before .before .before .before .before .expr .result .at) (code Comma) (sym (c .before .before .before .before .before .before .before .before .before .before .before .code-at .ensures) ∙ c .before .before .before .before .before .before .before .before .before .if2 .left) (omega arith) in
     let w = c .before .before .before .before .before .before .before .before .before .before .before .before .before .before .expr .ensures .grew (omega arith) in
     let v = c .before .before .before .before .before .before .arguments .ensures .grew (c .before .before .if3 .left) in
     omega (arith, r .most, w .less, v .less)
@@ -272,7 +272,7 @@ arguments-add-store-2 t c =
 arguments-add-store-3 : (t : ℕ) → arguments-lts.Need-add-store-3 (arguments-claims t) (arguments-at t) arguments.Post
 arguments-add-store-3 t c =
     let r = c .before .before .before .before .before .before .before .before .before .before .before .before .before .before .before .before .before .before .before .pre .1 in
-    let b = there (c .before .before .before .before .before .before .before .before .before .before .before .before .before .before .before .before .before .before .before .args .tokens .now) (c .before .before .before .before .before .before .before .before .before .before .before .before .before .before .before .expr .result .at) 39 (sym (c .before .before .before .before .before .before .before .before .before .before .before .before .code-at .ensures) ∙ c .before .before .before .before .before .before .before .before .before .before .if2 .left) (omega arith) in
+    let b = there (c .before .before .before .before .before .before .before .before .before .before .before .before .before .before .before .before .before .before .before .args .tokens .now) (c .before .before .before .before .before .before .before .before .before .before .before .before .before .before .before .expr .result .at) (code Comma) (sym (c .before .before .before .before .before .before .before .before .before .before .before .before .code-at .ensures) ∙ c .before .before .before .before .before .before .before .before .before .before .if2 .left) (omega arith) in
     let w = c .before .before .before .before .before .before .before .before .before .before .before .before .before .before .before .expr .ensures .grew (omega arith) in
     let v = c .before .before .before .before .before .before .before .arguments .ensures .grew (c .before .before .before .if3 .left) in
     omega (arith, r .most, w .less, v .less)
@@ -280,7 +280,7 @@ arguments-add-store-3 t c =
 arguments-store-requires-2 : (t : ℕ) → arguments-lts.Need-store-requires-2 (arguments-claims t) (arguments-at t) arguments.Post
 arguments-store-requires-2 t c κs =
     let r = c .before .before .before .before .before .before .before .before .before .before .before .before .before .before .before .before .before .before .before .pre .1 in
-    let b = there (c .before .before .before .before .before .before .before .before .before .before .before .before .before .before .before .before .before .before .before .args .tokens .now) (c .before .before .before .before .before .before .before .before .before .before .before .before .before .before .before .expr .result .at) 39 (sym (c .before .before .before .before .before .before .before .before .before .before .before .before .code-at .ensures) ∙ c .before .before .before .before .before .before .before .before .before .before .if2 .left) (omega arith) in
+    let b = there (c .before .before .before .before .before .before .before .before .before .before .before .before .before .before .before .before .before .before .before .args .tokens .now) (c .before .before .before .before .before .before .before .before .before .before .before .before .before .before .before .expr .result .at) (code Comma) (sym (c .before .before .before .before .before .before .before .before .before .before .before .before .code-at .ensures) ∙ c .before .before .before .before .before .before .before .before .before .before .if2 .left) (omega arith) in
     let w = c .before .before .before .before .before .before .before .before .before .before .before .before .before .before .before .expr .ensures .grew (omega arith) in
     let v = c .before .before .before .before .before .before .before .arguments .ensures .grew (c .before .before .before .if3 .left) in
     (omega (arith, r .room, r .short, w .room, v .room, c .before .before .before .if3 .left), omega (arith, r .cells, r .most, w .less, w .same, v .less, v .same))
@@ -406,13 +406,13 @@ dot-code-at-requires : (t : ℕ) → dot-lts.Need-code-at-requires (dot-claims t
 dot-code-at-requires t c κs = search needs
 
 dot-named-requires : (t : ℕ) → dot-lts.Need-named-requires (dot-claims t) (dot-at t) dot.Post
-dot-named-requires t c κs = let p = c .before .before .before .before .before .before .pre .0 in let h = there (c .before .before .before .before .before .before .args .tokens .now) (c .before .before .before .before .before .before .args .left .at + 1) 32 (sym (c .before .before .code-at .ensures) ∙ c .before .match .keys1) (omega arith) in (omega arith, (c .before .before .before .before .before .before .pre .1 .0, h))
+dot-named-requires t c κs = let p = c .before .before .before .before .before .before .pre .0 in let h = there (c .before .before .before .before .before .before .args .tokens .now) (c .before .before .before .before .before .before .args .left .at + 1) (code Name) (sym (c .before .before .code-at .ensures) ∙ c .before .match .keys1) (omega arith) in (omega arith, (c .before .before .before .before .before .before .pre .1 .0, h))
 
 dot-member-requires : (t : ℕ) → dot-lts.Need-member-requires (dot-claims t) (dot-at t) dot.Post
-dot-member-requires t c κs = (c .before .before .before .before .before .before .pre .1 .0, there (c .before .before .before .before .before .before .args .tokens .now) (c .before .before .before .before .before .before .args .left .at + 1) 44 (sym (c .before .before .code-at .ensures) ∙ c .before .match .keys2) (omega arith))
+dot-member-requires t c κs = (c .before .before .before .before .before .before .pre .1 .0, there (c .before .before .before .before .before .before .args .tokens .now) (c .before .before .before .before .before .before .args .left .at + 1) (code NumberedMember) (sym (c .before .before .code-at .ensures) ∙ c .before .match .keys2) (omega arith))
 
 dot-member-requires-2 : (t : ℕ) → dot-lts.Need-member-requires-2 (dot-claims t) (dot-at t) dot.Post
-dot-member-requires-2 t c κs = (c .before .before .before .before .before .before .pre .1 .0, there (c .before .before .before .before .before .before .args .tokens .now) (c .before .before .before .before .before .before .args .left .at + 1) 45 (sym (c .before .before .code-at .ensures) ∙ c .before .match .keys3) (omega arith))
+dot-member-requires-2 t c κs = (c .before .before .before .before .before .before .pre .1 .0, there (c .before .before .before .before .before .before .args .tokens .now) (c .before .before .before .before .before .before .args .left .at + 1) (code Await) (sym (c .before .before .code-at .ensures) ∙ c .before .match .keys3) (omega arith))
 
 dot-no-expr-requires : (t : ℕ) → dot-lts.Need-no-expr-requires (dot-claims t) (dot-at t) dot.Post
 dot-no-expr-requires t c κs = search needs
@@ -490,7 +490,7 @@ group-returns : (t : ℕ) → group-lts.Need-returns (group-claims t) (group-at 
 group-returns t c = group-none (c .before .before .before .before .before .before .before .before .before .pre .1 .0) _ (λ e. c .before .if1 .taken (c .before .before .code-at .ensures ∙ e)) (c .before .before .before .before .before .expr .ensures) (c .no-expr .ensures)
 
 group-add-strongest : (t : ℕ) → group-lts.Need-add-strongest (group-claims t) (group-at t) group.Post
-group-add-strongest t c = let b = there (c .before .before .before .before .before .before .before .before .before .args .tokens .now) (c .before .before .before .before .before .expr .result .at) 36 (sym (c .before .before .code-at .ensures) ∙ c .before .if1 .left) (omega arith) in search needs
+group-add-strongest t c = let b = there (c .before .before .before .before .before .before .before .before .before .args .tokens .now) (c .before .before .before .before .before .expr .result .at) (code RightParen) (sym (c .before .before .code-at .ensures) ∙ c .before .if1 .left) (omega arith) in search needs
 
 group-strongest-requires : (t : ℕ) → group-lts.Need-strongest-requires (group-claims t) (group-at t) group.Post
 group-strongest-requires t c κs = search needs
@@ -520,18 +520,18 @@ index-returns : (t : ℕ) → index-lts.Need-returns (index-claims t) (index-at 
 index-returns t c = index-none _ (c .before .before .before .before .before .before .before .before .before .before .pre .1 .0) _ (λ e. c .before .if1 .taken (c .before .before .code-at .ensures ∙ e)) (c .before .before .before .before .before .expr .ensures) (c .no-expr .ensures)
 
 index-add-strongest : (t : ℕ) → index-lts.Need-add-strongest (index-claims t) (index-at t) index.Post
-index-add-strongest t c = let b = there (c .before .before .before .before .before .before .before .before .before .before .args .tokens .now) (c .before .before .before .before .before .expr .result .at) 38 (sym (c .before .before .code-at .ensures) ∙ c .before .if1 .left) (omega arith) in search needs
+index-add-strongest t c = let b = there (c .before .before .before .before .before .before .before .before .before .before .args .tokens .now) (c .before .before .before .before .before .expr .result .at) (code RightBracket) (sym (c .before .before .code-at .ensures) ∙ c .before .if1 .left) (omega arith) in search needs
 
 index-add-store : (t : ℕ) → index-lts.Need-add-store (index-claims t) (index-at t) index.Post
 index-add-store t c = let r = c .before .before .before .before .before .before .before .before .before .before .before .before .pre .1 .0 in omega (arith, r .most)
 
 index-add-store-2 : (t : ℕ) → index-lts.Need-add-store-2 (index-claims t) (index-at t) index.Post
-index-add-store-2 t c = let r = c .before .before .before .before .before .before .before .before .before .before .before .before .before .pre .1 .0 in let b = there (c .before .before .before .before .before .before .before .before .before .before .before .before .before .args .tokens .now) (c .before .before .before .before .before .before .before .before .expr .result .at) 38 (sym (c .before .before .before .before .before .code-at .ensures) ∙ c .before .before .before .before .if1 .left) (omega arith) in let w = c .before .before .before .before .before .before .before .before .expr .ensures .grew (omega arith) in omega (arith, r .most, w .less)
+index-add-store-2 t c = let r = c .before .before .before .before .before .before .before .before .before .before .before .before .before .pre .1 .0 in let b = there (c .before .before .before .before .before .before .before .before .before .before .before .before .before .args .tokens .now) (c .before .before .before .before .before .before .before .before .expr .result .at) (code RightBracket) (sym (c .before .before .before .before .before .code-at .ensures) ∙ c .before .before .before .before .if1 .left) (omega arith) in let w = c .before .before .before .before .before .before .before .before .expr .ensures .grew (omega arith) in omega (arith, r .most, w .less)
 
 index-store-requires : (t : ℕ) → index-lts.Need-store-requires (index-claims t) (index-at t) index.Post
 index-store-requires t c κs =
     let r = c .before .before .before .before .before .before .before .before .before .before .before .before .before .pre .1 .0 in
-    let b = there (c .before .before .before .before .before .before .before .before .before .before .before .before .before .args .tokens .now) (c .before .before .before .before .before .before .before .before .expr .result .at) 38 (sym (c .before .before .before .before .before .code-at .ensures) ∙ c .before .before .before .before .if1 .left) (omega arith) in
+    let b = there (c .before .before .before .before .before .before .before .before .before .before .before .before .before .args .tokens .now) (c .before .before .before .before .before .before .before .before .expr .result .at) (code RightBracket) (sym (c .before .before .before .before .before .code-at .ensures) ∙ c .before .before .before .before .if1 .left) (omega arith) in
     let w = c .before .before .before .before .before .before .before .before .expr .ensures .grew (omega arith) in
     (omega (arith, r .room, r .short, w .room), omega (arith, r .cells, r .most, w .less, w .same))
 
@@ -563,7 +563,7 @@ named-add-call : (t : ℕ) → named-lts.Need-add-call (named-claims t) (named-a
 named-add-call t c = search needs
 
 named-call-requires : (t : ℕ) → named-lts.Need-call-requires (named-claims t) (named-at t) named.Post
-named-call-requires t c κs = let p = c .before .before .before .before .before .before .before .pre .0 in let h = there (c .before .before .before .before .before .before .before .args .tokens .now) (c .before .before .before .before .before .before .before .args .left .at + 2) 35 (sym (c .before .before .before .code-at .ensures) ∙ c .before .before .if1 .left) (omega arith) in (omega arith, (ready-on _ (omega arith) (omega arith) (c .before .before .before .before .before .before .before .pre .1 .0), h))
+named-call-requires t c κs = let p = c .before .before .before .before .before .before .before .pre .0 in let h = there (c .before .before .before .before .before .before .before .args .tokens .now) (c .before .before .before .before .before .before .before .args .left .at + 2) (code LeftParen) (sym (c .before .before .before .code-at .ensures) ∙ c .before .before .if1 .left) (omega arith) in (omega arith, (ready-on _ (omega arith) (omega arith) (c .before .before .before .before .before .before .before .pre .1 .0), h))
 
 named-same-length-2 : (t : ℕ) → named-lts.Need-same-length-2 (named-claims t) (named-at t) named.Post
 named-same-length-2 t c = search needs
@@ -575,28 +575,28 @@ operand-code-at-requires : (t : ℕ) → operand-lts.Need-code-at-requires (oper
 operand-code-at-requires t c κs = search needs
 
 operand-prefixed-requires : (t : ℕ) → operand-lts.Need-prefixed-requires (operand-claims t) (operand-at t) operand.Post
-operand-prefixed-requires t c κs = let p = c .before .before .before .before .before .pre .0 in let h = there (c .before .before .before .before .before .args .tokens .now) (c .before .before .before .before .before .args .at) 1 (sym (c .before .before .code-at .ensures) ∙ c .before .match .keys1) (omega arith) in (omega arith, (c .before .before .before .before .before .pre .1, h))
+operand-prefixed-requires t c κs = let p = c .before .before .before .before .before .pre .0 in let h = there (c .before .before .before .before .before .args .tokens .now) (c .before .before .before .before .before .args .at) (number Sub) (sym (c .before .before .code-at .ensures) ∙ c .before .match .keys1) (omega arith) in (omega arith, (c .before .before .before .before .before .pre .1, h))
 
 operand-prefixed-requires-2 : (t : ℕ) → operand-lts.Need-prefixed-requires-2 (operand-claims t) (operand-at t) operand.Post
-operand-prefixed-requires-2 t c κs = let p = c .before .before .before .before .before .pre .0 in let h = there (c .before .before .before .before .before .args .tokens .now) (c .before .before .before .before .before .args .at) 2 (sym (c .before .before .code-at .ensures) ∙ c .before .match .keys2) (omega arith) in (omega arith, (c .before .before .before .before .before .pre .1, h))
+operand-prefixed-requires-2 t c κs = let p = c .before .before .before .before .before .pre .0 in let h = there (c .before .before .before .before .before .args .tokens .now) (c .before .before .before .before .before .args .at) (number Mul) (sym (c .before .before .code-at .ensures) ∙ c .before .match .keys2) (omega arith) in (omega arith, (c .before .before .before .before .before .pre .1, h))
 
 operand-prefixed-requires-3 : (t : ℕ) → operand-lts.Need-prefixed-requires-3 (operand-claims t) (operand-at t) operand.Post
-operand-prefixed-requires-3 t c κs = let p = c .before .before .before .before .before .pre .0 in let h = there (c .before .before .before .before .before .args .tokens .now) (c .before .before .before .before .before .args .at) 8 (sym (c .before .before .code-at .ensures) ∙ c .before .match .keys3) (omega arith) in (omega arith, (c .before .before .before .before .before .pre .1, h))
+operand-prefixed-requires-3 t c κs = let p = c .before .before .before .before .before .pre .0 in let h = there (c .before .before .before .before .before .args .tokens .now) (c .before .before .before .before .before .args .at) (number BitAnd) (sym (c .before .before .code-at .ensures) ∙ c .before .match .keys3) (omega arith) in (omega arith, (c .before .before .before .before .before .pre .1, h))
 
 operand-prefixed-requires-4 : (t : ℕ) → operand-lts.Need-prefixed-requires-4 (operand-claims t) (operand-at t) operand.Post
-operand-prefixed-requires-4 t c κs = let p = c .before .before .before .before .before .pre .0 in let h = there (c .before .before .before .before .before .args .tokens .now) (c .before .before .before .before .before .args .at) 29 (sym (c .before .before .code-at .ensures) ∙ c .before .match .keys4) (omega arith) in (omega arith, (c .before .before .before .before .before .pre .1, h))
+operand-prefixed-requires-4 t c κs = let p = c .before .before .before .before .before .pre .0 in let h = there (c .before .before .before .before .before .args .tokens .now) (c .before .before .before .before .before .args .at) (code Bang) (sym (c .before .before .code-at .ensures) ∙ c .before .match .keys4) (omega arith) in (omega arith, (c .before .before .before .before .before .pre .1, h))
 
 operand-prefixed-requires-5 : (t : ℕ) → operand-lts.Need-prefixed-requires-5 (operand-claims t) (operand-at t) operand.Post
-operand-prefixed-requires-5 t c κs = let p = c .before .before .before .before .before .pre .0 in let h = there (c .before .before .before .before .before .args .tokens .now) (c .before .before .before .before .before .args .at) 30 (sym (c .before .before .code-at .ensures) ∙ c .before .match .keys5) (omega arith) in (omega arith, (c .before .before .before .before .before .pre .1, h))
+operand-prefixed-requires-5 t c κs = let p = c .before .before .before .before .before .pre .0 in let h = there (c .before .before .before .before .before .args .tokens .now) (c .before .before .before .before .before .args .at) (code AndMut) (sym (c .before .before .code-at .ensures) ∙ c .before .match .keys5) (omega arith) in (omega arith, (c .before .before .before .before .before .pre .1, h))
 
 operand-atom-requires : (t : ℕ) → operand-lts.Need-atom-requires (operand-claims t) (operand-at t) operand.Post
-operand-atom-requires t c κs = (c .before .before .before .before .before .pre .1, there (c .before .before .before .before .before .args .tokens .now) (c .before .before .before .before .before .args .at) 32 (sym (c .before .before .code-at .ensures) ∙ c .before .match .keys6) (omega arith))
+operand-atom-requires t c κs = (c .before .before .before .before .before .pre .1, there (c .before .before .before .before .before .args .tokens .now) (c .before .before .before .before .before .args .at) (code Name) (sym (c .before .before .code-at .ensures) ∙ c .before .match .keys6) (omega arith))
 
 operand-atom-requires-2 : (t : ℕ) → operand-lts.Need-atom-requires-2 (operand-claims t) (operand-at t) operand.Post
-operand-atom-requires-2 t c κs = (c .before .before .before .before .before .pre .1, there (c .before .before .before .before .before .args .tokens .now) (c .before .before .before .before .before .args .at) 33 (sym (c .before .before .code-at .ensures) ∙ c .before .match .keys7) (omega arith))
+operand-atom-requires-2 t c κs = (c .before .before .before .before .before .pre .1, there (c .before .before .before .before .before .args .tokens .now) (c .before .before .before .before .before .args .at) (code Literal) (sym (c .before .before .code-at .ensures) ∙ c .before .match .keys7) (omega arith))
 
 operand-group-requires : (t : ℕ) → operand-lts.Need-group-requires (operand-claims t) (operand-at t) operand.Post
-operand-group-requires t c κs = let p = c .before .before .before .before .before .pre .0 in let h = there (c .before .before .before .before .before .args .tokens .now) (c .before .before .before .before .before .args .at) 35 (sym (c .before .before .code-at .ensures) ∙ c .before .match .keys8) (omega arith) in (omega arith, (c .before .before .before .before .before .pre .1, h))
+operand-group-requires t c κs = let p = c .before .before .before .before .before .pre .0 in let h = there (c .before .before .before .before .before .args .tokens .now) (c .before .before .before .before .before .args .at) (code LeftParen) (sym (c .before .before .code-at .ensures) ∙ c .before .match .keys8) (omega arith) in (omega arith, (c .before .before .before .before .before .pre .1, h))
 
 operand-no-expr-requires : (t : ℕ) → operand-lts.Need-no-expr-requires (operand-claims t) (operand-at t) operand.Post
 operand-no-expr-requires t c κs = search needs
@@ -683,19 +683,19 @@ step-code-at-requires : (t : ℕ) → step-lts.Need-code-at-requires (step-claim
 step-code-at-requires t c κs = search needs
 
 step-cast-requires : (t : ℕ) → step-lts.Need-cast-requires (step-claims t) (step-at t) step.Post
-step-cast-requires t c κs = (c .before .before .before .before .before .pre .1, there (c .before .before .before .before .before .args .tokens .now) (c .before .before .before .before .before .args .left .at) 31 (sym (c .before .before .code-at .ensures) ∙ c .before .match .keys1) (omega arith))
+step-cast-requires t c κs = (c .before .before .before .before .before .pre .1, there (c .before .before .before .before .before .args .tokens .now) (c .before .before .before .before .before .args .left .at) (code As) (sym (c .before .before .code-at .ensures) ∙ c .before .match .keys1) (omega arith))
 
 step-dot-requires : (t : ℕ) → step-lts.Need-dot-requires (step-claims t) (step-at t) step.Post
-step-dot-requires t c κs = let p = c .before .before .before .before .before .pre .0 in let h = there (c .before .before .before .before .before .args .tokens .now) (c .before .before .before .before .before .args .left .at) 34 (sym (c .before .before .code-at .ensures) ∙ c .before .match .keys2) (omega arith) in (omega arith, (c .before .before .before .before .before .pre .1, h))
+step-dot-requires t c κs = let p = c .before .before .before .before .before .pre .0 in let h = there (c .before .before .before .before .before .args .tokens .now) (c .before .before .before .before .before .args .left .at) (code Dot) (sym (c .before .before .code-at .ensures) ∙ c .before .match .keys2) (omega arith) in (omega arith, (c .before .before .before .before .before .pre .1, h))
 
 step-call-requires : (t : ℕ) → step-lts.Need-call-requires (step-claims t) (step-at t) step.Post
-step-call-requires t c κs = let p = c .before .before .before .before .before .pre .0 in let h = there (c .before .before .before .before .before .args .tokens .now) (c .before .before .before .before .before .args .left .at) 35 (sym (c .before .before .code-at .ensures) ∙ c .before .match .keys3) (omega arith) in (omega arith, (c .before .before .before .before .before .pre .1, h))
+step-call-requires t c κs = let p = c .before .before .before .before .before .pre .0 in let h = there (c .before .before .before .before .before .args .tokens .now) (c .before .before .before .before .before .args .left .at) (code LeftParen) (sym (c .before .before .code-at .ensures) ∙ c .before .match .keys3) (omega arith) in (omega arith, (c .before .before .before .before .before .pre .1, h))
 
 step-index-requires : (t : ℕ) → step-lts.Need-index-requires (step-claims t) (step-at t) step.Post
-step-index-requires t c κs = let p = c .before .before .before .before .before .pre .0 in let h = there (c .before .before .before .before .before .args .tokens .now) (c .before .before .before .before .before .args .left .at) 37 (sym (c .before .before .code-at .ensures) ∙ c .before .match .keys4) (omega arith) in (omega arith, (c .before .before .before .before .before .pre .1, h))
+step-index-requires t c κs = let p = c .before .before .before .before .before .pre .0 in let h = there (c .before .before .before .before .before .args .tokens .now) (c .before .before .before .before .before .args .left .at) (code LeftBracket) (sym (c .before .before .code-at .ensures) ∙ c .before .match .keys4) (omega arith) in (omega arith, (c .before .before .before .before .before .pre .1, h))
 
 step-attempt-requires : (t : ℕ) → step-lts.Need-attempt-requires (step-claims t) (step-at t) step.Post
-step-attempt-requires t c κs = (c .before .before .before .before .before .pre .1, there (c .before .before .before .before .before .args .tokens .now) (c .before .before .before .before .before .args .left .at) 40 (sym (c .before .before .code-at .ensures) ∙ c .before .match .keys5) (omega arith))
+step-attempt-requires t c κs = (c .before .before .before .before .before .pre .1, there (c .before .before .before .before .before .args .tokens .now) (c .before .before .before .before .before .args .left .at) (code Question) (sym (c .before .before .code-at .ensures) ∙ c .before .match .keys5) (omega arith))
 
 step-binary-requires : (t : ℕ) → step-lts.Need-binary-requires (step-claims t) (step-at t) step.Post
 step-binary-requires t c κs =
@@ -747,7 +747,7 @@ step-returns-7 : (t : ℕ) → step-lts.Need-returns-7 (step-claims t) (step-at 
 step-returns-7 t c =
     let m = c .before .before .match .rest in
     let e = c .before .before .before .code-at .ensures in
-    step-none _ (c .before .before .before .before .before .before .pre .1) (omega (arith, c .before .if1 .left, e)) (subst (λ n. isOneOf (31 ∷ 34 ∷ 35 ∷ 37 ∷ 40 ∷ []) n ≡ false) e (no-form _ (m .0 .0 .0 .0 .1) (m .0 .0 .0 .1) (m .0 .0 .1) (m .0 .1) (m .1))) (c .no-expr .ensures)
+    step-none _ (c .before .before .before .before .before .before .pre .1) (omega (arith, c .before .if1 .left, e)) (subst (λ n. isOneOf formCodes n ≡ false) e (no-form _ (m .0 .0 .0 .0 .1) (m .0 .0 .0 .1) (m .0 .0 .1) (m .0 .1) (m .1))) (c .no-expr .ensures)
 
 pub +arguments+binary+call+dot+expr+group+index+named+operand+prefixed+step-spec :
     {M : Type 1} → statement M

@@ -3,6 +3,7 @@ use mathlib.Core.Path.{sym}
 use native.Mathlib.Omega.{arith}
 use Rattle.tree.specs.Sizes.{listEnd}
 use borrow.Author.Needs.{needs}
+use Rattle.tree.specs.Sizes.{listEnd}
 use Rattle.token_reader.proofs.Cells.{in-list, past-list}
 use Rattle.token_reader.proofs.token.code_at.Statement.{statement}
 use Rattle.token_reader.proofs.token.code_at.Tie as tie

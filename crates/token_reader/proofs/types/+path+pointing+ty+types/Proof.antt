@@ -5,6 +5,7 @@ use native.Mathlib.Omega.{arith}
 use lib.ListN.{length}
 use borrow.Author.Needs.{needs}
 use Rattle.laws.proofs.Keys.{arm, rest}
+use Rattle.token_grammar.specs.Tokens.{BitAnd, Lt, Gt, number, Bang, AndMut, Name, Comma, StarConst, StarMut, Underscore, code}
 use Rattle.token_grammar.specs.Types.{constPtr, mutPtr, sharedRef, mutRef, infer, never}
 use Rattle.token_grammar.specs.Parser.{noType, typeStartLines, typeStartBy}
 use Rattle.token_reader.proofs.First.{there}
@@ -121,7 +122,7 @@ path-add-types : (t : ℕ) → path-lts.Need-add-types (path-claims t) (path-at 
 path-add-types t c = search needs
 
 path-types-requires : (t : ℕ) → path-lts.Need-types-requires (path-claims t) (path-at t) path.Post
-path-types-requires t c κs = let p = c .before .before .before .before .before .before .before .pre .0 in let h = there (c .before .before .before .before .before .before .before .args .tokens .now) (c .before .before .before .before .before .before .before .args .at + 1) 13 (sym (c .before .before .before .before .code-at .ensures) ∙ c .before .before .before .if1 .left) (omega arith) in (omega arith, ready-on _ (omega arith) (omega arith) (c .before .before .before .before .before .before .before .pre .1 .0))
+path-types-requires t c κs = let p = c .before .before .before .before .before .before .before .pre .0 in let h = there (c .before .before .before .before .before .before .before .args .tokens .now) (c .before .before .before .before .before .before .before .args .at + 1) (number Lt) (sym (c .before .before .before .before .code-at .ensures) ∙ c .before .before .before .if1 .left) (omega arith) in (omega arith, ready-on _ (omega arith) (omega arith) (c .before .before .before .before .before .before .before .pre .1 .0))
 
 path-same-length-3 : (t : ℕ) → path-lts.Need-same-length-3 (path-claims t) (path-at t) path.Post
 path-same-length-3 t c = search needs
@@ -175,25 +176,25 @@ ty-code-at-requires : (t : ℕ) → ty-lts.Need-code-at-requires (ty-claims t) (
 ty-code-at-requires t c κs = search needs
 
 ty-pointing-requires : (t : ℕ) → ty-lts.Need-pointing-requires (ty-claims t) (ty-at t) ty.Post
-ty-pointing-requires t c κs = let p = c .before .before .before .before .before .pre .0 in let h = there (c .before .before .before .before .before .args .tokens .now) (c .before .before .before .before .before .args .at) 8 (sym (c .before .before .code-at .ensures) ∙ c .before .match .keys1) (omega arith) in (omega arith, (c .before .before .before .before .before .pre .1, h))
+ty-pointing-requires t c κs = let p = c .before .before .before .before .before .pre .0 in let h = there (c .before .before .before .before .before .args .tokens .now) (c .before .before .before .before .before .args .at) (number BitAnd) (sym (c .before .before .code-at .ensures) ∙ c .before .match .keys1) (omega arith) in (omega arith, (c .before .before .before .before .before .pre .1, h))
 
 ty-sign-requires : (t : ℕ) → ty-lts.Need-sign-requires (ty-claims t) (ty-at t) ty.Post
-ty-sign-requires t c κs = (c .before .before .before .before .before .pre .1, there (c .before .before .before .before .before .args .tokens .now) (c .before .before .before .before .before .args .at) 29 (sym (c .before .before .code-at .ensures) ∙ c .before .match .keys2) (omega arith))
+ty-sign-requires t c κs = (c .before .before .before .before .before .pre .1, there (c .before .before .before .before .before .args .tokens .now) (c .before .before .before .before .before .args .at) (code Bang) (sym (c .before .before .code-at .ensures) ∙ c .before .match .keys2) (omega arith))
 
 ty-pointing-requires-2 : (t : ℕ) → ty-lts.Need-pointing-requires-2 (ty-claims t) (ty-at t) ty.Post
-ty-pointing-requires-2 t c κs = let p = c .before .before .before .before .before .pre .0 in let h = there (c .before .before .before .before .before .args .tokens .now) (c .before .before .before .before .before .args .at) 30 (sym (c .before .before .code-at .ensures) ∙ c .before .match .keys3) (omega arith) in (omega arith, (c .before .before .before .before .before .pre .1, h))
+ty-pointing-requires-2 t c κs = let p = c .before .before .before .before .before .pre .0 in let h = there (c .before .before .before .before .before .args .tokens .now) (c .before .before .before .before .before .args .at) (code AndMut) (sym (c .before .before .code-at .ensures) ∙ c .before .match .keys3) (omega arith) in (omega arith, (c .before .before .before .before .before .pre .1, h))
 
 ty-path-requires : (t : ℕ) → ty-lts.Need-path-requires (ty-claims t) (ty-at t) ty.Post
-ty-path-requires t c κs = let p = c .before .before .before .before .before .pre .0 in let h = there (c .before .before .before .before .before .args .tokens .now) (c .before .before .before .before .before .args .at) 32 (sym (c .before .before .code-at .ensures) ∙ c .before .match .keys4) (omega arith) in (omega arith, (c .before .before .before .before .before .pre .1, h))
+ty-path-requires t c κs = let p = c .before .before .before .before .before .pre .0 in let h = there (c .before .before .before .before .before .args .tokens .now) (c .before .before .before .before .before .args .at) (code Name) (sym (c .before .before .code-at .ensures) ∙ c .before .match .keys4) (omega arith) in (omega arith, (c .before .before .before .before .before .pre .1, h))
 
 ty-pointing-requires-3 : (t : ℕ) → ty-lts.Need-pointing-requires-3 (ty-claims t) (ty-at t) ty.Post
-ty-pointing-requires-3 t c κs = let p = c .before .before .before .before .before .pre .0 in let h = there (c .before .before .before .before .before .args .tokens .now) (c .before .before .before .before .before .args .at) 41 (sym (c .before .before .code-at .ensures) ∙ c .before .match .keys5) (omega arith) in (omega arith, (c .before .before .before .before .before .pre .1, h))
+ty-pointing-requires-3 t c κs = let p = c .before .before .before .before .before .pre .0 in let h = there (c .before .before .before .before .before .args .tokens .now) (c .before .before .before .before .before .args .at) (code StarConst) (sym (c .before .before .code-at .ensures) ∙ c .before .match .keys5) (omega arith) in (omega arith, (c .before .before .before .before .before .pre .1, h))
 
 ty-pointing-requires-4 : (t : ℕ) → ty-lts.Need-pointing-requires-4 (ty-claims t) (ty-at t) ty.Post
-ty-pointing-requires-4 t c κs = let p = c .before .before .before .before .before .pre .0 in let h = there (c .before .before .before .before .before .args .tokens .now) (c .before .before .before .before .before .args .at) 42 (sym (c .before .before .code-at .ensures) ∙ c .before .match .keys6) (omega arith) in (omega arith, (c .before .before .before .before .before .pre .1, h))
+ty-pointing-requires-4 t c κs = let p = c .before .before .before .before .before .pre .0 in let h = there (c .before .before .before .before .before .args .tokens .now) (c .before .before .before .before .before .args .at) (code StarMut) (sym (c .before .before .code-at .ensures) ∙ c .before .match .keys6) (omega arith) in (omega arith, (c .before .before .before .before .before .pre .1, h))
 
 ty-sign-requires-2 : (t : ℕ) → ty-lts.Need-sign-requires-2 (ty-claims t) (ty-at t) ty.Post
-ty-sign-requires-2 t c κs = (c .before .before .before .before .before .pre .1, there (c .before .before .before .before .before .args .tokens .now) (c .before .before .before .before .before .args .at) 43 (sym (c .before .before .code-at .ensures) ∙ c .before .match .keys7) (omega arith))
+ty-sign-requires-2 t c κs = (c .before .before .before .before .before .pre .1, there (c .before .before .before .before .before .args .tokens .now) (c .before .before .before .before .before .args .at) (code Underscore) (sym (c .before .before .code-at .ensures) ∙ c .before .match .keys7) (omega arith))
 
 ty-no-piece-requires : (t : ℕ) → ty-lts.Need-no-piece-requires (ty-claims t) (ty-at t) ty.Post
 ty-no-piece-requires t c κs = search needs
@@ -202,43 +203,43 @@ ty-same-length : (t : ℕ) → ty-lts.Need-same-length (ty-claims t) (ty-at t) t
 ty-same-length t c = search needs
 
 ty-returns : (t : ℕ) → ty-lts.Need-returns (ty-claims t) (ty-at t) ty.Post
-ty-returns t c = type-pointing (c .before .before .before .before .before .before .before .before .pre .1) sharedRef (there (c .before .before .before .before .before .before .before .before .args .tokens .now) (c .before .before .before .before .before .before .before .before .args .at) 8 (sym (c .before .before .before .before .before .code-at .ensures) ∙ c .before .before .before .before .match .keys1) (omega arith)) (sym (ap typeStartBy (c .before .before .before .before .before .code-at .ensures)) ∙ arm typeStartLines noType _ 0 tt (c .before .before .before .before .match .keys1)) refl (c .before .before .pointing .ensures)
+ty-returns t c = type-pointing (c .before .before .before .before .before .before .before .before .pre .1) sharedRef (there (c .before .before .before .before .before .before .before .before .args .tokens .now) (c .before .before .before .before .before .before .before .before .args .at) (number BitAnd) (sym (c .before .before .before .before .before .code-at .ensures) ∙ c .before .before .before .before .match .keys1) (omega arith)) (sym (ap typeStartBy (c .before .before .before .before .before .code-at .ensures)) ∙ arm typeStartLines noType _ 0 tt (c .before .before .before .before .match .keys1)) refl (c .before .before .pointing .ensures)
 
 ty-same-length-2 : (t : ℕ) → ty-lts.Need-same-length-2 (ty-claims t) (ty-at t) ty.Post
 ty-same-length-2 t c = search needs
 
 ty-returns-2 : (t : ℕ) → ty-lts.Need-returns-2 (ty-claims t) (ty-at t) ty.Post
-ty-returns-2 t c = type-sign (c .before .before .before .before .before .before .before .before .pre .1) never (there (c .before .before .before .before .before .before .before .before .args .tokens .now) (c .before .before .before .before .before .before .before .before .args .at) 29 (sym (c .before .before .before .before .before .code-at .ensures) ∙ c .before .before .before .before .match .keys2) (omega arith)) (sym (ap typeStartBy (c .before .before .before .before .before .code-at .ensures)) ∙ arm typeStartLines noType _ 1 tt (c .before .before .before .before .match .keys2)) refl (c .before .before .sign .ensures)
+ty-returns-2 t c = type-sign (c .before .before .before .before .before .before .before .before .pre .1) never (there (c .before .before .before .before .before .before .before .before .args .tokens .now) (c .before .before .before .before .before .before .before .before .args .at) (code Bang) (sym (c .before .before .before .before .before .code-at .ensures) ∙ c .before .before .before .before .match .keys2) (omega arith)) (sym (ap typeStartBy (c .before .before .before .before .before .code-at .ensures)) ∙ arm typeStartLines noType _ 1 tt (c .before .before .before .before .match .keys2)) refl (c .before .before .sign .ensures)
 
 ty-same-length-3 : (t : ℕ) → ty-lts.Need-same-length-3 (ty-claims t) (ty-at t) ty.Post
 ty-same-length-3 t c = search needs
 
 ty-returns-3 : (t : ℕ) → ty-lts.Need-returns-3 (ty-claims t) (ty-at t) ty.Post
-ty-returns-3 t c = type-pointing (c .before .before .before .before .before .before .before .before .pre .1) mutRef (there (c .before .before .before .before .before .before .before .before .args .tokens .now) (c .before .before .before .before .before .before .before .before .args .at) 30 (sym (c .before .before .before .before .before .code-at .ensures) ∙ c .before .before .before .before .match .keys3) (omega arith)) (sym (ap typeStartBy (c .before .before .before .before .before .code-at .ensures)) ∙ arm typeStartLines noType _ 2 tt (c .before .before .before .before .match .keys3)) refl (c .before .before .pointing2 .ensures)
+ty-returns-3 t c = type-pointing (c .before .before .before .before .before .before .before .before .pre .1) mutRef (there (c .before .before .before .before .before .before .before .before .args .tokens .now) (c .before .before .before .before .before .before .before .before .args .at) (code AndMut) (sym (c .before .before .before .before .before .code-at .ensures) ∙ c .before .before .before .before .match .keys3) (omega arith)) (sym (ap typeStartBy (c .before .before .before .before .before .code-at .ensures)) ∙ arm typeStartLines noType _ 2 tt (c .before .before .before .before .match .keys3)) refl (c .before .before .pointing2 .ensures)
 
 ty-same-length-4 : (t : ℕ) → ty-lts.Need-same-length-4 (ty-claims t) (ty-at t) ty.Post
 ty-same-length-4 t c = search needs
 
 ty-returns-4 : (t : ℕ) → ty-lts.Need-returns-4 (ty-claims t) (ty-at t) ty.Post
-ty-returns-4 t c = type-path (c .before .before .before .before .before .before .before .before .pre .1) (there (c .before .before .before .before .before .before .before .before .args .tokens .now) (c .before .before .before .before .before .before .before .before .args .at) 32 (sym (c .before .before .before .before .before .code-at .ensures) ∙ c .before .before .before .before .match .keys4) (omega arith)) (sym (ap typeStartBy (c .before .before .before .before .before .code-at .ensures)) ∙ arm typeStartLines noType _ 3 tt (c .before .before .before .before .match .keys4)) (c .before .before .path .ensures)
+ty-returns-4 t c = type-path (c .before .before .before .before .before .before .before .before .pre .1) (there (c .before .before .before .before .before .before .before .before .args .tokens .now) (c .before .before .before .before .before .before .before .before .args .at) (code Name) (sym (c .before .before .before .before .before .code-at .ensures) ∙ c .before .before .before .before .match .keys4) (omega arith)) (sym (ap typeStartBy (c .before .before .before .before .before .code-at .ensures)) ∙ arm typeStartLines noType _ 3 tt (c .before .before .before .before .match .keys4)) (c .before .before .path .ensures)
 
 ty-same-length-5 : (t : ℕ) → ty-lts.Need-same-length-5 (ty-claims t) (ty-at t) ty.Post
 ty-same-length-5 t c = search needs
 
 ty-returns-5 : (t : ℕ) → ty-lts.Need-returns-5 (ty-claims t) (ty-at t) ty.Post
-ty-returns-5 t c = type-pointing (c .before .before .before .before .before .before .before .before .pre .1) constPtr (there (c .before .before .before .before .before .before .before .before .args .tokens .now) (c .before .before .before .before .before .before .before .before .args .at) 41 (sym (c .before .before .before .before .before .code-at .ensures) ∙ c .before .before .before .before .match .keys5) (omega arith)) (sym (ap typeStartBy (c .before .before .before .before .before .code-at .ensures)) ∙ arm typeStartLines noType _ 4 tt (c .before .before .before .before .match .keys5)) refl (c .before .before .pointing3 .ensures)
+ty-returns-5 t c = type-pointing (c .before .before .before .before .before .before .before .before .pre .1) constPtr (there (c .before .before .before .before .before .before .before .before .args .tokens .now) (c .before .before .before .before .before .before .before .before .args .at) (code StarConst) (sym (c .before .before .before .before .before .code-at .ensures) ∙ c .before .before .before .before .match .keys5) (omega arith)) (sym (ap typeStartBy (c .before .before .before .before .before .code-at .ensures)) ∙ arm typeStartLines noType _ 4 tt (c .before .before .before .before .match .keys5)) refl (c .before .before .pointing3 .ensures)
 
 ty-same-length-6 : (t : ℕ) → ty-lts.Need-same-length-6 (ty-claims t) (ty-at t) ty.Post
 ty-same-length-6 t c = search needs
 
 ty-returns-6 : (t : ℕ) → ty-lts.Need-returns-6 (ty-claims t) (ty-at t) ty.Post
-ty-returns-6 t c = type-pointing (c .before .before .before .before .before .before .before .before .pre .1) mutPtr (there (c .before .before .before .before .before .before .before .before .args .tokens .now) (c .before .before .before .before .before .before .before .before .args .at) 42 (sym (c .before .before .before .before .before .code-at .ensures) ∙ c .before .before .before .before .match .keys6) (omega arith)) (sym (ap typeStartBy (c .before .before .before .before .before .code-at .ensures)) ∙ arm typeStartLines noType _ 5 tt (c .before .before .before .before .match .keys6)) refl (c .before .before .pointing4 .ensures)
+ty-returns-6 t c = type-pointing (c .before .before .before .before .before .before .before .before .pre .1) mutPtr (there (c .before .before .before .before .before .before .before .before .args .tokens .now) (c .before .before .before .before .before .before .before .before .args .at) (code StarMut) (sym (c .before .before .before .before .before .code-at .ensures) ∙ c .before .before .before .before .match .keys6) (omega arith)) (sym (ap typeStartBy (c .before .before .before .before .before .code-at .ensures)) ∙ arm typeStartLines noType _ 5 tt (c .before .before .before .before .match .keys6)) refl (c .before .before .pointing4 .ensures)
 
 ty-same-length-7 : (t : ℕ) → ty-lts.Need-same-length-7 (ty-claims t) (ty-at t) ty.Post
 ty-same-length-7 t c = search needs
 
 ty-returns-7 : (t : ℕ) → ty-lts.Need-returns-7 (ty-claims t) (ty-at t) ty.Post
-ty-returns-7 t c = type-sign (c .before .before .before .before .before .before .before .before .pre .1) infer (there (c .before .before .before .before .before .before .before .before .args .tokens .now) (c .before .before .before .before .before .before .before .before .args .at) 43 (sym (c .before .before .before .before .before .code-at .ensures) ∙ c .before .before .before .before .match .keys7) (omega arith)) (sym (ap typeStartBy (c .before .before .before .before .before .code-at .ensures)) ∙ arm typeStartLines noType _ 6 tt (c .before .before .before .before .match .keys7)) refl (c .before .before .sign2 .ensures)
+ty-returns-7 t c = type-sign (c .before .before .before .before .before .before .before .before .pre .1) infer (there (c .before .before .before .before .before .before .before .before .args .tokens .now) (c .before .before .before .before .before .before .before .before .args .at) (code Underscore) (sym (c .before .before .before .before .before .code-at .ensures) ∙ c .before .before .before .before .match .keys7) (omega arith)) (sym (ap typeStartBy (c .before .before .before .before .before .code-at .ensures)) ∙ arm typeStartLines noType _ 6 tt (c .before .before .before .before .match .keys7)) refl (c .before .before .sign2 .ensures)
 
 ty-returns-8 : (t : ℕ) → ty-lts.Need-returns-8 (ty-claims t) (ty-at t) ty.Post
 ty-returns-8 t c = type-none (c .before .before .before .before .before .pre .1) (sym (ap typeStartBy (c .before .before .code-at .ensures)) ∙ rest typeStartLines noType _ (c .before .match .rest)) (c .no-piece .ensures)
@@ -250,15 +251,15 @@ types-code-at-requires : (t : ℕ) → types-lts.Need-code-at-requires (types-cl
 types-code-at-requires t c κs = search needs
 
 types-add-t11 : (t : ℕ) → types-lts.Need-add-t11 (types-claims t) (types-at t) types.Post
-types-add-t11 t c = let b = there (c .before .before .before .before .before .before .before .before .before .args .tokens .now) (c .before .before .before .before .before .ty .result .at) 17 (sym (c .before .before .code-at .ensures) ∙ c .before .if1 .taken) (omega arith) in search needs
+types-add-t11 t c = let b = there (c .before .before .before .before .before .before .before .before .before .args .tokens .now) (c .before .before .before .before .before .ty .result .at) (number Gt) (sym (c .before .before .code-at .ensures) ∙ c .before .if1 .taken) (omega arith) in search needs
 
 types-add-store : (t : ℕ) → types-lts.Need-add-store (types-claims t) (types-at t) types.Post
-types-add-store t c = let r = c .before .before .before .before .before .before .before .before .before .before .before .pre .1 in let b = there (c .before .before .before .before .before .before .before .before .before .before .before .args .tokens .now) (c .before .before .before .before .before .before .before .ty .result .at) 17 (sym (c .before .before .before .before .code-at .ensures) ∙ c .before .before .before .if1 .taken) (omega arith) in let w = c .before .before .before .before .before .before .before .ty .ensures .grew (omega arith) in omega (arith, r .most, w .less)
+types-add-store t c = let r = c .before .before .before .before .before .before .before .before .before .before .before .pre .1 in let b = there (c .before .before .before .before .before .before .before .before .before .before .before .args .tokens .now) (c .before .before .before .before .before .before .before .ty .result .at) (number Gt) (sym (c .before .before .before .before .code-at .ensures) ∙ c .before .before .before .if1 .taken) (omega arith) in let w = c .before .before .before .before .before .before .before .ty .ensures .grew (omega arith) in omega (arith, r .most, w .less)
 
 types-store-requires : (t : ℕ) → types-lts.Need-store-requires (types-claims t) (types-at t) types.Post
 types-store-requires t c κs =
     let r = c .before .before .before .before .before .before .before .before .before .before .before .pre .1 in
-    let b = there (c .before .before .before .before .before .before .before .before .before .before .before .args .tokens .now) (c .before .before .before .before .before .before .before .ty .result .at) 17 (sym (c .before .before .before .before .code-at .ensures) ∙ c .before .before .before .if1 .taken) (omega arith) in
+    let b = there (c .before .before .before .before .before .before .before .before .before .before .before .args .tokens .now) (c .before .before .before .before .before .before .before .ty .result .at) (number Gt) (sym (c .before .before .before .before .code-at .ensures) ∙ c .before .before .before .if1 .taken) (omega arith) in
     let w = c .before .before .before .before .before .before .before .ty .ensures .grew (omega arith) in
     (omega (arith, r .room, r .short, w .room), omega (arith, r .cells, r .most, w .less, w .same))
 
@@ -278,12 +279,12 @@ types-returns-2 : (t : ℕ) → types-lts.Need-returns-2 (types-claims t) (types
 types-returns-2 t c = types-none (c .before .before .before .before .before .before .before .before .before .before .pre .1) _ (c .before .before .before .before .before .before .ty .ensures) (λ e. c .before .before .if1 .left (c .before .before .before .code-at .ensures ∙ e)) (λ e. c .before .if2 .taken (c .before .before .before .code-at .ensures ∙ e)) (c .no-piece .ensures)
 
 types-add-types : (t : ℕ) → types-lts.Need-add-types (types-claims t) (types-at t) types.Post
-types-add-types t c = let b = there (c .before .before .before .before .before .before .before .before .before .before .before .args .tokens .now) (c .before .before .before .before .before .before .before .ty .result .at) 39 (sym (c .before .before .before .before .code-at .ensures) ∙ c .before .before .if2 .left) (omega arith) in search needs
+types-add-types t c = let b = there (c .before .before .before .before .before .before .before .before .before .before .before .args .tokens .now) (c .before .before .before .before .before .before .before .ty .result .at) (code Comma) (sym (c .before .before .before .before .code-at .ensures) ∙ c .before .before .if2 .left) (omega arith) in search needs
 
 types-types-requires : (t : ℕ) → types-lts.Need-types-requires (types-claims t) (types-at t) types.Post
 types-types-requires t c κs =
     let p = c .before .before .before .before .before .before .before .before .before .before .before .pre .0 in
-    let b = there (c .before .before .before .before .before .before .before .before .before .before .before .args .tokens .now) (c .before .before .before .before .before .before .before .ty .result .at) 39 (sym (c .before .before .before .before .code-at .ensures) ∙ c .before .before .if2 .left) (omega arith) in
+    let b = there (c .before .before .before .before .before .before .before .before .before .before .before .args .tokens .now) (c .before .before .before .before .before .before .before .ty .result .at) (code Comma) (sym (c .before .before .before .before .code-at .ensures) ∙ c .before .before .if2 .left) (omega arith) in
     let w = c .before .before .before .before .before .before .before .ty .ensures .grew (omega arith) in
     let u = w .upto in
     (omega arith, ready-grew _ (omega arith) (omega arith) (c .before .before .before .before .before .before .before .before .before .before .before .pre .1) w)
@@ -297,7 +298,7 @@ types-returns-3 t c = types-more-none (c .before .before .before .before .before
 types-add-store-2 : (t : ℕ) → types-lts.Need-add-store-2 (types-claims t) (types-at t) types.Post
 types-add-store-2 t c =
     let r = c .before .before .before .before .before .before .before .before .before .before .before .before .before .before .before .before .before .before .pre .1 in
-    let b = there (c .before .before .before .before .before .before .before .before .before .before .before .before .before .before .before .before .before .before .args .tokens .now) (c .before .before .before .before .before .before .before .before .before .before .before .before .before .before .ty .result .at) 39 (sym (c .before .before .before .before .before .before .before .before .before .before .before .code-at .ensures) ∙ c .before .before .before .before .before .before .before .before .before .if2 .left) (omega arith) in
+    let b = there (c .before .before .before .before .before .before .before .before .before .before .before .before .before .before .before .before .before .before .args .tokens .now) (c .before .before .before .before .before .before .before .before .before .before .before .before .before .before .ty .result .at) (code Comma) (sym (c .before .before .before .before .before .before .before .before .before .before .before .code-at .ensures) ∙ c .before .before .before .before .before .before .before .before .before .if2 .left) (omega arith) in
     let w = c .before .before .before .before .before .before .before .before .before .before .before .before .before .before .ty .ensures .grew (omega arith) in
     let v = c .before .before .before .before .before .before .types .ensures .grew (c .before .before .if3 .left) in
     omega (arith, r .most, w .less, v .less)
@@ -305,7 +306,7 @@ types-add-store-2 t c =
 types-add-store-3 : (t : ℕ) → types-lts.Need-add-store-3 (types-claims t) (types-at t) types.Post
 types-add-store-3 t c =
     let r = c .before .before .before .before .before .before .before .before .before .before .before .before .before .before .before .before .before .before .before .pre .1 in
-    let b = there (c .before .before .before .before .before .before .before .before .before .before .before .before .before .before .before .before .before .before .before .args .tokens .now) (c .before .before .before .before .before .before .before .before .before .before .before .before .before .before .before .ty .result .at) 39 (sym (c .before .before .before .before .before .before .before .before .before .before .before .before .code-at .ensures) ∙ c .before .before .before .before .before .before .before .before .before .before .if2 .left) (omega arith) in
+    let b = there (c .before .before .before .before .before .before .before .before .before .before .before .before .before .before .before .before .before .before .before .args .tokens .now) (c .before .before .before .before .before .before .before .before .before .before .before .before .before .before .before .ty .result .at) (code Comma) (sym (c .before .before .before .before .before .before .before .before .before .before .before .before .code-at .ensures) ∙ c .before .before .before .before .before .before .before .before .before .before .if2 .left) (omega arith) in
     let w = c .before .before .before .before .before .before .before .before .before .before .before .before .before .before .before .ty .ensures .grew (omega arith) in
     let v = c .before .before .before .before .before .before .before .types .ensures .grew (c .before .before .before .if3 .left) in
     omega (arith, r .most, w .less, v .less)
@@ -313,7 +314,7 @@ types-add-store-3 t c =
 types-store-requires-2 : (t : ℕ) → types-lts.Need-store-requires-2 (types-claims t) (types-at t) types.Post
 types-store-requires-2 t c κs =
     let r = c .before .before .before .before .before .before .before .before .before .before .before .before .before .before .before .before .before .before .before .pre .1 in
-    let b = there (c .before .before .before .before .before .before .before .before .before .before .before .before .before .before .before .before .before .before .before .args .tokens .now) (c .before .before .before .before .before .before .before .before .before .before .before .before .before .before .before .ty .result .at) 39 (sym (c .before .before .before .before .before .before .before .before .before .before .before .before .code-at .ensures) ∙ c .before .before .before .before .before .before .before .before .before .before .if2 .left) (omega arith) in
+    let b = there (c .before .before .before .before .before .before .before .before .before .before .before .before .before .before .before .before .before .before .before .args .tokens .now) (c .before .before .before .before .before .before .before .before .before .before .before .before .before .before .before .ty .result .at) (code Comma) (sym (c .before .before .before .before .before .before .before .before .before .before .before .before .code-at .ensures) ∙ c .before .before .before .before .before .before .before .before .before .before .if2 .left) (omega arith) in
     let w = c .before .before .before .before .before .before .before .before .before .before .before .before .before .before .before .ty .ensures .grew (omega arith) in
     let v = c .before .before .before .before .before .before .before .types .ensures .grew (c .before .before .before .if3 .left) in
     (omega (arith, r .room, r .short, w .room, v .room, c .before .before .before .if3 .left), omega (arith, r .cells, r .most, w .less, w .same, v .less, v .same))
