@@ -18,6 +18,7 @@ use Rattle.tree.specs.Trees.{labelAt, operandAt, treeAt}
 use Rattle.tree.specs.Steps.{isPresent}
 use Rattle.tree.proofs.Walks.{there}
 use Rattle.token_grammar.specs.Tokens.{Token, operator, Assign, Lt, Gt, Name, code, number, allOperators, operatorOf, codesOf}
+use Rattle.token_grammar.specs.Bounds.{pastOperators}
 use Rattle.token_plain.specs.Written.{signs, signLines, signsOf}
 use Rattle.token_writer.specs.declared.signs.Few.{Few}
 use Rattle.token_writer.specs.declared.signs.Few.the-variants.{Nothing, One, Two}
@@ -38,17 +39,17 @@ one-if false t = refl
 
 -- ---- operators
 
-pub operator-low : (n : ℕ) → n < 28 → number (operatorOf n) ≡ n
+pub operator-low : (n : ℕ) → n < number Assign → number (operatorOf n) ≡ n
 operator-low n h = number-operator n (omega arith)
 
-pub operator-high : (n : ℕ) → 28 ≤ n → number (operatorOf n) ≡ 28
+pub operator-high : (n : ℕ) → number Assign ≤ n → number (operatorOf n) ≡ number Assign
 unfolding operatorOf
-operator-high n h = go (ℕ-discrete n 28)
+operator-high n h = go (ℕ-discrete n (number Assign))
   where
-    past : 29 ≤ n → number (operatorOf n) ≡ 28
+    past : pastOperators ≤ n → number (operatorOf n) ≡ number Assign
     past k = ap number (List·getD-eq-default allOperators Assign k)
 
-    go : Dec (n ≡ 28) → number (operatorOf n) ≡ 28
+    go : Dec (n ≡ number Assign) → number (operatorOf n) ≡ number Assign
     go (yes e) = rw e
     go (no e) = past (omega arith)
 
@@ -78,7 +79,7 @@ pub path-signs : (s : Signs) (detail : ℕ) → s ≡ pathType detail → Spells
 unfolding pick
 path-signs s detail e = rw e (go (eqb detail 2))
   where
-    go : (b : Bool) → Spells (pick b (made (Two 32 13) Nothing (One 17)) (onlyBefore (One 32))) (pick b (signs (Name ∷ operator Lt ∷ []) [] (operator Gt ∷ [])) (signs (Name ∷ []) [] []))
+    go : (b : Bool) → Spells (pick b (made (Two (code Name) (number Lt)) Nothing (One (number Gt))) (onlyBefore (One (code Name)))) (pick b (signs (Name ∷ operator Lt ∷ []) [] (operator Gt ∷ [])) (signs (Name ∷ []) [] []))
     go true = record { before = refl; between = refl; behind = refl }
     go false = record { before = refl; between = refl; behind = refl }
 

@@ -81,7 +81,7 @@ module _ (cells : List ℕ) (count : ℕ) (rows : List ℕ) (i : ℕ) where
 
   module _ (low : 1 ≤ i) (high : i ≤ count) (pair : Bool) (is : pair ≡ hasPair rows i) (s : Signs) (own : Spells s (signsOf (labelAt cells i) (treeAt cells count (operandAt cells count i secondColumn)))) where
     pub codes-parts : codesAt cells count rows i
-        ≡ spelled (oneIf pair 35) ++ (spelled (s .before) ++ (codesAt cells count rows (operandAt cells count i firstColumn) ++ (spelled (s .between) ++ (codesAt cells count rows (operandAt cells count i secondColumn) ++ (spelled (s .behind) ++ spelled (oneIf pair 36))))))
+        ≡ spelled (oneIf pair (code LeftParen)) ++ (spelled (s .before) ++ (codesAt cells count rows (operandAt cells count i firstColumn) ++ (spelled (s .between) ++ (codesAt cells count rows (operandAt cells count i secondColumn) ++ (spelled (s .behind) ++ spelled (oneIf pair (code RightParen)))))))
     unfolding codesAt
     codes-parts =
         ap (λ (t : Tree). codesOf (tokensAt cells count (hasPair rows) i t [])) (unfolds cells count i low high)
@@ -90,10 +90,10 @@ module _ (cells : List ℕ) (count : ℕ) (rows : List ℕ) (i : ℕ) where
         (rw (is, one-if (hasPair rows i) LeftParen, one-if (hasPair rows i) RightParen, own .before, own .between, own .behind))
 
     pub length-parts : length (codesAt cells count rows i)
-        ≡ length (spelled (oneIf pair 35)) + (length (spelled (s .before)) + (length (codesAt cells count rows (operandAt cells count i firstColumn)) + (length (spelled (s .between)) + (length (codesAt cells count rows (operandAt cells count i secondColumn)) + (length (spelled (s .behind)) + length (spelled (oneIf pair 36)))))))
+        ≡ length (spelled (oneIf pair (code LeftParen))) + (length (spelled (s .before)) + (length (codesAt cells count rows (operandAt cells count i firstColumn)) + (length (spelled (s .between)) + (length (codesAt cells count rows (operandAt cells count i secondColumn)) + (length (spelled (s .behind)) + length (spelled (oneIf pair (code RightParen))))))))
     length-parts = ap length codes-parts ∙ simp length-append
 
-    pub put-parts : (f : Few) → f ≡ oneIf pair 35 → (g : Few) → g ≡ oneIf pair 36 → (o : ℕ) → o ≡ operandAt cells count i firstColumn → (p : ℕ) → p ≡ operandAt cells count i secondColumn
+    pub put-parts : (f : Few) → f ≡ oneIf pair (code LeftParen) → (g : Few) → g ≡ oneIf pair (code RightParen) → (o : ℕ) → o ≡ operandAt cells count i firstColumn → (p : ℕ) → p ≡ operandAt cells count i secondColumn
         → {t0 t1 t2 t3 t4 t5 t6 t7 : List ℕ} {n0 n1 n2 n3 n4 n5 n6 n7 : ℕ}
         → Put t0 n0 (spelled f) t1 n1
         → Put t1 n1 (spelled (s .before)) t2 n2

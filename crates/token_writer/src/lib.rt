@@ -1,5 +1,4 @@
 // The tokens of a plain tree, with the pairs that its rows have.
-mod codes; // codes.rt: the codes of the tokens
 mod plainness; // plainness.rt: whether a table is plain
 mod signs; // signs.rt: a node's own tokens
 
@@ -7,6 +6,7 @@ use plainness::is_plain_table;
 use signs::Few;
 use signs::one_if;
 use signs::signs_at;
+use token_grammar::codes;
 use tree::columns;
 use tree::sizes;
 use tree::table::operand_number;

@@ -1,5 +1,5 @@
 // A node's own tokens, as codes.
-use super::codes;
+use token_grammar::codes;
 use tree::columns;
 use tree::forms;
 use tree::table::cell;

@@ -2,6 +2,7 @@
 use mathlib.Core.Path.{sym, _∙_}
 use mathlib.Core.List.{List, [], _∷_}
 use Prim.Native.Nat.{ℕ}
+use Rattle.tree.specs.Forms.{ExprAssign, ExprAwait, ExprBinary, ExprCall, ExprCast, ExprField, ExprIndex, ExprLit, ExprMethodCall, ExprParen, ExprPath, ExprReference, ExprTry, ExprUnary, TypeInfer, TypeNever, TypePtr, TypeReference, Link}
 use Rattle.tree.specs.Trees.{labelAt}
 use Rattle.token_writer.proofs.Plains.{with-attributes, plain-expression, plain-type, plain-path, not-plain}
 use borrow.Author.Needs.{needs}
@@ -10,16 +11,16 @@ use Rattle.token_writer.proofs.plainness.is_plain.Tie as tie
 
 -- the numbers of the arms, in their order
 abbrev expressions : List ℕ
-expressions = 2 ∷ 5 ∷ 9 ∷ 13 ∷ 17 ∷ 20 ∷ 24 ∷ 26 ∷ 29 ∷ 33 ∷ 36 ∷ []
+expressions = ExprAssign ∷ ExprBinary ∷ ExprCast ∷ ExprField ∷ ExprIndex ∷ ExprLit ∷ ExprMethodCall ∷ ExprPath ∷ ExprReference ∷ ExprTry ∷ ExprUnary ∷ []
 
 abbrev moreExpressions : List ℕ
-moreExpressions = 4 ∷ 8 ∷ 25 ∷ []
+moreExpressions = ExprAwait ∷ ExprCall ∷ ExprParen ∷ []
 
 abbrev types : List ℕ
-types = 45 ∷ 47 ∷ 50 ∷ 56 ∷ []
+types = TypeInfer ∷ TypeNever ∷ TypePtr ∷ Link ∷ []
 
 abbrev moreTypes : List ℕ
-moreTypes = 51 ∷ []
+moreTypes = TypeReference ∷ []
 
 cell-requires : tie.Need-cell-requires
 cell-requires c κs = search needs

@@ -2,7 +2,7 @@
 use mathlib.Core.Path.{refl, ap, _∙_}
 use mathlib.Core.List.{List, [], _∷_}
 use Prim.Native.Nat.{ℕ}
-use Rattle.token_grammar.specs.Tokens.{operator, BitAnd, Assign, Bang, AndMut, As, Name, Literal, Dot, LeftParen, RightParen, LeftBracket, RightBracket, Comma, Question, StarConst, StarMut, Underscore, NumberedMember, Await, operatorOf}
+use Rattle.token_grammar.specs.Tokens.{operator, BitAnd, Assign, Bang, AndMut, As, Name, Literal, Dot, LeftParen, RightParen, LeftBracket, RightBracket, Comma, Question, StarConst, StarMut, Underscore, NumberedMember, Await, code, operatorOf}
 use Rattle.token_plain.specs.Written.{byDetail, unary, comma, signLines}
 use Rattle.token_writer.specs.Puts.{spelled}
 use Rattle.token_writer.proofs.Spelling.{code-pick, one-if, spells-arm, spells-rest, before-only, between-only, round-second, path-signs}
@@ -122,7 +122,7 @@ returns-8 c = let a = c .before .before .args in spells-arm (a .detail) (a .form
 
 returns-9 : tie.Need-returns-9
 unfolding signLines
-returns-9 c = let a = c .before .before .before .args in spells-arm (a .detail) (a .form) (a .more) _ 8 tt (c .before .before .match .keys9) (between-only _ _ (Dot ∷ byDetail (a .detail) Name NumberedMember ∷ []) (c .amid4 .ensures) (ap (λ (n : ℕ). 34 ∷ n ∷ []) (c .before .by-detail2 .ensures ∙ code-pick _ _ _)))
+returns-9 c = let a = c .before .before .before .args in spells-arm (a .detail) (a .form) (a .more) _ 8 tt (c .before .before .match .keys9) (between-only _ _ (Dot ∷ byDetail (a .detail) Name NumberedMember ∷ []) (c .amid4 .ensures) (ap (λ (n : ℕ). code Dot ∷ n ∷ []) (c .before .by-detail2 .ensures ∙ code-pick _ _ _)))
 
 returns-10 : tie.Need-returns-10
 unfolding signLines
