@@ -2,6 +2,7 @@
 use mathlib.Core.Path.{_≡_, sym, _∙_}
 use mathlib.Core.List.{List, [], _++_}
 use Prim.Native.Nat.{ℕ, zero, suc, _+_, _*_, _-_, _≤_, _<_}
+use native.Mathlib.Nat.{mul-suc}
 use native.Mathlib.Omega.{arith}
 use lib.ListN.{length, take, drop, getD, length-append, length-drop, drop-of-length-le}
 use lib.Seq.{take-all, take-nil}
@@ -43,17 +44,18 @@ pub row-most : (width : ℕ) (cells : List ℕ) → ((i : ℕ) → getD cells i 
 unfolding rowLine
 row-most width cells fit n h = line-most width n cells (width * (n - 1)) h fit
 
-module _ (f : ℕ → List ℕ) (few : (n : ℕ) → n ≤ 65535 → length (f n) ≤ 36) where
-  joined-most : (n : ℕ) → n ≤ 65535 → length (joined f n) ≤ 36 * n
+-- texts of so many bytes at most
+module _ (most : ℕ) (f : ℕ → List ℕ) (few : (n : ℕ) → n ≤ 65535 → length (f n) ≤ most) where
+  joined-most : (n : ℕ) → n ≤ 65535 → length (joined f n) ≤ most * n
   unfolding joined
   joined-most zero h = omega arith
   joined-most (suc n) h =
       let others = joined-most n (omega arith) in
       let last = few (suc n) h in
-      rw length-append (omega arith)
+      rw (length-append, mul-suc most n) (omega arith)
 
   -- behind a first line
-  pub page-most : (a b n : ℕ) → n ≤ 65535 → length (headed a b n ++ joined f n) ≤ 9 + 36 * n
+  pub page-most : (a b n : ℕ) → n ≤ 65535 → length (headed a b n ++ joined f n) ≤ 9 + most * n
   page-most a b n h =
       let head = headed-most a b n h in
       let lines = joined-most n h in

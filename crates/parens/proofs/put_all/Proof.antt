@@ -1,5 +1,7 @@
 -- `parens::put_all` meets its contract. Assumes nothing.
+use Prim.Native.Nat.{_+_, _*_}
 use native.Mathlib.Omega.{arith}
+use Rattle.tree.specs.Sizes.{rowCells}
 use Rattle.text.proofs.Growing.{grown-more, fits}
 use Rattle.parens.specs.Text.{nodeText, allLines}
 use Rattle.text.proofs.Rows.{page-most}
@@ -13,7 +15,7 @@ unfolding allLines
 returns c =
     let s = c .before .before .before .before .before .before .before .before .before .before .before in
     let line = node-most (s .args .count) (s .args .table .now) (s .args .rows .now) (λ i. omega (arith, c .before .before .before .before .before .before .before .before .shared-slice-known2 .given i)) in
-    let most = page-most (nodeText (s .args .count) (s .args .table .now) (s .args .rows .now)) line 111 107 (s .args .count) (omega (arith, s .pre .0)) in
+    let most = page-most (6 * (rowCells + 1)) (nodeText (s .args .count) (s .args .table .now) (s .args .rows .now)) line 111 107 (s .args .count) (omega (arith, s .pre .0)) in
     fits (omega arith) (grown-more (c .before .before .before .before .before .before .put-head .ensures) (c .before .before .put-lines .ensures))
 
 pub put-all-spec : {M : Type 1} → statement M

@@ -1,4 +1,5 @@
 -- `reading::put_table` meets its contract. Assumes nothing.
+use Prim.Native.Nat.{_+_, _*_}
 use native.Mathlib.Omega.{arith}
 use Rattle.tree.specs.Sizes.{nodeCells}
 use Rattle.text.specs.Numbers.{rowLine}
@@ -14,7 +15,7 @@ unfolding tableText
 returns c =
     let s = c .before .before .before .before .before .before .before .before .before .before in
     let row = row-most nodeCells (s .args .table .now) (λ i. omega (arith, c .before .before .before .before .before .before .before .before .shared-slice-known .given i)) in
-    let most = page-most (rowLine nodeCells (s .args .table .now)) row 111 107 (s .args .count) (omega (arith, s .pre .0)) in
+    let most = page-most (6 * (nodeCells + 1)) (rowLine nodeCells (s .args .table .now)) row 111 107 (s .args .count) (omega (arith, s .pre .0)) in
     fits (omega arith) (grown-more (c .before .before .before .before .before .before .put-head .ensures) (c .before .before .put-nodes .ensures))
 
 pub put-table-spec : {M : Type 1} → statement M
