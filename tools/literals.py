@@ -31,7 +31,7 @@ def number(*values):
 def of(value):
     """A number that multiplies or divides, or that a list is cut by or repeated with."""
     n = number(value)
-    return rf'{n} \*|\* {n}|[/%] {n}|\+ {n}|\b(?:take|drop|times|splitAt|below-take \d+) {n}'
+    return rf'{n} \*|\* {n}|[/%] {n}|\+ {n}|\b(?:take|drop|times|splitAt|rowLine|row-most|below-take \d+) {n}|\bput_row\(.*, {n},'
 
 
 def last(names, before, values):
