@@ -1,7 +1,8 @@
 -- What the functions of precedence.rs, classify.rs and fixup.rs say, by the number of the question; 65535 for a number that is no question's.
 use mathlib.Core.List.{List, [], _∷_}
 use Prim.Native.Nat.{ℕ}
-use Rattle.laws.specs.Choice.{pick, Line, line, lookup}
+use Rattle.bools.specs.Bits.{bitOf}
+use Rattle.laws.specs.Choice.{Line, line, lookup}
 use Rattle.tree.specs.Trees.{Tree}
 use Rattle.precedence.specs.Precedences.{rankOf, precedenceOf}
 use Rattle.classify.specs.Classify.{requiresSemi, requiresComma, leadingLabel, trailingPath}
@@ -15,12 +16,12 @@ use Rattle.fixup_scan.specs.Scans.{leftmostPrecedence, rightmostPrecedence}
 unfoldable pub questions : Tree → List (Line ℕ)
 questions t =
     line (0 ∷ []) (rankOf (precedenceOf t)) ∷
-    line (1 ∷ []) (pick (requiresSemi t) 1 0) ∷
-    line (2 ∷ []) (pick (requiresComma t) 1 0) ∷
-    line (3 ∷ []) (pick (leadingLabel t) 1 0) ∷
-    line (4 ∷ []) (pick (trailingBrace t) 1 0) ∷
-    line (5 ∷ []) (pick (trailingPath t) 1 0) ∷
-    line (6 ∷ []) (pick (typeTrailingBrace t) 1 0) ∷
+    line (1 ∷ []) (bitOf (requiresSemi t)) ∷
+    line (2 ∷ []) (bitOf (requiresComma t)) ∷
+    line (3 ∷ []) (bitOf (leadingLabel t)) ∷
+    line (4 ∷ []) (bitOf (trailingBrace t)) ∷
+    line (5 ∷ []) (bitOf (trailingPath t)) ∷
+    line (6 ∷ []) (bitOf (typeTrailingBrace t)) ∷
     []
 
 unfoldable pub answered : ℕ → Tree → ℕ
@@ -30,9 +31,9 @@ answered question t = lookup (questions t) 65535 question
 
 unfoldable pub fixupQuestions : FixupContext → Tree → List (Line ℕ)
 fixupQuestions x t =
-    line (0 ∷ []) (pick (parenthesize x t) 1 0) ∷
+    line (0 ∷ []) (bitOf (parenthesize x t)) ∷
     line (1 ∷ []) (rankOf (effective x t)) ∷
-    line (2 ∷ []) (pick (scanLeft t x) 1 0) ∷
+    line (2 ∷ []) (bitOf (scanLeft t x)) ∷
     line (3 ∷ []) (rankOf (leftmostPrecedence t x)) ∷
     line (4 ∷ []) (rankOf (rightmostPrecedence t x)) ∷
     []

@@ -1,5 +1,5 @@
 // What fixup.rs says of a node in a context.
-use super::number;
+use bools::bit;
 use fixup::context::FixupContext;
 use fixup::group::scan_left;
 use fixup_scan::right::leftmost_subexpression_precedence;
@@ -13,9 +13,9 @@ pub fn fixup_answer(question: u16, fixup: FixupContext, table: &[u16], count: u1
     ensures { λ r. ⌜ r ≡ fixupAnswered question fixup (treeAt (now (table .entry)) count node) ⌝ }
 {
     match question {
-        0 => number(fixup.parenthesize(table, count, node)),
+        0 => bit(fixup.parenthesize(table, count, node)),
         1 => fixup.precedence(table, count, node).rank(),
-        2 => number(scan_left(table, count, node, fixup)),
+        2 => bit(scan_left(table, count, node, fixup)),
         3 => leftmost_subexpression_precedence(fixup, table, count, node).rank(),
         4 => rightmost_subexpression_precedence(fixup, table, count, node).rank(),
         _ => 65535,

@@ -6,6 +6,7 @@ use Prim.Native.Nat.{ℕ}
 use native.Mathlib.Omega.{arith}
 use lib.Dec.{T}
 use lib.ListN.{getD}
+use Rattle.bools.specs.Bits.{bitOf}
 use Rattle.laws.specs.Choice.{pick}
 use Rattle.laws.proofs.Choice.{pick-true, pick-false, true-not-false}
 use Rattle.laws.proofs.Each.{all, all-at}
@@ -22,7 +23,7 @@ use Rattle.fixup_scan.specs.declared.answer.Leave.the-variants.{Answer, 
 use Rattle.fixup_scan.specs.declared.arm.Arm.{Arm}
 use Rattle.fixup_scan.specs.declared.arm.Arm.the-variants.{Assign, Binary, Prefix, Range, Break, Return, Closure, Let, Group, Closed}
 use Rattle.fixup_scan.specs.Scans.{binds, consumes, consumeBy, loose, scanned, rightBy, scanRight, rightmostPrecedence}
-use Rattle.fixup_scan.specs.Arms.{armOf, closedScan, bareScan, leafScan, failHanded, one, visitBy, leaveBy, notConsume}
+use Rattle.fixup_scan.specs.Arms.{armOf, closedScan, bareScan, leafScan, failHanded, visitBy, leaveBy, notConsume}
 use Rattle.fixup_scan.specs.Linear.{asksAgain, rightGiven, onwards}
 use Rattle.fixup_scan.proofs.Spine.{goesOn, along, body, both-scans}
 use Rattle.fixup_scan.proofs.Arms.{answer-of, asked, back, isEarly}
@@ -172,16 +173,16 @@ body-again (Binary q) goes o ih x p f b j e =
     let y = rightmost x false false q in
     let d = body-fail (Binary q) o x p f b e in
     let s = binary-any q p level.Prefix next (asked (Binary q) (scanRight o) x p f b) (rightmostPrecedence o y) (d .1) in
-    let low : scanRight o y q 1 0 ≡ Fail = lowest o y q (failHanded next f) (one (consumes p next)) (ap notConsume (s .0)) ∙ s .0 in
-    let more : asked (Binary q) (scanRight o) x level.Prefix 1 0 ≡ Fail = ap (λ k. scanRight o y q k (one (consumes level.Prefix next))) (handed-one next) ∙ more-bailout o y q (one (consumes level.Prefix next)) low in
+    let low : scanRight o y q 1 0 ≡ Fail = lowest o y q (failHanded next f) (bitOf (consumes p next)) (ap notConsume (s .0)) ∙ s .0 in
+    let more : asked (Binary q) (scanRight o) x level.Prefix 1 0 ≡ Fail = ap (λ k. scanRight o y q k (bitOf (consumes level.Prefix next))) (handed-one next) ∙ more-bailout o y q (bitOf (consumes level.Prefix next)) low in
     still-fail next _ (pick-false _ _ (binary-late q next _ 0 (d .2)) ∙ ap (λ r. back (Binary q) level.Prefix next r (rightmostPrecedence o y)) more ∙ s .1)
 body-again Prefix goes o ih x p f b j e =
     let next = x .«next_operator» in
     let y = rightmost x false false level.Prefix in
     let d = body-fail Prefix o x p f b e in
     let s = prefix-any p level.Prefix next (asked Prefix (scanRight o) x p f b) (rightmostPrecedence o y) (d .1) in
-    let low : scanRight o y level.Prefix 1 0 ≡ Fail = still-unambiguous next _ (d .2) (ih y p (failHanded next f) (one (consumes p next)) j (s .0)) in
-    let more : asked Prefix (scanRight o) x level.Prefix 1 0 ≡ Fail = ap (λ k. scanRight o y level.Prefix k (one (consumes level.Prefix next))) (handed-one next) ∙ more-bailout o y level.Prefix (one (consumes level.Prefix next)) low in
+    let low : scanRight o y level.Prefix 1 0 ≡ Fail = still-unambiguous next _ (d .2) (ih y p (failHanded next f) (bitOf (consumes p next)) j (s .0)) in
+    let more : asked Prefix (scanRight o) x level.Prefix 1 0 ≡ Fail = ap (λ k. scanRight o y level.Prefix k (bitOf (consumes level.Prefix next))) (handed-one next) ∙ more-bailout o y level.Prefix (bitOf (consumes level.Prefix next)) low in
     still-fail next _ (pick-false _ _ (late-unambiguous next _ 0 (d .2) .0) ∙ ap (λ r. back Prefix level.Prefix next r (rightmostPrecedence o y)) more ∙ s .1)
 body-again Range goes o ih x p f b j e =
     still-fail (x .«next_operator») _ (body-lowest Range o x level.Prefix f b (ap (pick (isEarly Range x p f b) Consume) (range-any level.Prefix p (x .«next_operator») (asked Range (scanRight o) x p f b) (rightmostPrecedence o (visitBy Range x p f b .context))) ∙ e))

@@ -3,6 +3,7 @@ use mathlib.Core.Path.{_≡_, refl, sym, ap, _∙_}
 use mathlib.Core.Bool.{Bool, true, false, not, _&&_, _||_}
 use Prim.Native.Nat.{ℕ}
 use lib.Dec.{eqb, leb}
+use Rattle.bools.specs.Bits.{bitOf}
 use Rattle.laws.specs.Choice.{pick, lookup}
 use Rattle.tree.specs.Forms.{ExprRawAddr, ExprReference, ExprUnary}
 use Rattle.tree.specs.Trees.{Label, Tree, none, node}
@@ -18,7 +19,7 @@ use Rattle.fixup_scan.specs.declared.answer.Leave.the-variants.{Answer, 
 use Rattle.fixup_scan.specs.declared.arm.Arm.{Arm}
 use Rattle.fixup_scan.specs.declared.arm.Arm.the-variants.{Assign, Binary, Prefix, Range, Break, Return, Closure, Let, Group, Closed}
 use Rattle.fixup_scan.specs.Scans.{by, Scans, rightBy, consumes, consumeBy, assign, binary, prefix, range, jump, bareJump, lets, closed, scanLines, scanRight}
-use Rattle.fixup_scan.specs.Arms.{armLines, armOf, operandBy, closedScan, bareScan, enough, early, failHanded, one, visitBy, failOr, leaveBy, settleBy, finish, scanBy}
+use Rattle.fixup_scan.specs.Arms.{armLines, armOf, operandBy, closedScan, bareScan, enough, early, failHanded, visitBy, failOr, leaveBy, settleBy, finish, scanBy}
 
 -- ---- choices
 
@@ -37,8 +38,8 @@ unfolding pick
 unless true u r s = refl
 unless false u r s = refl
 
-zero-or-one : (t : Bool) → pick t 0 1 ≡ one (not t)
-unfolding one pick
+zero-or-one : (t : Bool) → pick t 0 1 ≡ bitOf (not t)
+unfolding pick
 zero-or-one true = refl
 zero-or-one false = refl
 
@@ -116,12 +117,12 @@ module _ (x : FixupContext) (p : Precedence) (f b : ℕ) where
   assign-is (node l c d) scans = ap (pick (isEarly Assign x p f b) Consume) (assign-back p next (asked Assign scans x p f b) level.Jump)
 
   binary-is : (q : Precedence) (e : Tree) (scans : Scans) → given (binary x p f b q) (closed x p f b) e scans ≡ scanBy (Binary q) e scans x p f b
-  unfolding binary closed scanBy closedScan enough failHanded one failOr pick
+  unfolding binary closed scanBy closedScan enough failHanded failOr pick
   binary-is q none scans = refl
   binary-is q (node l c d) scans = ap (pick (isEarly (Binary q) x p f b) Consume) (binary-back p next q (asked (Binary q) scans x p f b) (rightBy (node l c d) scans (context (Binary q))))
 
   prefix-is : (e : Tree) (scans : Scans) → given (prefix x p f b) (closed x p f b) e scans ≡ scanBy Prefix e scans x p f b
-  unfolding prefix closed scanBy closedScan enough failHanded one failOr pick
+  unfolding prefix closed scanBy closedScan enough failHanded failOr pick
   prefix-is none scans = refl
   prefix-is (node l c d) scans = ap (pick (isEarly Prefix x p f b) Consume) (prefix-back p next (asked Prefix scans x p f b) (rightBy (node l c d) scans (context Prefix)))
 

@@ -4,6 +4,7 @@ use mathlib.Core.Bool.{Bool, true, false, _&&_}
 use Prim.Native.Nat.{ℕ, _+_, _*_, _≤_}
 use native.Mathlib.Omega.{arith}
 use borrow.Author.Tests.{eqb-true}
+use Rattle.bools.specs.Bits.{bitOf}
 use Rattle.laws.specs.Choice.{pick}
 use Rattle.laws.proofs.Choice.{true-not-false, and-true}
 use Rattle.tree.specs.Trees.{Label, Tree, none, node}
@@ -21,7 +22,7 @@ use Rattle.fixup_scan.specs.declared.answer.Leave.the-variants.{Answer, 
 use Rattle.fixup_scan.specs.declared.arm.Arm.{Arm}
 use Rattle.fixup_scan.specs.declared.arm.Arm.the-variants.{Assign, Binary, Prefix, Range, Break, Return, Closure, Let, Group, Closed}
 use Rattle.fixup_scan.specs.Scans.{consumes, consumeBy, loose, scanned, rightBy, scanRight, rightmostPrecedence}
-use Rattle.fixup_scan.specs.Arms.{armOf, operandBy, failHanded, one, visitBy, leaveBy, settleBy, finish, notConsume, scanBy}
+use Rattle.fixup_scan.specs.Arms.{armOf, operandBy, failHanded, visitBy, leaveBy, settleBy, finish, notConsume, scanBy}
 use Rattle.fixup_scan.specs.Linear.{asksAgain, rightGiven, onwards, linearBy, nowhere, linear, noVisit, rightVisitsBy, isAsk, visitsBy, visits, spine}
 use Rattle.fixup_scan.proofs.Arms.{asked, back, isEarly}
 use Rattle.fixup_scan.proofs.Spine.{goesOn, there-goes-on, along, scan-along, body, at-grouped, at-inner}
@@ -273,8 +274,8 @@ inner-twice Prefix o x p f b j e =
     let y = rightmost x false false level.Prefix in
     let next = x .«next_operator» in
     let s = prefix-asks p next (asked Prefix (scanRight o) x p f b) e in
-    let h = fails-once o y p (failHanded next f) (one (consumes p next)) j s in
-    let k = fails-once-more o y p (failHanded next f) (one (consumes p next)) level.Prefix j s in
+    let h = fails-once o y p (failHanded next f) (bitOf (consumes p next)) j s in
+    let k = fails-once-more o y p (failHanded next f) (bitOf (consumes p next)) level.Prefix j s in
     let m = pick-within (loose y (effective y o) && scanned y) (visits o y level.Prefix 1 0) (spine o) k in
     omega arith
 inner-twice Range o x p f b j e = true-not-false (sym j)

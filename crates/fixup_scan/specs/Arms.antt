@@ -3,6 +3,7 @@ use mathlib.Core.Bool.{Bool, true, false, not, _&&_, _||_}
 use mathlib.Core.List.{List, [], _∷_}
 use Prim.Native.Nat.{ℕ}
 use lib.Dec.{eqb, leb}
+use Rattle.bools.specs.Bits.{bitOf}
 use Rattle.laws.specs.Choice.{pick, Line, line}
 use Rattle.tree.specs.Forms.{ExprAssign, ExprBinary, ExprBreak, ExprClosure, ExprGroup, ExprLet, ExprRange, ExprRawAddr, ExprReference, ExprReturn, ExprUnary, ExprYield}
 use Rattle.tree.specs.Table.{firstColumn, secondColumn}
@@ -125,19 +126,16 @@ visit context precedence fail bailout = record { context = context; precedence =
 unfoldable pub failHanded : Precedence → ℕ → ℕ
 failHanded next fail = pick (same next level.Unambiguous) fail 1
 
--- `consume_by_precedence as u8 - Scan::Bailout as u8`, and the like: 1 where the test holds
-unfoldable pub one : Bool → ℕ
-one b = pick b 1 0
-
+-- bitOf: `consume_by_precedence as u8 - Scan::Bailout as u8`, and the like
 abbrev pub visitBy : Arm → FixupContext → Precedence → ℕ → ℕ → Visit
 visitBy Assign x p fail bailout = visit (rightmost x false false level.Assign) level.Assign (failHanded (x .«next_operator») fail) 1
-visitBy (Binary q) x p fail bailout = visit (rightmost x false false q) q (failHanded (x .«next_operator») fail) (one (consumes p (x .«next_operator»)))
-visitBy Prefix x p fail bailout = visit (rightmost x false false level.Prefix) p (failHanded (x .«next_operator») fail) (one (consumes p (x .«next_operator»)))
-visitBy Range x p fail bailout = visit (rightmost x false true level.Range) level.Range fail (one (not (same (x .«next_operator») level.Assign || same (x .«next_operator») level.Range)))
+visitBy (Binary q) x p fail bailout = visit (rightmost x false false q) q (failHanded (x .«next_operator») fail) (bitOf (consumes p (x .«next_operator»)))
+visitBy Prefix x p fail bailout = visit (rightmost x false false level.Prefix) p (failHanded (x .«next_operator») fail) (bitOf (consumes p (x .«next_operator»)))
+visitBy Range x p fail bailout = visit (rightmost x false true level.Range) level.Range fail (bitOf (not (same (x .«next_operator») level.Assign || same (x .«next_operator») level.Range)))
 visitBy (Break lost) x p fail bailout = visit (rightmost x true true level.Jump) level.Jump 1 1
 visitBy Return x p fail bailout = visit (rightmost x true false level.Jump) level.Jump 1 1
 visitBy Closure x p fail bailout = visit x p fail bailout
-visitBy Let x p fail bailout = visit (rightmost x false false level.Let) level.Let 1 (one (not (below (x .«next_operator») level.Let)))
+visitBy Let x p fail bailout = visit (rightmost x false false level.Let) level.Let 1 (bitOf (not (below (x .«next_operator») level.Let)))
 visitBy Group x p fail bailout = visit x p fail bailout
 visitBy Closed x p fail bailout = visit x p fail bailout
 

@@ -3,6 +3,7 @@ use mathlib.Core.Bool.{Bool, true, false, not, _&&_, _||_}
 use mathlib.Core.List.{List, [], _∷_}
 use Prim.Native.Nat.{ℕ}
 use lib.Dec.{eqb, leb}
+use Rattle.bools.specs.Bits.{bitOf}
 use Rattle.laws.specs.Choice.{pick, Line, line, lookup}
 use Rattle.tree.specs.Forms.{ExprAssign, ExprBinary, ExprBreak, ExprClosure, ExprGroup, ExprLet, ExprRange, ExprRawAddr, ExprReference, ExprReturn, ExprUnary, ExprYield}
 use Rattle.tree.specs.Trees.{Label, Tree, none, node}
@@ -90,7 +91,7 @@ module _ (x : FixupContext) (p : Precedence) (fail bailout : ℕ) where
   binary q e scans =
       pick (answered || (same q level.Compare && same next level.Compare)) Consume
       (let y = rightmost x false false q in
-      by (scans y q (pick dot fail 1) (pick (consumes p next) 1 0))
+      by (scans y q (pick dot fail 1) (bitOf (consumes p next)))
       (pick (not (same q level.Assign) && atMost (rightBy e scans y) q) (consumeBy p next) (pick dot Fail Bailout))
       (consumeBy p next)
       Consume)
@@ -99,7 +100,7 @@ module _ (x : FixupContext) (p : Precedence) (fail bailout : ℕ) where
   prefix e scans =
       pick answered Consume
       (let y = rightmost x false false level.Prefix in
-      by (scans y p (pick dot fail 1) (pick (consumes p next) 1 0))
+      by (scans y p (pick dot fail 1) (bitOf (consumes p next)))
       (pick (below (rightBy e scans y) level.Prefix) (consumeBy p next) (pick dot Fail Bailout))
       (consumeBy p next)
       Consume)

@@ -3,12 +3,13 @@ use super::answer::consumes;
 use super::answer::is;
 use super::answer::is_assign_or_range;
 use super::arm::Arm;
+use bools::bit;
 use bools::both;
 use bools::either;
 use fixup::context::FixupContext;
 use precedence::Precedence;
 ghost use mathlib.Core.Path.{_≡_};
-ghost use Rattle.fixup_scan.specs.Arms.{enough, early, failHanded, one, visit, visitBy};
+ghost use Rattle.fixup_scan.specs.Arms.{enough, early, failHanded, visit, visitBy};
 ghost use Rattle.laws.specs.Choice.{pick};
 
 pub struct Visit {
@@ -82,12 +83,6 @@ fn fail_handed(next: Precedence, fail_offset: u16) -> u16
     }
 }
 
-fn one(yes: bool) -> u16
-    ensures { λ r. ⌜ r ≡ one yes ⌝ }
-{
-    if yes { 1 } else { 0 }
-}
-
 // As the node itself.
 fn same_visit(
     fixup: FixupContext,
@@ -127,19 +122,19 @@ pub fn visit_of(
             context: fixup.rightmost_subexpression_fixup(false, false, own),
             precedence: own,
             fail_offset: fail_handed(next, fail_offset),
-            bailout_offset: one(consumes(precedence, next)),
+            bailout_offset: bit(consumes(precedence, next)),
         },
         Arm::Prefix => Visit {
             context: fixup.rightmost_subexpression_fixup(false, false, Precedence::Prefix),
             precedence: precedence,
             fail_offset: fail_handed(next, fail_offset),
-            bailout_offset: one(consumes(precedence, next)),
+            bailout_offset: bit(consumes(precedence, next)),
         },
         Arm::Range => Visit {
             context: fixup.rightmost_subexpression_fixup(false, true, Precedence::Range),
             precedence: Precedence::Range,
             fail_offset: fail_offset,
-            bailout_offset: one(!is_assign_or_range(next)),
+            bailout_offset: bit(!is_assign_or_range(next)),
         },
         Arm::Break(_) => Visit {
             context: fixup.rightmost_subexpression_fixup(true, true, Precedence::Jump),
@@ -157,7 +152,7 @@ pub fn visit_of(
             context: fixup.rightmost_subexpression_fixup(false, false, Precedence::Let),
             precedence: Precedence::Let,
             fail_offset: 1,
-            bailout_offset: one(!next.is_below(Precedence::Let)),
+            bailout_offset: bit(!next.is_below(Precedence::Let)),
         },
         Arm::Closure => same_visit(fixup, precedence, fail_offset, bailout_offset),
         Arm::Group => same_visit(fixup, precedence, fail_offset, bailout_offset),

@@ -1,4 +1,5 @@
 // What is decided of a node: its row, and whether it has an outer pair.
+use bools::bit;
 use bools::either;
 use expr::Handed;
 use expr::Side;
@@ -78,11 +79,7 @@ fn has_inner_pair(table: &[u16], count: u16, node: u16) -> bool
 fn pair(outer: bool, inner: bool) -> u16
     ensures { λ r. ⌜ r ≡ pairBy outer inner ⌝ }
 {
-    if outer {
-        if inner { 3 } else { 1 }
-    } else {
-        if inner { 2 } else { 0 }
-    }
+    bit(outer) + 2 * bit(inner)
 }
 
 fn row_of(pair: u16, precedence: Precedence, fixup: FixupContext) -> Row

@@ -8,12 +8,13 @@ use native.Mathlib.Nat.{zero-div, pow-suc}
 use lib.Dec.{eqb}
 use lib.ListN.{length, getD}
 use lib.Pow.{shr-shr}
+use Rattle.bools.specs.Bits.{bitOf}
 use Rattle.precedence.specs.declared.Precedence.{Precedence}
 use Rattle.precedence.specs.declared.Precedence.the-variants.{Jump, Assign, Range, Or, And, Let, Compare, BitOr, BitXor, BitAnd, Shift, Sum, Product, Cast, Prefix, Unambiguous}
 use Rattle.precedence.specs.Precedences.{rankOf}
 use Rattle.laws.specs.Choice.{pick, lookup}
 use Rattle.fixup.specs.declared.context.FixupContext.{FixupContext}
-use Rattle.row_pack.specs.Cells.{bitOf, ofBits, booleans, flagsOf}
+use Rattle.row_pack.specs.Cells.{ofBits, booleans, flagsOf}
 use Rattle.row_pack.specs.FromCells.{ranks, ofRank, bitAt, contextOf}
 
 -- ---- precedences

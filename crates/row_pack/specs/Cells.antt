@@ -1,12 +1,9 @@
 -- A context's flags in one cell of a row.
-use mathlib.Core.Bool.{Bool, true, false}
+use mathlib.Core.Bool.{Bool}
 use mathlib.Core.List.{List, [], _∷_}
 use Prim.Native.Nat.{ℕ, _+_, _*_}
+use Rattle.bools.specs.Bits.{bitOf}
 use Rattle.fixup.specs.declared.context.FixupContext.{FixupContext}
-
-abbrev pub bitOf : Bool → ℕ
-bitOf true = 1
-bitOf false = 0
 
 -- the number with these bits, bit 0 first
 unfoldable pub ofBits : List Bool → ℕ

@@ -1,16 +1,10 @@
 // A context in three cells: the ranks of its two precedences, and its ten flags as bits of one number.
+use bools::bit;
 use fixup::context::FixupContext;
 use precedence::Precedence;
 ghost use mathlib.Core.Path.{_≡_};
-ghost use Prim.Native.Nat.{_≤_};
-ghost use Rattle.row_pack.specs.Cells.{bitOf, flagsOf};
+ghost use Rattle.row_pack.specs.Cells.{flagsOf};
 ghost use Rattle.row_pack.specs.FromCells.{ofRank, contextOf};
-
-fn bit(flag: bool) -> u16
-    ensures { λ r. ⌜ (r ≡ bitOf flag) × (r ≤ 1) ⌝ }
-{
-    if flag { 1 } else { 0 }
-}
 
 // The ten flags, bit 0 up in source order.
 pub fn flags(fixup: FixupContext) -> u16

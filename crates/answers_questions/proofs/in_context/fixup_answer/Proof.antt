@@ -1,6 +1,6 @@
 -- `questions::in_context::fixup_answer` meets its contract. Assumes nothing.
 use mathlib.Core.Path.{sym, ap, _∙_}
-use Rattle.laws.specs.Choice.{pick}
+use Rattle.bools.specs.Bits.{bitOf}
 use Rattle.laws.proofs.Keys.{arm, rest}
 use Rattle.precedence.specs.Precedences.{rankOf}
 use Rattle.answers_questions.specs.Questions.{fixupQuestions, fixupAnswered}
@@ -10,7 +10,7 @@ use Rattle.answers_questions.proofs.in_context.fixup_answer.Tie as tie
 
 returns : tie.Need-returns
 unfolding fixupAnswered fixupQuestions
-returns c = c .number .ensures ∙ ap (λ yes. pick yes 1 0) (c .before .parenthesize .ensures) ∙ sym (arm (fixupQuestions _ _) 65535 _ 0 tt (c .before .before .match .keys1))
+returns c = c .bit .ensures .0 ∙ ap bitOf (c .before .parenthesize .ensures) ∙ sym (arm (fixupQuestions _ _) 65535 _ 0 tt (c .before .before .match .keys1))
 
 returns-2 : tie.Need-returns-2
 unfolding fixupAnswered fixupQuestions
@@ -18,7 +18,7 @@ returns-2 c = c .rank .ensures ∙ ap rankOf (c .before .precedence .ensures) �
 
 returns-3 : tie.Need-returns-3
 unfolding fixupAnswered fixupQuestions
-returns-3 c = c .number2 .ensures ∙ ap (λ yes. pick yes 1 0) (c .before .scan-left .ensures) ∙ sym (arm (fixupQuestions _ _) 65535 _ 2 tt (c .before .before .match .keys3))
+returns-3 c = c .bit2 .ensures .0 ∙ ap bitOf (c .before .scan-left .ensures) ∙ sym (arm (fixupQuestions _ _) 65535 _ 2 tt (c .before .before .match .keys3))
 
 returns-4 : tie.Need-returns-4
 unfolding fixupAnswered fixupQuestions
