@@ -143,10 +143,10 @@ fn can_begin_generics(op: u16) -> bool
 fn left_test(binop_prec: Precedence) -> u16
     ensures { λ r. ⌜ r ≡ leftTest «binop_prec» ⌝ }
 {
-    if binop_prec.rank() == Precedence::Assign.rank() {
+    if binop_prec.is_same(Precedence::Assign) {
         return up_to(Precedence::Range);
     }
-    if binop_prec.rank() == Precedence::Compare.rank() {
+    if binop_prec.is_same(Precedence::Compare) {
         return up_to(binop_prec);
     }
     binop_prec.rank()
@@ -156,7 +156,7 @@ fn left_test(binop_prec: Precedence) -> u16
 fn right_test(binop_prec: Precedence) -> u16
     ensures { λ r. ⌜ r ≡ rightTest «binop_prec» ⌝ }
 {
-    if binop_prec.rank() == Precedence::Assign.rank() {
+    if binop_prec.is_same(Precedence::Assign) {
         return NEVER;
     }
     up_to(binop_prec)

@@ -33,7 +33,7 @@ fn flagged(flag: bool, question: Look, table: &[u16], count: u16, node: u16) -> 
 fn left_of_binary(previous: Precedence, own: Precedence) -> bool
     ensures { λ r. ⌜ r ≡ leftOfBinary previous own ⌝ }
 {
-    if own.rank() == Precedence::Assign.rank() {
+    if own.is_same(Precedence::Assign) {
         previous.is_at_most(Precedence::Assign)
     } else {
         previous.is_below(own)

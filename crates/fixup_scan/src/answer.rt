@@ -15,19 +15,12 @@ pub enum Leave {
     Ask,
 }
 
-// precedence == other
-pub fn is(precedence: Precedence, other: Precedence) -> bool
-    ensures { λ r. ⌜ r ≡ same precedence other ⌝ }
-{
-    precedence.rank() == other.rank()
-}
-
 pub fn is_assign_or_range(operator: Precedence) -> bool
     ensures { λ r. ⌜ r ≡ (same operator Assign || same operator Range) ⌝ }
 {
     either(
-        is(operator, Precedence::Assign),
-        is(operator, Precedence::Range),
+        operator.is_same(Precedence::Assign),
+        operator.is_same(Precedence::Range),
     )
 }
 
@@ -56,8 +49,8 @@ fn binds(precedence: Precedence, next: Precedence) -> bool
     ensures { λ r. ⌜ r ≡ binds precedence next ⌝ }
 {
     if either(
-        is(precedence, Precedence::Assign),
-        is(precedence, Precedence::Compare),
+        precedence.is_same(Precedence::Assign),
+        precedence.is_same(Precedence::Compare),
     ) {
         return precedence.is_at_most(next);
     }
@@ -67,7 +60,7 @@ fn binds(precedence: Precedence, next: Precedence) -> bool
 pub fn consumes(precedence: Precedence, next: Precedence) -> bool
     ensures { λ r. ⌜ r ≡ consumes precedence next ⌝ }
 {
-    either(binds(precedence, next), is(next, Precedence::MIN))
+    either(binds(precedence, next), next.is_same(Precedence::MIN))
 }
 
 // consume_by_precedence

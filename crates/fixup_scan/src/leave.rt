@@ -2,7 +2,6 @@
 use super::Scan;
 use super::answer::Leave;
 use super::answer::consume_by;
-use super::answer::is;
 use super::answer::is_assign_or_range;
 use super::arm::Arm;
 use bools::both;
@@ -24,9 +23,12 @@ fn choose(test: bool, yes: Scan, no: Scan) -> Scan
 fn closed_scan(precedence: Precedence, next: Precedence) -> Scan
     ensures { λ r. ⌜ r ≡ closedScan precedence next ⌝ }
 {
-    let range_end = both(is_assign_or_range(next), is(precedence, Precedence::Range));
+    let range_end = both(
+        is_assign_or_range(next),
+        precedence.is_same(Precedence::Range),
+    );
     let let_value = both(
-        is(precedence, Precedence::Let),
+        precedence.is_same(Precedence::Let),
         next.is_below(Precedence::Let),
     );
     choose(
@@ -41,7 +43,7 @@ fn bare_scan(precedence: Precedence, next: Precedence) -> Scan
     ensures { λ r. ⌜ r ≡ bareScan precedence next ⌝ }
 {
     let assigned = both(
-        is(next, Precedence::Assign),
+        next.is_same(Precedence::Assign),
         Precedence::Assign.is_below(precedence),
     );
     choose(assigned, Scan::Fail, Scan::Consume)
@@ -68,7 +70,11 @@ pub fn leaf_scan(arm: Arm, begins: bool, precedence: Precedence, next: Precedenc
 fn fail_or(next: Precedence) -> Scan
     ensures { λ r. ⌜ r ≡ failOr next ⌝ }
 {
-    choose(is(next, Precedence::Unambiguous), Scan::Fail, Scan::Bailout)
+    choose(
+        next.is_same(Precedence::Unambiguous),
+        Scan::Fail,
+        Scan::Bailout,
+    )
 }
 
 fn ask_unless(test: bool, scan: Scan) -> Leave
@@ -96,7 +102,7 @@ fn leave_fail(arm: Arm, next: Precedence) -> Leave
 {
     match arm {
         Arm::Assign => Leave::Answer(fail_or(next)),
-        Arm::Binary(own) => ask_unless(is(own, Precedence::Assign), fail_or(next)),
+        Arm::Binary(own) => ask_unless(own.is_same(Precedence::Assign), fail_or(next)),
         Arm::Prefix => Leave::Ask,
         Arm::Range => Leave::Ask,
         Arm::Break(_) => Leave::Answer(Scan::Bailout),
@@ -145,7 +151,7 @@ pub fn asks_again(arm: Arm, next: Precedence) -> bool
     match arm {
         Arm::Assign => false,
         Arm::Binary(_) => false,
-        Arm::Prefix => is(next, Precedence::MIN),
+        Arm::Prefix => next.is_same(Precedence::MIN),
         Arm::Range => false,
         Arm::Break(_) => false,
         Arm::Return => false,

@@ -3,7 +3,6 @@ use super::Scan;
 use super::answer::Leave;
 use super::answer::consume_by;
 use super::answer::consumes;
-use super::answer::is;
 use super::answer::is_bailout;
 use super::answer::is_not_consume;
 use super::arm::arm_at;
@@ -32,10 +31,10 @@ fn is_loose(fixup: FixupContext, default: Precedence) -> bool
 {
     let previous = fixup.previous_operator;
     let takes_equal = either(
-        is(previous, Precedence::Assign),
+        previous.is_same(Precedence::Assign),
         either(
-            is(previous, Precedence::Let),
-            is(previous, Precedence::Prefix),
+            previous.is_same(Precedence::Let),
+            previous.is_same(Precedence::Prefix),
         ),
     );
     choose(
@@ -51,8 +50,8 @@ fn is_scanned(fixup: FixupContext) -> bool
 {
     let next = fixup.next_operator;
     let ends_operand = either(
-        is(next, Precedence::Range),
-        either(is(next, Precedence::Or), is(next, Precedence::And)),
+        next.is_same(Precedence::Range),
+        either(next.is_same(Precedence::Or), next.is_same(Precedence::And)),
     );
     either(ends_operand, !fixup.next_operator_can_begin_expr)
 }
@@ -153,7 +152,7 @@ fn bails_out(fixup: FixupContext, table: &[u16], count: u16, node: u16) -> bool
     let next = fixup.next_operator;
     if either(
         !fixup.next_operator_can_begin_expr,
-        is(next, Precedence::Range),
+        next.is_same(Precedence::Range),
     ) {
         let scan = scan_right(table, count, node, fixup, Precedence::MIN, 0, 0);
         return both(is_bailout(scan), scan_left(table, count, node, fixup));

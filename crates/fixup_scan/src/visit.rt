@@ -1,6 +1,5 @@
 // How the operand of an arm is scanned.
 use super::answer::consumes;
-use super::answer::is;
 use super::answer::is_assign_or_range;
 use super::arm::Arm;
 use bools::bit;
@@ -31,7 +30,7 @@ fn is_enough(next: Precedence, consumed: bool, fail_offset: u16, bailout_offset:
 {
     let bailout = bailout_offset >= 1;
     choose(
-        is(next, Precedence::Unambiguous),
+        next.is_same(Precedence::Unambiguous),
         both(fail_offset >= 2, either(consumed, bailout)),
         bailout,
     )
@@ -50,13 +49,16 @@ pub fn is_early(
     match arm {
         Arm::Assign => {
             choose(
-                is(next, Precedence::Unambiguous),
+                next.is_same(Precedence::Unambiguous),
                 fail_offset >= 2,
                 bailout_offset >= 1,
             )
         }
         Arm::Binary(own) => {
-            let comparisons = both(is(own, Precedence::Compare), is(next, Precedence::Compare));
+            let comparisons = both(
+                own.is_same(Precedence::Compare),
+                next.is_same(Precedence::Compare),
+            );
             either(
                 is_enough(next, consumed, fail_offset, bailout_offset),
                 comparisons,
@@ -76,7 +78,7 @@ pub fn is_early(
 fn fail_handed(next: Precedence, fail_offset: u16) -> u16
     ensures { λ r. ⌜ r ≡ failHanded next «fail_offset» ⌝ }
 {
-    if is(next, Precedence::Unambiguous) {
+    if next.is_same(Precedence::Unambiguous) {
         fail_offset
     } else {
         1

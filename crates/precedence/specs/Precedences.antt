@@ -29,7 +29,7 @@ rankOf Cast = 13
 rankOf Prefix = 14
 rankOf Unambiguous = 15
 
--- the derived order: p < q and p <= q
+-- the derived order and equality: p < q, p <= q and p == q
 abbrev pub below : Precedence → Precedence → Bool
 below p q = ltb (rankOf p) (rankOf q)
 

@@ -11,7 +11,7 @@ ghost use Rattle.tree.specs.Operands.{formIn};
 ghost use Rattle.tree.specs.Trees.{treeAt};
 ghost use Rattle.tree.specs.Steps.{isPresent, into};
 ghost use Rattle.precedence.specs.declared.Precedence.the-variants.{Unambiguous};
-ghost use Rattle.precedence.specs.Precedences.{rankOf, below, atMost, ofBinop, prefixAttrs, closedBy, precedenceOf};
+ghost use Rattle.precedence.specs.Precedences.{rankOf, below, atMost, same, ofBinop, prefixAttrs, closedBy, precedenceOf};
 ghost use Rattle.precedence.specs.Steps.{jumpBy, closureBy, ofStep, levelBy};
 
 pub enum Precedence {
@@ -172,6 +172,13 @@ impl Precedence {
         ensures { λ r. ⌜ r ≡ atMost self other ⌝ }
     {
         self.rank() <= other.rank()
+    }
+
+    // self == other
+    pub fn is_same(self, other: Precedence) -> bool
+        ensures { λ r. ⌜ r ≡ same self other ⌝ }
+    {
+        self.rank() == other.rank()
     }
 
     // The precedence of a binary operator, by its number.

@@ -9,15 +9,15 @@ use Rattle.fixup_scan.proofs.answer.consumes.Tie as tie
 binds-requires : tie.Need-binds-requires
 binds-requires c κs = search needs
 
-is-requires : tie.Need-is-requires
-is-requires c κs = search needs
+is-same-requires : tie.Need-is-same-requires
+is-same-requires c κs = search needs
 
 either-requires : tie.Need-either-requires
 either-requires c κs = search needs
 
 returns : tie.Need-returns
 unfolding consumes
-returns c = c .either .ensures ∙ ap₂ _||_ (c .before .before .binds .ensures) (c .before .is .ensures)
+returns c = c .either .ensures ∙ ap₂ _||_ (c .before .before .binds .ensures) (c .before .is-same .ensures)
 
 pub consumes-spec : {M : Type 1} → statement M
-consumes-spec = tie.close (tie.spec binds-requires is-requires either-requires returns)
+consumes-spec = tie.close (tie.spec binds-requires is-same-requires either-requires returns)

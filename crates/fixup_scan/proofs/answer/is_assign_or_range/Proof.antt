@@ -5,17 +5,17 @@ use borrow.Author.Needs.{needs}
 use Rattle.fixup_scan.proofs.answer.is_assign_or_range.Statement.{statement}
 use Rattle.fixup_scan.proofs.answer.is_assign_or_range.Tie as tie
 
-is-requires : tie.Need-is-requires
-is-requires c κs = search needs
+is-same-requires : tie.Need-is-same-requires
+is-same-requires c κs = search needs
 
-is-requires-2 : tie.Need-is-requires-2
-is-requires-2 c κs = search needs
+is-same-requires-2 : tie.Need-is-same-requires-2
+is-same-requires-2 c κs = search needs
 
 either-requires : tie.Need-either-requires
 either-requires c κs = search needs
 
 returns : tie.Need-returns
-returns c = c .either .ensures ∙ ap₂ _||_ (c .before .before .is .ensures) (c .before .is2 .ensures)
+returns c = c .either .ensures ∙ ap₂ _||_ (c .before .before .is-same .ensures) (c .before .is-same2 .ensures)
 
 pub is-assign-or-range-spec : {M : Type 1} → statement M
-is-assign-or-range-spec = tie.close (tie.spec is-requires is-requires-2 either-requires returns)
+is-assign-or-range-spec = tie.close (tie.spec is-same-requires is-same-requires-2 either-requires returns)

@@ -7,8 +7,8 @@ use borrow.Author.Needs.{needs}
 use Rattle.fixup_scan.proofs.leave.bare_scan.Statement.{statement}
 use Rattle.fixup_scan.proofs.leave.bare_scan.Tie as tie
 
-is-requires : tie.Need-is-requires
-is-requires c κs = search needs
+is-same-requires : tie.Need-is-same-requires
+is-same-requires c κs = search needs
 
 is-below-requires : tie.Need-is-below-requires
 is-below-requires c κs = search needs
@@ -21,8 +21,8 @@ choose-requires c κs = search needs
 
 returns : tie.Need-returns
 unfolding bareScan
-returns c = c .choose .ensures ∙ pick-by ((c .before .both .ensures) ∙ ap₂ _&&_ (c .before .before .before .is .ensures) (c .before .before .is-below .ensures)) refl refl
+returns c = c .choose .ensures ∙ pick-by ((c .before .both .ensures) ∙ ap₂ _&&_ (c .before .before .before .is-same .ensures) (c .before .before .is-below .ensures)) refl refl
 
 pub bare-scan-spec : {M : Type 1} → statement M
 bare-scan-spec =
-    tie.close (tie.spec is-requires is-below-requires both-requires choose-requires returns)
+    tie.close (tie.spec is-same-requires is-below-requires both-requires choose-requires returns)

@@ -10,14 +10,14 @@ use Rattle.fixup_scan.proofs.leave.closed_scan.Tie as tie
 is-assign-or-range-requires : tie.Need-is-assign-or-range-requires
 is-assign-or-range-requires c κs = search needs
 
-is-requires : tie.Need-is-requires
-is-requires c κs = search needs
+is-same-requires : tie.Need-is-same-requires
+is-same-requires c κs = search needs
 
 both-requires : tie.Need-both-requires
 both-requires c κs = search needs
 
-is-requires-2 : tie.Need-is-requires-2
-is-requires-2 c κs = search needs
+is-same-requires-2 : tie.Need-is-same-requires-2
+is-same-requires-2 c κs = search needs
 
 is-below-requires : tie.Need-is-below-requires
 is-below-requires c κs = search needs
@@ -39,7 +39,7 @@ unfolding closedScan
 returns c =
     c .choose .ensures
     ∙ pick-by
-    ((c .before .before .either .ensures) ∙ ap₂ _||_ ((c .before .before .before .before .before .before .both .ensures) ∙ ap₂ _&&_ (c .before .before .before .before .before .before .before .before .is-assign-or-range .ensures) (c .before .before .before .before .before .before .before .is .ensures)) ((c .before .before .before .both2 .ensures) ∙ ap₂ _&&_ (c .before .before .before .before .before .is2 .ensures) (c .before .before .before .before .is-below .ensures)))
+    ((c .before .before .either .ensures) ∙ ap₂ _||_ ((c .before .before .before .before .before .before .both .ensures) ∙ ap₂ _&&_ (c .before .before .before .before .before .before .before .before .is-assign-or-range .ensures) (c .before .before .before .before .before .before .before .is-same .ensures)) ((c .before .before .before .both2 .ensures) ∙ ap₂ _&&_ (c .before .before .before .before .before .is-same2 .ensures) (c .before .before .before .before .is-below .ensures)))
     refl
     (c .before .consume-by .ensures)
 
@@ -48,9 +48,9 @@ closed-scan-spec =
     tie.close
     (tie.spec
     is-assign-or-range-requires
-    is-requires
+    is-same-requires
     both-requires
-    is-requires-2
+    is-same-requires-2
     is-below-requires
     both-requires-2
     either-requires

@@ -6,15 +6,15 @@ use borrow.Author.Needs.{needs}
 use Rattle.fixup_scan.proofs.leave.fail_or.Statement.{statement}
 use Rattle.fixup_scan.proofs.leave.fail_or.Tie as tie
 
-is-requires : tie.Need-is-requires
-is-requires c κs = search needs
+is-same-requires : tie.Need-is-same-requires
+is-same-requires c κs = search needs
 
 choose-requires : tie.Need-choose-requires
 choose-requires c κs = search needs
 
 returns : tie.Need-returns
 unfolding failOr
-returns c = c .choose .ensures ∙ pick-by (c .before .is .ensures) refl refl
+returns c = c .choose .ensures ∙ pick-by (c .before .is-same .ensures) refl refl
 
 pub fail-or-spec : {M : Type 1} → statement M
-fail-or-spec = tie.close (tie.spec is-requires choose-requires returns)
+fail-or-spec = tie.close (tie.spec is-same-requires choose-requires returns)

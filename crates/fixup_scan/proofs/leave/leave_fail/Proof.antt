@@ -15,8 +15,8 @@ fail-or-requires c κs = search needs
 enum-known-arm : tie.Need-enum-known-arm
 enum-known-arm c = search needs
 
-is-requires : tie.Need-is-requires
-is-requires c κs = search needs
+is-same-requires : tie.Need-is-same-requires
+is-same-requires c κs = search needs
 
 fail-or-requires-2 : tie.Need-fail-or-requires-2
 fail-or-requires-2 c κs = search needs
@@ -58,7 +58,7 @@ returns : tie.Need-returns
 returns c = rw (c .before .enum-told .given .1) (ap Answer (c .fail-or .ensures))
 
 returns-2 : tie.Need-returns-2
-returns-2 c = rw (c .before .before .before .before .arm .given .1) (c .ask-unless .ensures ∙ pick-by (c .before .before .is .ensures) (ap Answer (c .before .fail-or2 .ensures)) refl)
+returns-2 c = rw (c .before .before .before .before .arm .given .1) (c .ask-unless .ensures ∙ pick-by (c .before .before .is-same .ensures) (ap Answer (c .before .fail-or2 .ensures)) refl)
 
 returns-3 : tie.Need-returns-3
 returns-3 c = rw (c .enum-told2 .given .1)
@@ -91,7 +91,7 @@ leave-fail-spec =
     enum-told
     fail-or-requires
     enum-known-arm
-    is-requires
+    is-same-requires
     fail-or-requires-2
     ask-unless-requires
     enum-told-2

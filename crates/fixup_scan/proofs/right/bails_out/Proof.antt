@@ -8,8 +8,8 @@ use borrow.Author.Needs.{needs}
 use Rattle.fixup_scan.proofs.right.bails_out.Statement.{statement}
 use Rattle.fixup_scan.proofs.right.bails_out.Tie as tie
 
-is-requires : tie.Need-is-requires
-is-requires c κs = search needs
+is-same-requires : tie.Need-is-same-requires
+is-same-requires c κs = search needs
 
 either-requires : tie.Need-either-requires
 either-requires c κs = search needs
@@ -31,17 +31,17 @@ unfolding bailsOut
 returns c =
     c .both .ensures
     ∙ ap₂ _&&_ (c .before .before .is-bailout .ensures ∙ ap isBailout (c .before .before .before .scan-right .ensures)) (c .before .scan-left .ensures)
-    ∙ sym (and-here _ (or-by {a = not (c .before .before .before .before .before .before .before .before .before .args .fixup .«next_operator_can_begin_expr»)} refl (c .before .before .before .before .before .before .is .ensures) (c .before .before .before .before .before .either .ensures) (c .before .before .before .before .if1 .taken)))
+    ∙ sym (and-here _ (or-by {a = not (c .before .before .before .before .before .before .before .before .before .args .fixup .«next_operator_can_begin_expr»)} refl (c .before .before .before .before .before .before .is-same .ensures) (c .before .before .before .before .before .either .ensures) (c .before .before .before .before .if1 .taken)))
 
 returns-2 : tie.Need-returns-2
 unfolding bailsOut
-returns-2 c = rw (or-by {a = not (c .before .before .before .before .before .args .fixup .«next_operator_can_begin_expr»)} refl (c .before .before .is .ensures) (c .before .either .ensures) (c .if1 .left))
+returns-2 c = rw (or-by {a = not (c .before .before .before .before .before .args .fixup .«next_operator_can_begin_expr»)} refl (c .before .before .is-same .ensures) (c .before .either .ensures) (c .if1 .left))
 
 pub bails-out-spec : {M : Type 1} → statement M
 bails-out-spec =
     tie.close
     (tie.spec
-    is-requires
+    is-same-requires
     either-requires
     scan-right-requires
     is-bailout-requires

@@ -7,14 +7,14 @@ use borrow.Author.Needs.{needs}
 use Rattle.fixup_scan.proofs.right.is_loose.Statement.{statement}
 use Rattle.fixup_scan.proofs.right.is_loose.Tie as tie
 
-is-requires : tie.Need-is-requires
-is-requires c κs = search needs
+is-same-requires : tie.Need-is-same-requires
+is-same-requires c κs = search needs
 
-is-requires-2 : tie.Need-is-requires-2
-is-requires-2 c κs = search needs
+is-same-requires-2 : tie.Need-is-same-requires-2
+is-same-requires-2 c κs = search needs
 
-is-requires-3 : tie.Need-is-requires-3
-is-requires-3 c κs = search needs
+is-same-requires-3 : tie.Need-is-same-requires-3
+is-same-requires-3 c κs = search needs
 
 either-requires : tie.Need-either-requires
 either-requires c κs = search needs
@@ -36,7 +36,7 @@ unfolding loose
 returns c =
     c .choose .ensures
     ∙ pick-by
-    ((c .before .before .before .either2 .ensures) ∙ ap₂ _||_ (c .before .before .before .before .before .before .before .is .ensures) ((c .before .before .before .before .either .ensures) ∙ ap₂ _||_ (c .before .before .before .before .before .before .is2 .ensures) (c .before .before .before .before .before .is3 .ensures)))
+    ((c .before .before .before .either2 .ensures) ∙ ap₂ _||_ (c .before .before .before .before .before .before .before .is-same .ensures) ((c .before .before .before .before .either .ensures) ∙ ap₂ _||_ (c .before .before .before .before .before .before .is-same2 .ensures) (c .before .before .before .before .before .is-same3 .ensures)))
     (c .before .before .is-below .ensures)
     (c .before .is-at-most .ensures)
 
@@ -44,9 +44,9 @@ pub is-loose-spec : {M : Type 1} → statement M
 is-loose-spec =
     tie.close
     (tie.spec
-    is-requires
-    is-requires-2
-    is-requires-3
+    is-same-requires
+    is-same-requires-2
+    is-same-requires-3
     either-requires
     either-requires-2
     is-below-requires

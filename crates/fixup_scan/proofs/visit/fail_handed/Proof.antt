@@ -6,16 +6,16 @@ use borrow.Author.Needs.{needs}
 use Rattle.fixup_scan.proofs.visit.fail_handed.Statement.{statement}
 use Rattle.fixup_scan.proofs.visit.fail_handed.Tie as tie
 
-is-requires : tie.Need-is-requires
-is-requires c κs = search needs
+is-same-requires : tie.Need-is-same-requires
+is-same-requires c κs = search needs
 
 returns : tie.Need-returns
 unfolding failHanded
-returns c = sym (pick-true _ _ (sym (c .before .is .ensures) ∙ c .if1 .taken))
+returns c = sym (pick-true _ _ (sym (c .before .is-same .ensures) ∙ c .if1 .taken))
 
 returns-2 : tie.Need-returns-2
 unfolding failHanded
-returns-2 c = sym (pick-false _ _ (sym (c .before .is .ensures) ∙ c .if1 .left))
+returns-2 c = sym (pick-false _ _ (sym (c .before .is-same .ensures) ∙ c .if1 .left))
 
 pub fail-handed-spec : {M : Type 1} → statement M
-fail-handed-spec = tie.close (tie.spec is-requires returns returns-2)
+fail-handed-spec = tie.close (tie.spec is-same-requires returns returns-2)

@@ -9,8 +9,8 @@ use Rattle.fixup_scan.proofs.visit.is_early.Tie as tie
 enum-told : tie.Need-enum-told
 enum-told c = search needs
 
-is-requires : tie.Need-is-requires
-is-requires c κs = search needs
+is-same-requires : tie.Need-is-same-requires
+is-same-requires c κs = search needs
 
 choose-requires : tie.Need-choose-requires
 choose-requires c κs = search needs
@@ -18,11 +18,11 @@ choose-requires c κs = search needs
 enum-known-arm : tie.Need-enum-known-arm
 enum-known-arm c = search needs
 
-is-requires-2 : tie.Need-is-requires-2
-is-requires-2 c κs = search needs
+is-same-requires-2 : tie.Need-is-same-requires-2
+is-same-requires-2 c κs = search needs
 
-is-requires-3 : tie.Need-is-requires-3
-is-requires-3 c κs = search needs
+is-same-requires-3 : tie.Need-is-same-requires-3
+is-same-requires-3 c κs = search needs
 
 both-requires : tie.Need-both-requires
 both-requires c κs = search needs
@@ -64,10 +64,10 @@ enum-told-8 : tie.Need-enum-told-8
 enum-told-8 c = search needs
 
 returns : tie.Need-returns
-returns c = rw (c .before .before .enum-told .given .1) (c .choose .ensures ∙ pick-by (c .before .is .ensures) refl refl)
+returns c = rw (c .before .before .enum-told .given .1) (c .choose .ensures ∙ pick-by (c .before .is-same .ensures) refl refl)
 
 returns-2 : tie.Need-returns-2
-returns-2 c = rw (c .before .before .before .before .before .before .arm .given .1) (c .either .ensures ∙ ap₂ _||_ (c .before .is-enough .ensures) (c .before .before .both .ensures ∙ ap₂ _&&_ (c .before .before .before .before .is2 .ensures) (c .before .before .before .is3 .ensures)))
+returns-2 c = rw (c .before .before .before .before .before .before .arm .given .1) (c .either .ensures ∙ ap₂ _||_ (c .before .is-enough .ensures) (c .before .before .both .ensures ∙ ap₂ _&&_ (c .before .before .before .before .is-same2 .ensures) (c .before .before .before .is-same3 .ensures)))
 
 returns-3 : tie.Need-returns-3
 returns-3 c = rw (c .before .enum-told2 .given .1) (c .is-enough2 .ensures)
@@ -98,11 +98,11 @@ is-early-spec =
     tie.close
     (tie.spec
     enum-told
-    is-requires
+    is-same-requires
     choose-requires
     enum-known-arm
-    is-requires-2
-    is-requires-3
+    is-same-requires-2
+    is-same-requires-3
     both-requires
     is-enough-requires
     either-requires

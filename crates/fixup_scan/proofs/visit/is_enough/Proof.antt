@@ -8,8 +8,8 @@ use borrow.Author.Needs.{needs}
 use Rattle.fixup_scan.proofs.visit.is_enough.Statement.{statement}
 use Rattle.fixup_scan.proofs.visit.is_enough.Tie as tie
 
-is-requires : tie.Need-is-requires
-is-requires c κs = search needs
+is-same-requires : tie.Need-is-same-requires
+is-same-requires c κs = search needs
 
 either-requires : tie.Need-either-requires
 either-requires c κs = search needs
@@ -22,8 +22,8 @@ choose-requires c κs = search needs
 
 returns : tie.Need-returns
 unfolding enough
-returns c = c .choose .ensures ∙ pick-by (c .before .before .before .is .ensures) ((c .before .both .ensures) ∙ ap (_&&_ (leb 2 (c .before .before .before .before .args .fail-offset))) (c .before .before .either .ensures)) refl
+returns c = c .choose .ensures ∙ pick-by (c .before .before .before .is-same .ensures) ((c .before .both .ensures) ∙ ap (_&&_ (leb 2 (c .before .before .before .before .args .fail-offset))) (c .before .before .either .ensures)) refl
 
 pub is-enough-spec : {M : Type 1} → statement M
 is-enough-spec =
-    tie.close (tie.spec is-requires either-requires both-requires choose-requires returns)
+    tie.close (tie.spec is-same-requires either-requires both-requires choose-requires returns)
