@@ -11,7 +11,6 @@ use super::leave::asks_again;
 use super::leave::leaf_scan;
 use super::leave::leave_by;
 use super::leave::settle_by;
-use super::visit::choose;
 use super::visit::is_early;
 use super::visit::visit_of;
 use bools::both;
@@ -37,11 +36,10 @@ fn is_loose(fixup: FixupContext, default: Precedence) -> bool
             previous.is_same(Precedence::Prefix),
         ),
     );
-    choose(
-        takes_equal,
-        default.is_below(previous),
-        default.is_at_most(previous),
-    )
+    if takes_equal {
+        return default.is_below(previous);
+    }
+    default.is_at_most(previous)
 }
 
 // Whether the next operator leaves the question to scan_right.

@@ -9,7 +9,6 @@ use fixup::context::FixupContext;
 use precedence::Precedence;
 ghost use mathlib.Core.Path.{_≡_};
 ghost use Rattle.fixup_scan.specs.Arms.{enough, early, failHanded, visit, visitBy};
-ghost use Rattle.laws.specs.Choice.{pick};
 
 pub struct Visit {
     pub context: FixupContext,
@@ -18,22 +17,15 @@ pub struct Visit {
     pub bailout_offset: u16,
 }
 
-pub fn choose(test: bool, yes: bool, no: bool) -> bool
-    ensures { λ r. ⌜ r ≡ pick test yes no ⌝ }
-{
-    if test { yes } else { no }
-}
-
 // Binary and the prefix operators: whether the answer is Consume before the operand is scanned.
 fn is_enough(next: Precedence, consumed: bool, fail_offset: u16, bailout_offset: u16) -> bool
     ensures { λ r. ⌜ r ≡ enough next consumed «fail_offset» «bailout_offset» ⌝ }
 {
     let bailout = bailout_offset >= 1;
-    choose(
-        next.is_same(Precedence::Unambiguous),
-        both(fail_offset >= 2, either(consumed, bailout)),
-        bailout,
-    )
+    if next.is_same(Precedence::Unambiguous) {
+        return both(fail_offset >= 2, either(consumed, bailout));
+    }
+    bailout
 }
 
 // Whether the answer is Consume before the operand is scanned.
@@ -48,11 +40,11 @@ pub fn is_early(
 {
     match arm {
         Arm::Assign => {
-            choose(
-                next.is_same(Precedence::Unambiguous),
-                fail_offset >= 2,
-                bailout_offset >= 1,
-            )
+            if next.is_same(Precedence::Unambiguous) {
+                fail_offset >= 2
+            } else {
+                bailout_offset >= 1
+            }
         }
         Arm::Binary(own) => {
             let comparisons = both(

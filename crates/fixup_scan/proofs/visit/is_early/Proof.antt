@@ -1,7 +1,7 @@
 -- `scan::visit::is_early` meets its contract. Assumes nothing.
-use mathlib.Core.Path.{refl, ap₂, _∙_}
+use mathlib.Core.Path.{sym, ap₂, _∙_}
 use mathlib.Core.Bool.{_&&_, _||_}
-use Rattle.laws.proofs.Choice.{pick-by}
+use Rattle.laws.proofs.Choice.{pick-true, pick-false}
 use borrow.Author.Needs.{needs}
 use Rattle.fixup_scan.proofs.visit.is_early.Statement.{statement}
 use Rattle.fixup_scan.proofs.visit.is_early.Tie as tie
@@ -11,9 +11,6 @@ enum-told c = search needs
 
 is-same-requires : tie.Need-is-same-requires
 is-same-requires c κs = search needs
-
-choose-requires : tie.Need-choose-requires
-choose-requires c κs = search needs
 
 enum-known-arm : tie.Need-enum-known-arm
 enum-known-arm c = search needs
@@ -64,34 +61,37 @@ enum-told-8 : tie.Need-enum-told-8
 enum-told-8 c = search needs
 
 returns : tie.Need-returns
-returns c = rw (c .before .before .enum-told .given .1) (c .choose .ensures ∙ pick-by (c .before .is-same .ensures) refl refl)
+returns c = rw (c .before .before .enum-told .given .1) (sym (pick-true _ _ (sym (c .before .is-same .ensures) ∙ c .if1 .taken)))
 
 returns-2 : tie.Need-returns-2
-returns-2 c = rw (c .before .before .before .before .before .before .arm .given .1) (c .either .ensures ∙ ap₂ _||_ (c .before .is-enough .ensures) (c .before .before .both .ensures ∙ ap₂ _&&_ (c .before .before .before .before .is-same2 .ensures) (c .before .before .before .is-same3 .ensures)))
+returns-2 c = rw (c .before .before .enum-told .given .1) (sym (pick-false _ _ (sym (c .before .is-same .ensures) ∙ c .if1 .left)))
 
 returns-3 : tie.Need-returns-3
-returns-3 c = rw (c .before .enum-told2 .given .1) (c .is-enough2 .ensures)
+returns-3 c = rw (c .before .before .before .before .before .before .arm .given .1) (c .either .ensures ∙ ap₂ _||_ (c .before .is-enough .ensures) (c .before .before .both .ensures ∙ ap₂ _&&_ (c .before .before .before .before .is-same2 .ensures) (c .before .before .before .is-same3 .ensures)))
 
 returns-4 : tie.Need-returns-4
-returns-4 c = rw (c .enum-told3 .given .1)
+returns-4 c = rw (c .before .enum-told2 .given .1) (c .is-enough2 .ensures)
 
 returns-5 : tie.Need-returns-5
-returns-5 c = rw (c .before .before .arm2 .given .1) (c .either2 .ensures)
+returns-5 c = rw (c .enum-told3 .given .1)
 
 returns-6 : tie.Need-returns-6
-returns-6 c = rw (c .enum-told4 .given .1)
+returns-6 c = rw (c .before .before .arm2 .given .1) (c .either2 .ensures)
 
 returns-7 : tie.Need-returns-7
-returns-7 c = rw (c .enum-told5 .given .1)
+returns-7 c = rw (c .enum-told4 .given .1)
 
 returns-8 : tie.Need-returns-8
-returns-8 c = rw (c .enum-told6 .given .1)
+returns-8 c = rw (c .enum-told5 .given .1)
 
 returns-9 : tie.Need-returns-9
-returns-9 c = rw (c .enum-told7 .given .1)
+returns-9 c = rw (c .enum-told6 .given .1)
 
 returns-10 : tie.Need-returns-10
-returns-10 c = rw (c .enum-told8 .given .1)
+returns-10 c = rw (c .enum-told7 .given .1)
+
+returns-11 : tie.Need-returns-11
+returns-11 c = rw (c .enum-told8 .given .1)
 
 pub is-early-spec : {M : Type 1} → statement M
 is-early-spec =
@@ -99,7 +99,6 @@ is-early-spec =
     (tie.spec
     enum-told
     is-same-requires
-    choose-requires
     enum-known-arm
     is-same-requires-2
     is-same-requires-3
@@ -125,4 +124,5 @@ is-early-spec =
     returns-7
     returns-8
     returns-9
-    returns-10)
+    returns-10
+    returns-11)
