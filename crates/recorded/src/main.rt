@@ -10,6 +10,7 @@ mod trees;
 
 use judge::Kind;
 use judge::Step;
+use text::print;
 
 // The most records: data that has more counts as damaged.
 const MOST: u64 = 100_000;
@@ -37,7 +38,7 @@ fn run(fd: i32, kind: Kind) {
                 return;
             }
             Step::Damaged => {
-                report::damaged();
+                print::damaged();
                 return;
             }
             Step::Agrees(reply) => {
@@ -51,7 +52,7 @@ fn run(fd: i32, kind: Kind) {
         }
         files += 1;
     }
-    report::damaged();
+    print::damaged();
 }
 
 // Opens a file of records and goes through them, or says why it cannot be opened.
@@ -67,7 +68,7 @@ fn open(path: &[u8], kind: Kind) {
 
 // The same below a line with the file's name.
 fn open_named(name: &[u8], kind: Kind) {
-    report::title(name);
+    print::line(name);
     open(name, kind);
 }
 

@@ -13,6 +13,7 @@ use stems::ENDS;
 use stems::FORMS;
 use stems::KINDS;
 use stems::NEXTS;
+use text::print;
 ghost use Prim.Native.Nat.{_<_, _≤_};
 
 // The bytes of a digest.
@@ -102,7 +103,7 @@ fn run(
     while block < blocks {
         let mut bytes = [0u8; DIGEST];
         if io::read_full(fd, &mut bytes) != DIGEST {
-            report::damaged();
+            print::damaged();
             libc::close(fd);
             return;
         }
@@ -156,7 +157,7 @@ fn read_stems(stems: &mut [u8; BYTES]) -> bool {
 fn main() {
     let mut stems = [0u8; BYTES];
     if !read_stems(&mut stems) {
-        report::damaged();
+        print::damaged();
         return;
     }
     if os::arg_count() > 1 {

@@ -1,5 +1,7 @@
 // A text that grows at the end of what stands in a lent buffer. Each function adds to it, and answers where it
 // then ends; bytes for which there is no room are left out.
+pub mod print; // print.rt: what is written on standard output at once
+
 ghost use mathlib.Core.List.{[], _∷_};
 ghost use mathlib.Core.Path.{_≡_};
 ghost use Prim.Native.Nat.{_+_, _-_, _<_};
