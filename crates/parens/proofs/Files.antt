@@ -11,7 +11,7 @@ use Rattle.file_loader.specs.Files.{loaded, loadedTable}
 use Rattle.file_loader.proofs.Loading.{count-most, stored-room, stored-cells, not-refused}
 use Rattle.row_walk.specs.Walk.{rootHanded, rowsAfter}
 use Rattle.row_walk.proofs.Replies.{done}
-use Rattle.text.specs.Numbers.{headed}
+use Rattle.text.specs.Numbers.{noLine}
 use Rattle.parens.specs.Text.{rowsIn, acceptedText, answered, printed}
 
 -- ---- the walk of an accepted table
@@ -32,7 +32,7 @@ room : length zeros ≡ nodeCells * mostNodes
 room = length-replicate {A = ℕ} (nodeCells * mostNodes) 0
 
 module _ (file after : List ℕ) (stores : after ≡ loadedTable file zeros) where
-  pub printed-refusal : (n : ℕ) → Refused n ≡ loaded file (length zeros) → headed 110 111 n ≡ printed file
+  pub printed-refusal : (n : ℕ) → Refused n ≡ loaded file (length zeros) → noLine n ≡ printed file
   unfolding printed answered
   printed-refusal n e = rw (← room, ← e)
 

@@ -13,7 +13,7 @@ use Rattle.file_loader.specs.declared.Loaded.the-variants.{Refused, Accepted}
 use Rattle.file_loader.specs.Files.{cellsIn, loaded}
 use Rattle.row.specs.Rows.{rowsOf}
 use Rattle.row_walk.specs.Walk.{rootHanded, placed}
-use Rattle.text.specs.Numbers.{rowLine, joined, headed}
+use Rattle.text.specs.Numbers.{rowLine, joined, okLine, noLine}
 
 -- "for each expression its node number and row", whose five cells stand in `rows`: nothing for a type or a link
 unfoldable pub nodeText : ℕ → List ℕ → List ℕ → ℕ → List ℕ
@@ -23,9 +23,9 @@ nodeText count cells rows i = pick (eqb (classOf (formIn cells count i)) anExpre
 abbrev pub linesOf : ℕ → List ℕ → List ℕ → ℕ → List ℕ
 linesOf count cells rows n = joined (nodeText count cells rows) n
 
--- "prints "ok" and the count, then for each expression its node number and row"; 111 107 spell `ok`
+-- "prints "ok" and the count, then for each expression its node number and row"
 unfoldable pub allLines : ℕ → List ℕ → List ℕ → List ℕ
-allLines count cells rows = headed 111 107 count ++ linesOf count cells rows count
+allLines count cells rows = okLine count ++ linesOf count cells rows count
 
 -- the rows of the tree at node 1, five cells for each of up to 4,096 nodes
 unfoldable pub rowsIn : ℕ → ℕ → List ℕ → List ℕ
@@ -34,9 +34,9 @@ rowsIn context count cells = placed cells count 1 (rowsOf (rootHanded context) (
 unfoldable pub acceptedText : ℕ → ℕ → List ℕ → List ℕ
 acceptedText context count cells = allLines count cells (rowsIn context count cells)
 
--- "on refusal only "no" and the number"; 110 111 spell `no`
+-- "on refusal only "no" and the number"
 unfoldable pub answered : List ℕ → Loaded → List ℕ
-answered cells (Refused n) = headed 110 111 n
+answered cells (Refused n) = noLine n
 answered cells (Accepted context count) = acceptedText context count cells
 
 -- what is printed for a file, with a table of 4,096 nodes lent to the loader

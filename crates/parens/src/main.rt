@@ -3,7 +3,8 @@
 use file_loader::Loaded;
 use libc::STDIN_FILENO;
 use libc::STDOUT_FILENO;
-use text::put_head;
+use text::put_no;
+use text::put_ok;
 use text::put_row;
 use tree::sizes;
 use tree::table::form_at;
@@ -62,7 +63,7 @@ fn put_all(out: &mut [u8], count: u16, table: &[u16], rows: &[u16]) -> usize
     requires { ⌜ (count ≤ mostNodes) × (9 + 6 * (rowCells + 1) * mostNodes ≤ length (now out)) ⌝ }
     ensures { λ r. ⌜ Added (now (out .entry)) 0 (allLines count (now (table .entry)) (now (rows .entry))) (now (out .exit)) r ⌝ }
 {
-    let end = put_head(out, b'o', b'k', count);
+    let end = put_ok(out, count);
     put_lines(out, end, count, table, rows)
 }
 
@@ -86,7 +87,7 @@ fn report(file: &[u8], out: &mut [u8; TEXT]) -> usize
 {
     let mut table = [0u16; CELLS];
     match file_loader::load(file, &mut table) {
-        Loaded::Refused(why) => put_head(out, b'n', b'o', why),
+        Loaded::Refused(why) => put_no(out, why),
         Loaded::Accepted(context, count) => {
             let cells = sizes::NODE_CELLS * (count as usize);
             put_rows(out, context, count, &table[..cells])

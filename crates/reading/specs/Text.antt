@@ -7,19 +7,19 @@ use Rattle.tree.specs.Sizes.{nodeCells, mostNodes}
 use Rattle.token_reader.specs.declared.Reply.{Reply}
 use Rattle.token_reader.specs.declared.Reply.the-variants.{Refused, Nodes}
 use Rattle.token_reader.specs.Reading.{Answers}
-use Rattle.text.specs.Numbers.{rowLine, joined, headed}
+use Rattle.text.specs.Numbers.{rowLine, joined, okLine, noLine}
 
 -- the lines of nodes 1 to n: of each its number and its five numbers, which stand in `cells`
 abbrev pub nodesText : List ℕ → ℕ → List ℕ
 nodesText cells n = joined (rowLine nodeCells cells) n
 
--- "ok" and the number of nodes, then their lines; 111 107 spell `ok`
+-- "ok" and the number of nodes, then their lines
 unfoldable pub tableText : List ℕ → ℕ → List ℕ
-tableText cells n = headed 111 107 n ++ nodesText cells n
+tableText cells n = okLine n ++ nodesText cells n
 
--- what is printed for the reader's answer and the table afterwards: on a refusal "no" and the number; 110 111 spell `no`
+-- what is printed for the reader's answer and the table afterwards: on a refusal "no" and the number
 unfoldable pub answerText : Reply → List ℕ → List ℕ
-answerText (Refused n) cells = headed 110 111 n
+answerText (Refused n) cells = noLine n
 answerText (Nodes n) cells = tableText cells n
 
 -- the text is what is printed for the answer to the codes, with a table of 4,096 nodes lent to the reader

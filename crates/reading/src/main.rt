@@ -5,7 +5,8 @@
 // refused by 14, which is also the reader's answer to a code above 45. So each byte is handed to the reader as a code.
 use libc::STDIN_FILENO;
 use libc::STDOUT_FILENO;
-use text::put_head;
+use text::put_no;
+use text::put_ok;
 use text::put_row;
 use token_reader::Reply;
 use tree::sizes;
@@ -60,7 +61,7 @@ fn put_table(out: &mut [u8], count: u16, table: &[u16]) -> usize
     requires { ⌜ (count ≤ mostNodes) × (9 + 6 * (nodeCells + 1) * mostNodes ≤ length (now out)) ⌝ }
     ensures { λ r. ⌜ Added (now (out .entry)) 0 (tableText (now (table .entry)) count) (now (out .exit)) r ⌝ }
 {
-    let end = put_head(out, b'o', b'k', count);
+    let end = put_ok(out, count);
     put_nodes(out, end, count, table)
 }
 
@@ -71,7 +72,7 @@ fn put_reply(codes: &[u16], out: &mut [u8; TEXT]) -> usize
 {
     let mut table = [0u16; CELLS];
     match token_reader::read(codes, &mut table) {
-        Reply::Refused(why) => put_head(out, b'n', b'o', why),
+        Reply::Refused(why) => put_no(out, why),
         Reply::Nodes(count) => put_table(out, count, &table),
     }
 }

@@ -6,10 +6,10 @@ use native.Mathlib.Nat.{mul-suc}
 use native.Mathlib.Omega.{arith}
 use lib.ListN.{length, take, drop, getD, length-append, length-drop, drop-of-length-le}
 use lib.Seq.{take-all, take-nil}
-use Rattle.text.specs.Numbers.{rowLine, joined, headed}
+use Rattle.text.specs.Numbers.{rowLine, joined, okLine}
 use Rattle.text.specs.Growth.{Grown}
 use Rattle.text.proofs.Growing.{grown-more}
-use Rattle.text.proofs.Spaces.{line-most, headed-most}
+use Rattle.text.proofs.Spaces.{line-most, ok-most}
 
 -- ---- a part of a list
 
@@ -55,8 +55,8 @@ module _ (most : ℕ) (f : ℕ → List ℕ) (few : (n : ℕ) → n ≤ 65535 �
       rw (length-append, mul-suc most n) (omega arith)
 
   -- behind a first line
-  pub page-most : (a b n : ℕ) → n ≤ 65535 → length (headed a b n ++ joined f n) ≤ 9 + most * n
-  page-most a b n h =
-      let head = headed-most a b n h in
+  pub page-most : (n : ℕ) → n ≤ 65535 → length (okLine n ++ joined f n) ≤ 9 + most * n
+  page-most n h =
+      let head = ok-most n h in
       let lines = joined-most n h in
       rw length-append (omega arith)

@@ -5,7 +5,7 @@ use Prim.Native.Nat.{ℕ, zero, suc, _+_, _*_, _≤_, _<_}
 use native.Mathlib.Omega.{arith}
 use lib.ListN.{length, take, drop, getD, length-append, length-take}
 use lib.Seq.{take-suc, getD-drop}
-use Rattle.text.specs.Numbers.{space, decimal, spaced, line, headed}
+use Rattle.text.specs.Numbers.{space, decimal, spaced, line, headed, okLine, noLine}
 use Rattle.text.proofs.Digits.{length-decimal}
 
 pub spaced-append : (s t : List ℕ) → spaced (s ++ t) ≡ spaced s ++ spaced t
@@ -46,6 +46,12 @@ line-most width n cells from h fit =
     let few = length-take width (drop from cells) in
     simp length-append (omega arith)
 
-pub headed-most : (a b n : ℕ) → n ≤ 65535 → length (headed a b n) ≤ 9
+headed-most : (a b n : ℕ) → n ≤ 65535 → length (headed a b n) ≤ 9
 unfolding headed
 headed-most a b n h = let digits = length-decimal n h in rw length-append (omega arith)
+
+pub ok-most : (n : ℕ) → n ≤ 65535 → length (okLine n) ≤ 9
+ok-most n h = headed-most 111 107 n h
+
+pub no-most : (n : ℕ) → n ≤ 65535 → length (noLine n) ≤ 9
+no-most n h = headed-most 110 111 n h

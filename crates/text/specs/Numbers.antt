@@ -41,3 +41,11 @@ joined f (suc n) = joined f n ++ f (suc n)
 -- a first line: two letters and a number
 unfoldable pub headed : ℕ → ℕ → ℕ → List ℕ
 headed a b n = a ∷ b ∷ space ∷ decimal n ++ (newline ∷ [])
+
+-- "ok" and a number
+abbrev pub okLine : ℕ → List ℕ
+okLine n = headed 111 107 n
+
+-- "no" and the number of a refusal
+abbrev pub noLine : ℕ → List ℕ
+noLine n = headed 110 111 n

@@ -7,7 +7,7 @@ ghost use mathlib.Core.Path.{_≡_};
 ghost use Prim.Native.Nat.{_+_, _-_, _<_};
 ghost use lib.ListN.{take, drop};
 ghost use Rattle.text.specs.Growth.{Grown};
-ghost use Rattle.text.specs.Numbers.{decimal, spaced, line, rowLine, headed};
+ghost use Rattle.text.specs.Numbers.{decimal, spaced, line, rowLine, headed, okLine, noLine};
 
 pub fn put_byte(out: &mut [u8], end: usize, byte: u8) -> usize
     ensures { λ r. ⌜ Grown (now (out .entry)) end (byte ∷ []) (now (out .exit)) r ⌝ }
@@ -92,7 +92,7 @@ pub fn put_row(out: &mut [u8], end: usize, n: u16, width: u16, table: &[u16]) ->
 }
 
 // Two letters and a number, as a first line.
-pub fn put_head(out: &mut [u8], first: u8, second: u8, n: u16) -> usize
+fn put_head(out: &mut [u8], first: u8, second: u8, n: u16) -> usize
     ensures { λ r. ⌜ Grown (now (out .entry)) 0 (headed first second n) (now (out .exit)) r ⌝ }
 {
     let one = put_byte(out, 0, first);
@@ -100,4 +100,18 @@ pub fn put_head(out: &mut [u8], first: u8, second: u8, n: u16) -> usize
     let three = put_byte(out, two, b' ');
     let end = put_number(out, three, n);
     put_byte(out, end, b'\n')
+}
+
+// "ok" and a number, as a first line.
+pub fn put_ok(out: &mut [u8], n: u16) -> usize
+    ensures { λ r. ⌜ Grown (now (out .entry)) 0 (okLine n) (now (out .exit)) r ⌝ }
+{
+    put_head(out, b'o', b'k', n)
+}
+
+// "no" and the number of a refusal, as a first line.
+pub fn put_no(out: &mut [u8], n: u16) -> usize
+    ensures { λ r. ⌜ Grown (now (out .entry)) 0 (noLine n) (now (out .exit)) r ⌝ }
+{
+    put_head(out, b'n', b'o', n)
 }

@@ -21,12 +21,13 @@ use Rattle.token_writer.specs.declared.Written.the-variants.{Refused, Tokens}
 use Rattle.token_writer.specs.Writes.{written, writeRefusal, answered, tokensAfter}
 use Rattle.token_writer.proofs.Bounds.{accepted-first, tokens-bound}
 use Rattle.token_writer.proofs.Tokens.{length-codes}
-use Rattle.tokens.specs.Text.{refused, listed, answerText, tableText, loadedText, printed}
+use Rattle.text.specs.Numbers.{noLine}
+use Rattle.tokens.specs.Text.{listed, answerText, tableText, loadedText, printed}
 
 -- ---- the answers of the writer
 
 module _ (context count : ℕ) (cells tokens : List ℕ) (room : length tokens ≡ mostTokens) where
-  pub refused-table : (n : ℕ) → Refused n ≡ answered context count cells (length tokens) → refused n ≡ tableText context count cells
+  pub refused-table : (n : ℕ) → Refused n ≡ answered context count cells (length tokens) → noLine n ≡ tableText context count cells
   unfolding tableText answerText
   refused-table n e = rw (← room, ← e)
 
@@ -71,7 +72,7 @@ room : length zeros ≡ nodeCells * mostNodes
 room = length-replicate {A = ℕ} (nodeCells * mostNodes) 0
 
 module _ (file after : List ℕ) (stores : after ≡ loadedTable file zeros) where
-  pub refused-file : (n : ℕ) → loader.Refused n ≡ loaded file (length zeros) → refused n ≡ printed file
+  pub refused-file : (n : ℕ) → loader.Refused n ≡ loaded file (length zeros) → noLine n ≡ printed file
   unfolding printed loadedText
   refused-file n e = rw (← room, ← e)
 

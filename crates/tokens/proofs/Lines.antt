@@ -7,7 +7,7 @@ use lib.ListN.{length, drop, getD, length-append}
 use Rattle.tree.specs.Sizes.{mostTokens}
 use Rattle.text.specs.Numbers.{decimal, spaced}
 use Rattle.text.proofs.Digits.{length-decimal}
-use Rattle.text.proofs.Spaces.{spaced-most, headed-most}
+use Rattle.text.proofs.Spaces.{spaced-most, ok-most}
 use Rattle.tokens.specs.Text.{parted, listed}
 
 pub parted-none : (numbers : List ℕ) → length numbers ≡ 0 → parted numbers ≡ []
@@ -34,6 +34,6 @@ parted-most (n ∷ ns) h =
 pub listed-most : (codes : List ℕ) → length codes ≤ mostTokens → ((i : ℕ) → getD codes i 0 ≤ 65535) → length (listed codes) ≤ 9 + 6 * mostTokens + 1
 unfolding listed
 listed-most codes h fit =
-    let head = headed-most 111 107 (length codes) (omega arith) in
+    let head = ok-most (length codes) (omega arith) in
     let line = parted-most codes fit in
     simp length-append (omega arith)

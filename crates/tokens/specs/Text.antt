@@ -11,24 +11,20 @@ use Rattle.token_grammar.specs.Tokens.{codesOf}
 use Rattle.token_writer.specs.declared.Written.{Written}
 use Rattle.token_writer.specs.declared.Written.the-variants.{Refused, Tokens}
 use Rattle.token_writer.specs.Writes.{written, answered}
-use Rattle.text.specs.Numbers.{newline, decimal, spaced, headed}
+use Rattle.text.specs.Numbers.{newline, decimal, spaced, okLine, noLine}
 
 -- numbers with a space between two
 unfoldable pub parted : List ℕ → List ℕ
 parted [] = []
 parted (n ∷ ns) = decimal n ++ spaced ns
 
--- "ok" and the number of tokens, then a line with the codes; 111 107 spell `ok`
+-- "ok" and the number of tokens, then a line with the codes
 unfoldable pub listed : List ℕ → List ℕ
-listed codes = headed 111 107 (length codes) ++ (parted codes ++ (newline ∷ []))
-
--- "no" and the number of a refusal; 110 111 spell `no`
-abbrev pub refused : ℕ → List ℕ
-refused n = headed 110 111 n
+listed codes = okLine (length codes) ++ (parted codes ++ (newline ∷ []))
 
 -- what is printed for the writer's answer
 unfoldable pub answerText : List ℕ → Written → List ℕ
-answerText codes (Refused n) = refused n
+answerText codes (Refused n) = noLine n
 answerText codes (Tokens n) = listed codes
 
 -- what is printed for a table, with a buffer of 24,576 cells lent to the writer
@@ -37,7 +33,7 @@ tableText context count cells = answerText (codesOf (written count cells)) (answ
 
 -- what is printed for the loader's answer
 unfoldable pub loadedText : List ℕ → Loaded → List ℕ
-loadedText cells (loaded.Refused n) = refused n
+loadedText cells (loaded.Refused n) = noLine n
 loadedText cells (loaded.Accepted context count) = tableText context count cells
 
 -- what is printed for a file, with a table of 4,096 nodes lent to the loader

@@ -4,8 +4,9 @@ use file_loader::Loaded;
 use libc::STDIN_FILENO;
 use libc::STDOUT_FILENO;
 use text::put_byte;
-use text::put_head;
+use text::put_no;
 use text::put_number;
+use text::put_ok;
 use text::put_spaced;
 use token_writer::Written;
 use tree::sizes;
@@ -44,7 +45,7 @@ fn put_tokens(out: &mut [u8], codes: &[u16]) -> usize
     requires { ⌜ (length (now codes) ≤ mostTokens) × (9 + 6 * mostTokens + 1 ≤ length (now out)) ⌝ }
     ensures { λ r. ⌜ Added (now (out .entry)) 0 (listed (now (codes .entry))) (now (out .exit)) r ⌝ }
 {
-    let head = put_head(out, b'o', b'k', codes.len() as u16);
+    let head = put_ok(out, codes.len() as u16);
     let end = put_parted(out, head, codes);
     put_byte(out, end, b'\n')
 }
@@ -56,7 +57,7 @@ fn put_table(out: &mut [u8], context: u16, count: u16, table: &[u16]) -> usize
 {
     let mut tokens = [0u16; TOKENS];
     match token_writer::write(context, count, table, &mut tokens) {
-        Written::Refused(why) => put_head(out, b'n', b'o', why),
+        Written::Refused(why) => put_no(out, why),
         Written::Tokens(n) => {
             let end = n as usize;
             put_tokens(out, &tokens[..end])
@@ -71,7 +72,7 @@ fn report(file: &[u8], out: &mut [u8; TEXT]) -> usize
 {
     let mut table = [0u16; CELLS];
     match file_loader::load(file, &mut table) {
-        Loaded::Refused(why) => put_head(out, b'n', b'o', why),
+        Loaded::Refused(why) => put_no(out, why),
         Loaded::Accepted(context, count) => {
             let cells = sizes::NODE_CELLS * (count as usize);
             put_table(out, context, count, &table[..cells])

@@ -15,8 +15,8 @@ unfolding allLines
 returns c =
     let s = c .before .before .before .before .before .before .before .before .before .before .before in
     let line = node-most (s .args .count) (s .args .table .now) (s .args .rows .now) (λ i. omega (arith, c .before .before .before .before .before .before .before .before .shared-slice-known2 .given i)) in
-    let most = page-most (6 * (rowCells + 1)) (nodeText (s .args .count) (s .args .table .now) (s .args .rows .now)) line 111 107 (s .args .count) (omega (arith, s .pre .0)) in
-    fits (omega arith) (grown-more (c .before .before .before .before .before .before .put-head .ensures) (c .before .before .put-lines .ensures))
+    let most = page-most (6 * (rowCells + 1)) (nodeText (s .args .count) (s .args .table .now) (s .args .rows .now)) line (s .args .count) (omega (arith, s .pre .0)) in
+    fits (omega arith) (grown-more (c .before .before .before .before .before .before .put-ok .ensures) (c .before .before .put-lines .ensures))
 
 pub put-all-spec : {M : Type 1} → statement M
 put-all-spec =

@@ -1,7 +1,7 @@
 -- `reading::put_reply` meets its contract. Assumes nothing.
 use native.Mathlib.Omega.{arith}
 use Rattle.text.proofs.Growing.{fits, whole}
-use Rattle.text.proofs.Spaces.{headed-most}
+use Rattle.text.proofs.Spaces.{no-most}
 use Rattle.reading.specs.Text.{answerText}
 use Rattle.reading.proofs.Answers.{nodes-most}
 use borrow.Author.Needs.{needs}
@@ -17,8 +17,8 @@ put-table-requires c κs =
 returns : tie.Need-returns
 unfolding answerText
 returns c =
-    let head = headed-most 110 111 (c .before .before .before .why .given .0 .0) (omega arith) in
-    let all = whole (fits (omega arith) (c .put-head .ensures)) in (
+    let head = no-most (c .before .before .before .why .given .0 .0) (omega arith) in
+    let all = whole (fits (omega arith) (c .put-no .ensures)) in (
       all .0,
       record { reply = _; after = _; answers = rw (c .before .before .before .why .given .1) at (c .before .before .before .before .before .before .read .ensures); prints = all .1 },
     )

@@ -15,8 +15,8 @@ unfolding tableText
 returns c =
     let s = c .before .before .before .before .before .before .before .before .before .before in
     let row = row-most nodeCells (s .args .table .now) (λ i. omega (arith, c .before .before .before .before .before .before .before .before .shared-slice-known .given i)) in
-    let most = page-most (6 * (nodeCells + 1)) (rowLine nodeCells (s .args .table .now)) row 111 107 (s .args .count) (omega (arith, s .pre .0)) in
-    fits (omega arith) (grown-more (c .before .before .before .before .before .before .put-head .ensures) (c .before .before .put-nodes .ensures))
+    let most = page-most (6 * (nodeCells + 1)) (rowLine nodeCells (s .args .table .now)) row (s .args .count) (omega (arith, s .pre .0)) in
+    fits (omega arith) (grown-more (c .before .before .before .before .before .before .put-ok .ensures) (c .before .before .put-nodes .ensures))
 
 pub put-table-spec : {M : Type 1} → statement M
 put-table-spec =

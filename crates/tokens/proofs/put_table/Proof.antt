@@ -6,7 +6,7 @@ use native.Mathlib.Omega.{arith}
 use lib.ListN.{length, replicate, length-replicate}
 use lib.Seq.{length-take-le}
 use Rattle.text.proofs.Growing.{fits}
-use Rattle.text.proofs.Spaces.{headed-most}
+use Rattle.text.proofs.Spaces.{no-most}
 use Rattle.tokens.proofs.Files.{refused-table, tokens-most, tokens-within, tokens-table}
 use Rattle.tree.specs.Sizes.{mostTokens}
 use borrow.Author.Needs.{needs}
@@ -43,8 +43,8 @@ returns : tie.Need-returns
 returns c =
     let a = c .before .before .before .before .before .before .before .before .before .before .before .before .args in
     let e = sym (c .before .before .before .before .before .why .given .1) ∙ c .before .before .before .before .before .before .before .before .write .ensures .0 in
-    let head = headed-most 110 111 (c .before .before .before .before .before .why .given .0 .0) (omega arith) in
-    rw (← refused-table (a .context) (a .count) (a .table .now) zeros room _ e) (fits (omega arith) (c .before .before .put-head .ensures))
+    let head = no-most (c .before .before .before .before .before .why .given .0 .0) (omega arith) in
+    rw (← refused-table (a .context) (a .count) (a .table .now) zeros room _ e) (fits (omega arith) (c .before .before .put-no .ensures))
 
 returns-2 : tie.Need-returns-2
 returns-2 c =

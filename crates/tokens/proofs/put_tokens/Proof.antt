@@ -12,7 +12,7 @@ unfolding listed
 returns c =
     let s = c .before .before .before .before .before .before .before .before .before .before .before .before .before .before in
     let most = listed-most (s .args .codes .now) (s .pre .0) (λ i. omega (arith, c .before .before .before .before .before .before .before .before .before .before .before .before .shared-slice-known .given i)) in
-    fits (omega arith) (grown-more (c .before .before .before .before .before .before .before .before .before .before .put-head .ensures) (grown-more (c .before .before .before .before .before .before .put-parted .ensures) (c .before .before .put-byte .ensures)))
+    fits (omega arith) (grown-more (c .before .before .before .before .before .before .before .before .before .before .put-ok .ensures) (grown-more (c .before .before .before .before .before .before .put-parted .ensures) (c .before .before .put-byte .ensures)))
 
 pub put-tokens-spec : {M : Type 1} → statement M
 put-tokens-spec =
