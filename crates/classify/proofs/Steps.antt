@@ -1,8 +1,8 @@
 -- The steps of the walks. Assumes nothing.
-use mathlib.Core.Path.{_≡_, refl}
+use mathlib.Core.Path.{_≡_, refl, sym, _∙_}
 use mathlib.Core.Bool.{Bool, true, false}
 use mathlib.Core.List.{List}
-use Prim.Native.Nat.{ℕ, _≤_, _<_}
+use Prim.Native.Nat.{ℕ, _-_, _≤_, _<_}
 use native.Mathlib.Omega.{arith}
 use lib.Dec.{eqb}
 use Rattle.laws.specs.Choice.{pick, Line}
@@ -11,6 +11,7 @@ use Rattle.tree.specs.declared.table.Operand.{Operand}
 use Rattle.tree.specs.Walks.{Ask, answer, first, walk}
 use Rattle.tree.specs.Steps.{Step, ends, goes, stepBy, stepAt}
 use Rattle.tree.proofs.Walks.{leads}
+use Rattle.classify.specs.declared.ControlFlow.{ControlFlow}
 use Rattle.classify.specs.declared.ControlFlow.the-variants.{Break, Continue}
 use Rattle.classify.specs.Classify.{lastTypeInPath}
 use Rattle.classify.specs.Steps.{flowBy, groupLabel}
@@ -25,11 +26,29 @@ flow-goes (goes m) n e = cc
 
 -- a step of any walk: to its answer, or to a node after this one with the same answer
 module _ (rows : Label → Tree → Tree → List (Line (Ask Bool))) (other : Label → Bool) (missing : Bool) (cells : List ℕ) (count i : ℕ) where
-  pub walk-ends : (x : Bool) → Break x ≡ flowBy (stepAt rows other missing cells count i) → walk rows other missing (treeAt cells count i) ≡ x
+  walk-ends : (x : Bool) → Break x ≡ flowBy (stepAt rows other missing cells count i) → walk rows other missing (treeAt cells count i) ≡ x
   walk-ends x e = rw (flow-ends (stepAt rows other missing cells count i) x e) at (leads rows other missing cells count i)
 
-  pub walk-goes : (n : ℕ) → Continue n ≡ flowBy (stepAt rows other missing cells count i) → (i < n) × (n ≤ count) × (walk rows other missing (treeAt cells count n) ≡ walk rows other missing (treeAt cells count i))
+  walk-goes : (n : ℕ) → Continue n ≡ flowBy (stepAt rows other missing cells count i) → (i < n) × (n ≤ count) × (walk rows other missing (treeAt cells count n) ≡ walk rows other missing (treeAt cells count i))
   walk-goes n e = rw (flow-goes (stepAt rows other missing cells count i) n e) at (leads rows other missing cells count i)
+
+-- ---- the loops of the walks: the node that is reached has the answer of the node asked, and a later number at each turn
+
+abbrev pub sameAnswer : (Tree → Bool) → List ℕ → ℕ → ℕ → ℕ → ℕ → Type 0
+sameAnswer f cells count node at₀ at = f (treeAt cells count at) ≡ f (treeAt cells count node)
+
+abbrev pub ahead : List ℕ → ℕ → ℕ → ℕ → ℕ → ℕ
+ahead cells count node at₀ at = 65536 - at
+
+module _ (rows : Label → Tree → Tree → List (Line (Ask Bool))) (other : Label → Bool) (missing : Bool) (cells : List ℕ) (count i : ℕ) {f : ControlFlow} (made : f ≡ flowBy (stepAt rows other missing cells count i)) where
+  pub loop-less : {n : ℕ} → f ≡ Continue n → count < 65536 → 65536 - n < 65536 - i
+  loop-less e small = let g = walk-goes rows other missing cells count i _ (sym e ∙ made) in omega arith
+
+  pub loop-again : {n : ℕ} {x : Bool} → f ≡ Continue n → walk rows other missing (treeAt cells count i) ≡ x → walk rows other missing (treeAt cells count n) ≡ x
+  loop-again e same = walk-goes rows other missing cells count i _ (sym e ∙ made) .2 ∙ same
+
+  pub loop-ends : {x y : Bool} → f ≡ Break x → walk rows other missing (treeAt cells count i) ≡ y → x ≡ y
+  loop-ends e same = sym (walk-ends rows other missing cells count i _ (sym e ∙ made)) ∙ same
 
 -- ---- what a detail or attributes ask, of a node with one operand
 

@@ -1,3 +1,4 @@
+pub mod Calls
 pub mod Choice
 pub mod Each
 pub mod Keys

@@ -7,7 +7,7 @@ use Prim.Native.Nat.{ℕ, _≤_}
 use native.Mathlib.Omega.{arith}
 use native.Mathlib.Decide.{decLe}
 use lib.Dec.{T, eqb, ltb}
-use borrow.Author.Tests.{ne-eqb, le-leb, le-ltb}
+use borrow.Author.Tests.{eq-eqb, ne-eqb, le-leb, le-ltb}
 use Rattle.laws.specs.Choice.{Line, pick, lookup}
 use Rattle.laws.proofs.Choice.{pick-true, pick-false, true-not-false}
 use Rattle.laws.proofs.Keys.{apartFrom, not-found, linesBelow, past-rows}
@@ -87,7 +87,7 @@ rows-other h (node l a b) e =
     rw (← row-other h (node l a b) e, ← row-other alone (node l a b) e, ← own-other h (node l a b) e, ← own-other alone (node l a b) e)
 
 -- whether a node is an expression, by its number
-pub class-is : (cells : List ℕ) (count i : ℕ) → eqb (classOf (formIn cells count i)) anExpression ≡ isExpression (treeAt cells count i)
+class-is : (cells : List ℕ) (count i : ℕ) → eqb (classOf (formIn cells count i)) anExpression ≡ isExpression (treeAt cells count i)
 unfolding labelAt classOf pick
 class-is cells count i = go (decLe 1 i) (decLe i count)
   where
@@ -95,6 +95,14 @@ class-is cells count i = go (decLe 1 i) (decLe i count)
     go (yes h) (yes k) = rw (form-in cells count i h k, unfolds cells count i h k)
     go (yes h) (no k) = rw (form-none cells count i (omega arith), tree-past cells count i (omega arith))
     go (no h) d = let z : i ≡ 0 = omega arith in rw (form-none cells count i (omega arith), z, tree-zero cells count)
+
+-- and by its class, as the walk asks for it
+module _ (cells : List ℕ) (count i : ℕ) {form class : ℕ} (f : form ≡ formIn cells count i) (k : class ≡ classOf form) where
+  pub is-expression : class ≡ anExpression → isExpression (treeAt cells count i) ≡ true
+  is-expression e = sym (class-is cells count i) ∙ rw (← f, ← k) (eq-eqb _ _ e)
+
+  pub is-other : (class ≡ anExpression → ⊥) → isExpression (treeAt cells count i) ≡ false
+  is-other e = sym (class-is cells count i) ∙ rw (← f, ← k) (ne-eqb _ _ e)
 
 -- an expression is a node of the table
 pub there : (cells : List ℕ) (count i : ℕ) → isExpression (treeAt cells count i) ≡ true → (1 ≤ i) × (i ≤ count)

@@ -64,12 +64,12 @@ pick-same true p q = p
 pick-same false p q = q
 
 -- the operand o of node n is taken out of the marks, in which the nodes up to n have none
-pub data Took (count n o : ℕ) (xs : List ℕ) : ℕ → List ℕ → Type 0 where
+data Took (count n o : ℕ) (xs : List ℕ) : ℕ → List ℕ → Type 0 where
   absent : o ≡ 0 → Took count n o xs 0 xs
   taken : n < o → o ≤ count → (getD xs o 0 ≡ 0 → ⊥) → Took count n o xs (getD xs o 0) (set xs o 0)
   refused : Took count n o xs 7 xs
 
-pub took-after : (count n o p : ℕ) (xs : List ℕ) (v : ℕ) (ys : List ℕ) → o ≡ p → ((j : ℕ) → j ≤ n → getD xs j 0 ≡ 0) → Takes count o xs v ys → Took count n p xs v ys
+took-after : (count n o p : ℕ) (xs : List ℕ) (v : ℕ) (ys : List ℕ) → o ≡ p → ((j : ℕ) → j ≤ n → getD xs j 0 ≡ 0) → Takes count o xs v ys → Took count n p xs v ys
 took-after count n o p xs v ys e f t = rw (← e) (go v ys t)
   where
     after : (getD xs o 0 ≡ 0 → ⊥) → Dec (o ≤ n) → n < o
@@ -276,7 +276,7 @@ module _ (cells : List ℕ) (count : ℕ) where
         go (yes s) = rw (s, eq-eqb o o refl, lt-ltb n o a, ne-eqb (getD xs o 0) 0 e, getD-set-same xs o 0 0 (omega arith))
         go (no s) = rw (ne-eqb o j (λ z. s (sym z)), getD-set-other xs o j 0 0 s) (omega arith)
 
-  pub took-fresh : (n o : ℕ) (xs : List ℕ) (v : ℕ) (ys : List ℕ) → Took count n o xs v ys → ((j : ℕ) → j ≤ n → getD xs j 0 ≡ 0) → (j : ℕ) → j ≤ n → getD ys j 0 ≡ 0
+  took-fresh : (n o : ℕ) (xs : List ℕ) (v : ℕ) (ys : List ℕ) → Took count n o xs v ys → ((j : ℕ) → j ≤ n → getD xs j 0 ≡ 0) → (j : ℕ) → j ≤ n → getD ys j 0 ≡ 0
   took-fresh n o xs v ys t f j h = go (ℕ-discrete (getD ys j 0) 0)
     where
       go : Dec (getD ys j 0 ≡ 0) → getD ys j 0 ≡ 0
@@ -302,7 +302,10 @@ module _ (cells : List ℕ) (count : ℕ) where
       go (no s) = rw (above s (decLe (suc n) j), getD-set-other zs n j r 0 s)
 
   module _ (n : ℕ) (xs : List ℕ) (m : Marked cells count n xs) (low : 1 ≤ n) (high : n ≤ count) (most : count ≤ mostNodes)
-      (one : ℕ) (ys : List ℕ) (t : Took count n (firstAt cells n) xs one ys) (f : one ≡ 7 → ⊥) where
+      (one : ℕ) (ys : List ℕ) (first-taken : Takes count (getD cells (5 * (n - 1) + 3) 0) xs one ys) (f : one ≡ 7 → ⊥) where
+    t : Took count n (firstAt cells n) xs one ys
+    t = took-after count n _ (cellAt cells n 3) xs one ys (cell-other cells n 3 low) (m .fresh) first-taken
+
     tells-first : Tells n low high most (m .sound) (firstAt cells n) one
     tells-first = go one ys t f
       where
@@ -317,7 +320,10 @@ module _ (cells : List ℕ) (count : ℕ) where
     pub first-size : count < length ys
     first-size = let e = took-length n (firstAt cells n) xs one ys t in let s = m .size in omega arith
 
-    module _ (two : ℕ) (zs : List ℕ) (u : Took count n (secondAt cells n) ys two zs) (g : two ≡ 7 → ⊥) where
+    module _ (two : ℕ) (zs : List ℕ) (second-taken : Takes count (getD cells (5 * (n - 1) + 4) 0) ys two zs) (g : two ≡ 7 → ⊥) where
+      u : Took count n (secondAt cells n) ys two zs
+      u = took-after count n _ (cellAt cells n 4) ys two zs (cell-other cells n 4 low) (took-fresh n (firstAt cells n) xs one ys t (m .fresh)) second-taken
+
       tells-second : Tells n low high most (m .sound) (secondAt cells n) two
       tells-second = go two zs u g
         where

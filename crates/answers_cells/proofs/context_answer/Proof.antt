@@ -6,43 +6,17 @@ use borrow.Author.Needs.{needs}
 use Rattle.answers_cells.proofs.context_answer.Statement.{statement}
 use Rattle.answers_cells.proofs.context_answer.Tie as tie
 
-returns : tie.Need-returns
-unfolding contextAnswered contextQuestions
-returns c = c .cell-of .ensures ∙ ap (cellOf (c .before .before .before .args .cell)) (c .before .none .ensures) ∙ sym (arm (contextQuestions (c .before .before .before .args .cell) (c .before .before .before .args .fixup) (c .before .before .before .args .first) (c .before .before .before .args .second) (c .before .before .before .args .precedence)) 65535 _ 0 tt (c .before .before .match .keys1))
-
-returns-2 : tie.Need-returns-2
-unfolding contextAnswered contextQuestions
-returns-2 c = c .cell-of2 .ensures ∙ ap (cellOf (c .before .before .before .args .cell)) (c .before .new-stmt .ensures) ∙ sym (arm (contextQuestions (c .before .before .before .args .cell) (c .before .before .before .args .fixup) (c .before .before .before .args .first) (c .before .before .before .args .second) (c .before .before .before .args .precedence)) 65535 _ 1 tt (c .before .before .match .keys2))
-
-returns-3 : tie.Need-returns-3
-unfolding contextAnswered contextQuestions
-returns-3 c = c .cell-of3 .ensures ∙ ap (cellOf (c .before .before .before .args .cell)) (c .before .new-match-arm .ensures) ∙ sym (arm (contextQuestions (c .before .before .before .args .cell) (c .before .before .before .args .fixup) (c .before .before .before .args .first) (c .before .before .before .args .second) (c .before .before .before .args .precedence)) 65535 _ 2 tt (c .before .before .match .keys3))
-
-returns-4 : tie.Need-returns-4
-unfolding contextAnswered contextQuestions
-returns-4 c = c .cell-of4 .ensures ∙ ap (cellOf (c .before .before .before .args .cell)) (c .before .new-condition .ensures) ∙ sym (arm (contextQuestions (c .before .before .before .args .cell) (c .before .before .before .args .fixup) (c .before .before .before .args .first) (c .before .before .before .args .second) (c .before .before .before .args .precedence)) 65535 _ 3 tt (c .before .before .match .keys4))
-
-returns-5 : tie.Need-returns-5
-unfolding contextAnswered contextQuestions
-returns-5 c = c .cell-of5 .ensures ∙ ap (cellOf (c .before .before .before .args .cell)) (c .before .leftmost-fixup-with-operator .ensures) ∙ sym (arm (contextQuestions (c .before .before .before .args .cell) (c .before .before .before .args .fixup) (c .before .before .before .args .first) (c .before .before .before .args .second) (c .before .before .before .args .precedence)) 65535 _ 4 tt (c .before .before .match .keys5))
-
-returns-6 : tie.Need-returns-6
-unfolding contextAnswered contextQuestions
-returns-6 c = c .cell-of6 .ensures ∙ ap (cellOf (c .before .before .before .args .cell)) (c .before .leftmost-fixup-with-dot .ensures) ∙ sym (arm (contextQuestions (c .before .before .before .args .cell) (c .before .before .before .args .fixup) (c .before .before .before .args .first) (c .before .before .before .args .second) (c .before .before .before .args .precedence)) 65535 _ 5 tt (c .before .before .match .keys6))
-
-returns-7 : tie.Need-returns-7
-unfolding contextAnswered contextQuestions
-returns-7 c = c .cell-of7 .ensures ∙ ap (cellOf (c .before .before .before .args .cell)) (c .before .rightmost-subexpression-fixup .ensures) ∙ sym (arm (contextQuestions (c .before .before .before .args .cell) (c .before .before .before .args .fixup) (c .before .before .before .args .first) (c .before .before .before .args .second) (c .before .before .before .args .precedence)) 65535 _ 6 tt (c .before .before .match .keys7))
-
-returns-8 : tie.Need-returns-8
-unfolding contextAnswered contextQuestions
-returns-8 c = sym (rest (contextQuestions (c .before .args .cell) (c .before .args .fixup) (c .before .args .first) (c .before .args .second) (c .before .args .precedence)) 65535 _ (c .match .rest))
-
 pub context-answer-spec : {M : Type 1} → statement M
+unfolding contextAnswered contextQuestions
 context-answer-spec =
-    tie.close
-    (tie.spec (λ c κs. search needs) (λ c κs. search needs) (λ c κs. search needs) (λ c κs. search needs)
-    (λ c κs. search needs) (λ c κs. search needs) (λ c κs. search needs) (λ c κs. search needs)
-    (λ c κs. search needs) (λ c κs. search needs) (λ c κs. search needs) (λ c κs. search needs)
-    (λ c κs. search needs) (λ c κs. search needs) returns returns-2 returns-3 returns-4 returns-5 returns-6 returns-7
-    returns-8)
+    tie.close (tie.spec (λ c κs. search needs) (λ c κs. search needs) (λ c κs. search needs) (λ c κs. search needs)
+    (λ c κs. search needs) (λ c κs. search needs) (λ c κs. search needs) (λ c κs. search needs) (λ c κs. search needs)
+    (λ c κs. search needs) (λ c κs. search needs) (λ c κs. search needs) (λ c κs. search needs) (λ c κs. search needs)
+    (λ c. c .cell-of .ensures ∙ ap (cellOf (c .before .before .before .args .cell)) (c .before .none .ensures) ∙ sym (arm (contextQuestions (c .before .before .before .args .cell) (c .before .before .before .args .fixup) (c .before .before .before .args .first) (c .before .before .before .args .second) (c .before .before .before .args .precedence)) 65535 _ 0 tt (c .before .before .match .keys1)))
+    (λ c. c .cell-of2 .ensures ∙ ap (cellOf (c .before .before .before .args .cell)) (c .before .new-stmt .ensures) ∙ sym (arm (contextQuestions (c .before .before .before .args .cell) (c .before .before .before .args .fixup) (c .before .before .before .args .first) (c .before .before .before .args .second) (c .before .before .before .args .precedence)) 65535 _ 1 tt (c .before .before .match .keys2)))
+    (λ c. c .cell-of3 .ensures ∙ ap (cellOf (c .before .before .before .args .cell)) (c .before .new-match-arm .ensures) ∙ sym (arm (contextQuestions (c .before .before .before .args .cell) (c .before .before .before .args .fixup) (c .before .before .before .args .first) (c .before .before .before .args .second) (c .before .before .before .args .precedence)) 65535 _ 2 tt (c .before .before .match .keys3)))
+    (λ c. c .cell-of4 .ensures ∙ ap (cellOf (c .before .before .before .args .cell)) (c .before .new-condition .ensures) ∙ sym (arm (contextQuestions (c .before .before .before .args .cell) (c .before .before .before .args .fixup) (c .before .before .before .args .first) (c .before .before .before .args .second) (c .before .before .before .args .precedence)) 65535 _ 3 tt (c .before .before .match .keys4)))
+    (λ c. c .cell-of5 .ensures ∙ ap (cellOf (c .before .before .before .args .cell)) (c .before .leftmost-fixup-with-operator .ensures) ∙ sym (arm (contextQuestions (c .before .before .before .args .cell) (c .before .before .before .args .fixup) (c .before .before .before .args .first) (c .before .before .before .args .second) (c .before .before .before .args .precedence)) 65535 _ 4 tt (c .before .before .match .keys5)))
+    (λ c. c .cell-of6 .ensures ∙ ap (cellOf (c .before .before .before .args .cell)) (c .before .leftmost-fixup-with-dot .ensures) ∙ sym (arm (contextQuestions (c .before .before .before .args .cell) (c .before .before .before .args .fixup) (c .before .before .before .args .first) (c .before .before .before .args .second) (c .before .before .before .args .precedence)) 65535 _ 5 tt (c .before .before .match .keys6)))
+    (λ c. c .cell-of7 .ensures ∙ ap (cellOf (c .before .before .before .args .cell)) (c .before .rightmost-subexpression-fixup .ensures) ∙ sym (arm (contextQuestions (c .before .before .before .args .cell) (c .before .before .before .args .fixup) (c .before .before .before .args .first) (c .before .before .before .args .second) (c .before .before .before .args .precedence)) 65535 _ 6 tt (c .before .before .match .keys7)))
+    (λ c. sym (rest (contextQuestions (c .before .args .cell) (c .before .args .fixup) (c .before .args .first) (c .before .args .second) (c .before .args .precedence)) 65535 _ (c .match .rest))))

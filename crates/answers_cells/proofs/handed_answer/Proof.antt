@@ -6,20 +6,10 @@ use borrow.Author.Needs.{needs}
 use Rattle.answers_cells.proofs.handed_answer.Statement.{statement}
 use Rattle.answers_cells.proofs.handed_answer.Tie as tie
 
-returns : tie.Need-returns
-unfolding handedAnswered handedQuestions
-returns c = c .handed-cell .ensures ∙ ap (handedCell (c .before .before .before .before .args .cell)) (c .before .first-operand .ensures) ∙ sym (arm (handedQuestions _ _ _) 65535 _ 0 tt (c .before .before .match .keys1))
-
-returns-2 : tie.Need-returns-2
-unfolding handedAnswered handedQuestions
-returns-2 c = c .handed-cell2 .ensures ∙ ap (handedCell (c .before .before .before .before .args .cell)) (c .before .second-operand .ensures) ∙ sym (arm (handedQuestions _ _ _) 65535 _ 1 tt (c .before .before .match .keys2))
-
-returns-3 : tie.Need-returns-3
-unfolding handedAnswered handedQuestions
-returns-3 c = sym (rest (handedQuestions _ _ _) 65535 _ (c .match .rest))
-
 pub handed-answer-spec : {M : Type 1} → statement M
+unfolding handedAnswered handedQuestions
 handed-answer-spec =
-    tie.close
-    (tie.spec (λ c κs. search needs) (λ c κs. search needs) (λ c κs. search needs) (λ c κs. search needs) returns
-    returns-2 returns-3)
+    tie.close (tie.spec (λ c κs. search needs) (λ c κs. search needs) (λ c κs. search needs) (λ c κs. search needs)
+    (λ c. c .handed-cell .ensures ∙ ap (handedCell (c .before .before .before .before .args .cell)) (c .before .first-operand .ensures) ∙ sym (arm (handedQuestions _ _ _) 65535 _ 0 tt (c .before .before .match .keys1)))
+    (λ c. c .handed-cell2 .ensures ∙ ap (handedCell (c .before .before .before .before .args .cell)) (c .before .second-operand .ensures) ∙ sym (arm (handedQuestions _ _ _) 65535 _ 1 tt (c .before .before .match .keys2)))
+    (λ c. sym (rest (handedQuestions _ _ _) 65535 _ (c .match .rest))))

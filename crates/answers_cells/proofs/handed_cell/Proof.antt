@@ -6,18 +6,10 @@ use borrow.Author.Needs.{needs}
 use Rattle.answers_cells.proofs.handed_cell.Statement.{statement}
 use Rattle.answers_cells.proofs.handed_cell.Tie as tie
 
-returns : tie.Need-returns
-unfolding handedCell handedCells
-returns c = c .side-number .ensures ∙ sym (arm (handedCells (c .before .before .before .args .handed)) _ _ 0 tt (c .before .match .keys1))
-
-returns-2 : tie.Need-returns-2
-unfolding handedCell handedCells
-returns-2 c = sym (arm (handedCells (c .before .before .args .handed)) _ _ 1 tt (c .match .keys2))
-
-returns-3 : tie.Need-returns-3
-unfolding handedCell handedCells
-returns-3 c = c .cell-of .ensures ∙ sym (rest (handedCells (c .before .before .before .args .handed)) _ _ (c .before .match .rest))
-
 pub handed-cell-spec : {M : Type 1} → statement M
+unfolding handedCell handedCells
 handed-cell-spec =
-    tie.close (tie.spec (λ c κs. search needs) (λ c κs. search needs) returns returns-2 returns-3)
+    tie.close (tie.spec (λ c κs. search needs) (λ c κs. search needs)
+    (λ c. c .side-number .ensures ∙ sym (arm (handedCells (c .before .before .before .args .handed)) _ _ 0 tt (c .before .match .keys1)))
+    (λ c. sym (arm (handedCells (c .before .before .args .handed)) _ _ 1 tt (c .match .keys2)))
+    (λ c. c .cell-of .ensures ∙ sym (rest (handedCells (c .before .before .before .args .handed)) _ _ (c .before .match .rest))))

@@ -5,15 +5,8 @@ use borrow.Author.Needs.{needs}
 use Rattle.answers_cells.proofs.side_number.Statement.{statement}
 use Rattle.answers_cells.proofs.side_number.Tie as tie
 
-returns : tie.Need-returns
-returns c = sym (ap sideNumber (c .enum-told .given .1))
-
-returns-2 : tie.Need-returns-2
-returns-2 c = sym (ap sideNumber (c .enum-told2 .given .1))
-
-returns-3 : tie.Need-returns-3
-returns-3 c = sym (ap sideNumber (c .enum-told3 .given .1))
-
 pub side-number-spec : {M : Type 1} → statement M
 side-number-spec =
-    tie.close (tie.spec (λ c. search needs) (λ c. search needs) (λ c. search needs) returns returns-2 returns-3)
+    tie.close (tie.spec (λ c. search needs) (λ c. search needs) (λ c. search needs)
+    (λ c. sym (ap sideNumber (c .enum-told .given .1))) (λ c. sym (ap sideNumber (c .enum-told2 .given .1)))
+    (λ c. sym (ap sideNumber (c .enum-told3 .given .1))))

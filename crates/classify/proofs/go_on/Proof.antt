@@ -3,17 +3,7 @@ use borrow.Author.Needs.{needs}
 use Rattle.classify.proofs.go_on.Statement.{statement}
 use Rattle.classify.proofs.go_on.Tie as tie
 
-enum-known-operand : tie.Need-enum-known-operand
-enum-known-operand c = search needs
-
-enum-told : tie.Need-enum-told
-enum-told c = search needs
-
-returns : tie.Need-returns
-returns c = rw (c .enum-told .given .1)
-
-returns-2 : tie.Need-returns-2
-returns-2 c = rw (c .before .operand .given .1)
-
 pub go-on-spec : {M : Type 1} → statement M
-go-on-spec = tie.close (tie.spec enum-known-operand enum-told returns returns-2)
+go-on-spec =
+    tie.close (tie.spec (λ c. search needs) (λ c. search needs) (λ c. rw (c .enum-told .given .1))
+    (λ c. rw (c .before .operand .given .1)))

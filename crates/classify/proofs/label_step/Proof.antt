@@ -4,6 +4,7 @@ use mathlib.Core.Bool.{false}
 use mathlib.Core.List.{[], _∷_}
 use Prim.Native.Nat.{ℕ}
 use lib.Dec.{eqb}
+use Rattle.laws.proofs.Calls.{free}
 use Rattle.tree.specs.declared.table.Operand.{Operand}
 use Rattle.tree_shapes.specs.Shapes.{shapeLines, firstInShape}
 use Rattle.tree.specs.Table.{attributesAt}
@@ -15,51 +16,8 @@ use Rattle.classify.specs.Classify.{labelLines}
 use Rattle.classify.specs.Steps.{flowBy, groupLabel}
 use Rattle.classify.specs.declared.ControlFlow.the-variants.{Break}
 use Rattle.classify.proofs.Steps.{label-one}
-use borrow.Author.Needs.{needs}
 use Rattle.classify.proofs.label_step.Statement.{statement}
 use Rattle.classify.proofs.label_step.Tie as tie
-
-shape-at-requires : tie.Need-shape-at-requires
-shape-at-requires c κs = search needs
-
-form-at-requires : tie.Need-form-at-requires
-form-at-requires c κs = search needs
-
-cell-requires : tie.Need-cell-requires
-cell-requires c κs = search needs
-
-first-requires : tie.Need-first-requires
-first-requires c κs = search needs
-
-go-on-requires : tie.Need-go-on-requires
-go-on-requires c κs = search needs
-
-first-requires-2 : tie.Need-first-requires-2
-first-requires-2 c κs = search needs
-
-go-on-requires-2 : tie.Need-go-on-requires-2
-go-on-requires-2 c κs = search needs
-
-cell-requires-2 : tie.Need-cell-requires-2
-cell-requires-2 c κs = search needs
-
-first-requires-3 : tie.Need-first-requires-3
-first-requires-3 c κs = search needs
-
-group-label-requires : tie.Need-group-label-requires
-group-label-requires c κs = search needs
-
-returns : tie.Need-returns
-unfolding labelLines labelAt
-returns c = ap (λ (d : ℕ). Break (eqb d 1)) (c .cell .ensures) ∙ ap flowBy (form-arm _ _ _ labelLines _ false _ (c .before .before .form-at .ensures) tt 0 tt (c .before .match .keys1) _ refl)
-
-returns-2 : tie.Need-returns-2
-unfolding labelLines shapeLines
-returns-2 c = c .go-on .ensures ∙ ap flowBy (ap (into false) (c .before .first .ensures ∙ ap firstInShape (c .before .before .before .before .shape-at .ensures) ∙ first-is _ _ _ _ (c .before .before .before .form-at .ensures) (2 ∷ 4 ∷ 8 ∷ 13 ∷ 17 ∷ 24 ∷ 27 ∷ 33 ∷ []) (c .before .before .match .keys2) tt) ∙ form-arm _ _ _ labelLines _ false _ (c .before .before .before .form-at .ensures) tt 1 tt (c .before .before .match .keys2) _ refl)
-
-returns-3 : tie.Need-returns-3
-unfolding labelLines shapeLines
-returns-3 c = c .go-on2 .ensures ∙ ap flowBy (ap (into false) (c .before .first2 .ensures ∙ ap firstInShape (c .before .before .before .before .shape-at .ensures) ∙ first-is _ _ _ _ (c .before .before .before .form-at .ensures) (5 ∷ 9 ∷ []) (c .before .before .match .keys3) tt) ∙ form-arm _ _ _ labelLines _ false _ (c .before .before .before .form-at .ensures) tt 2 tt (c .before .before .match .keys3) _ refl)
 
 returns-4 : tie.Need-returns-4
 unfolding labelLines labelAt shapeLines
@@ -71,26 +29,12 @@ returns-4 c =
     ∙ sym (label-one (attributesAt (a .table .now) (a .node)) _ (SecondAt (a .table .now) (a .count) (a .node)))
     ∙ form-arm _ _ _ labelLines _ false _ (c .before .before .before .before .form-at .ensures) tt 3 tt (c .before .before .before .match .keys4) _ refl)
 
-returns-5 : tie.Need-returns-5
-unfolding labelLines
-returns-5 c = ap flowBy (form-rest _ _ _ labelLines _ false _ (c .before .form-at .ensures) (c .match .rest) _ (λ h k. refl) (λ n. refl))
-
 pub label-step-spec : {M : Type 1} → statement M
+unfolding labelLines labelAt shapeLines
 label-step-spec =
-    tie.close
-    (tie.spec
-    shape-at-requires
-    form-at-requires
-    cell-requires
-    first-requires
-    go-on-requires
-    first-requires-2
-    go-on-requires-2
-    cell-requires-2
-    first-requires-3
-    group-label-requires
-    returns
-    returns-2
-    returns-3
+    tie.close (tie.spec free free free free free free free free free free
+    (λ c. ap (λ (d : ℕ). Break (eqb d 1)) (c .cell .ensures) ∙ ap flowBy (form-arm _ _ _ labelLines _ false _ (c .before .before .form-at .ensures) tt 0 tt (c .before .match .keys1) _ refl))
+    (λ c. c .go-on .ensures ∙ ap flowBy (ap (into false) (c .before .first .ensures ∙ ap firstInShape (c .before .before .before .before .shape-at .ensures) ∙ first-is _ _ _ _ (c .before .before .before .form-at .ensures) (2 ∷ 4 ∷ 8 ∷ 13 ∷ 17 ∷ 24 ∷ 27 ∷ 33 ∷ []) (c .before .before .match .keys2) tt) ∙ form-arm _ _ _ labelLines _ false _ (c .before .before .before .form-at .ensures) tt 1 tt (c .before .before .match .keys2) _ refl))
+    (λ c. c .go-on2 .ensures ∙ ap flowBy (ap (into false) (c .before .first2 .ensures ∙ ap firstInShape (c .before .before .before .before .shape-at .ensures) ∙ first-is _ _ _ _ (c .before .before .before .form-at .ensures) (5 ∷ 9 ∷ []) (c .before .before .match .keys3) tt) ∙ form-arm _ _ _ labelLines _ false _ (c .before .before .before .form-at .ensures) tt 2 tt (c .before .before .match .keys3) _ refl))
     returns-4
-    returns-5)
+    (λ c. ap flowBy (form-rest _ _ _ labelLines _ false _ (c .before .form-at .ensures) (c .match .rest) _ (λ h k. refl) (λ n. refl))))

@@ -3,6 +3,7 @@ use mathlib.Core.Path.{refl, sym, ap, ap₂, _∙_}
 use mathlib.Core.Bool.{false}
 use mathlib.Core.List.{[], _∷_}
 use Prim.Native.Nat.{ℕ}
+use Rattle.laws.proofs.Calls.{free}
 use Rattle.tree.specs.declared.table.Operand.{Operand}
 use Rattle.tree_shapes.specs.Shapes.{shapeLines, firstInShape}
 use Rattle.tree.specs.Trees.{labelAt}
@@ -12,44 +13,8 @@ use Rattle.tree_shapes.proofs.Shapes.{shape-is, first-is}
 use Rattle.classify.specs.Classify.{pathLines, lastTypeInPath}
 use Rattle.classify.specs.Steps.{flowBy}
 use Rattle.classify.proofs.Steps.{path-one}
-use borrow.Author.Needs.{needs}
 use Rattle.classify.proofs.path_step.Statement.{statement}
 use Rattle.classify.proofs.path_step.Tie as tie
-
-shape-at-requires : tie.Need-shape-at-requires
-shape-at-requires c κs = search needs
-
-form-at-requires : tie.Need-form-at-requires
-form-at-requires c κs = search needs
-
-first-requires : tie.Need-first-requires
-first-requires c κs = search needs
-
-go-on-requires : tie.Need-go-on-requires
-go-on-requires c κs = search needs
-
-first-requires-2 : tie.Need-first-requires-2
-first-requires-2 c κs = search needs
-
-go-on-requires-2 : tie.Need-go-on-requires-2
-go-on-requires-2 c κs = search needs
-
-cell-requires : tie.Need-cell-requires
-cell-requires c κs = search needs
-
-first-requires-3 : tie.Need-first-requires-3
-first-requires-3 c κs = search needs
-
-last-type-in-path-requires : tie.Need-last-type-in-path-requires
-last-type-in-path-requires c κs = search needs
-
-returns : tie.Need-returns
-unfolding pathLines shapeLines firstInShape
-returns c = c .go-on .ensures ∙ ap flowBy (ap (into false) (c .before .first .ensures ∙ ap firstInShape (c .before .before .before .before .shape-at .ensures ∙ shape-is _ _ _ _ (c .before .before .before .form-at .ensures) (42 ∷ 50 ∷ []) (c .before .before .match .keys1) 4 tt tt)) ∙ form-arm _ _ _ pathLines _ false _ (c .before .before .before .form-at .ensures) tt 0 tt (c .before .before .match .keys1) _ refl)
-
-returns-2 : tie.Need-returns-2
-unfolding pathLines shapeLines firstInShape
-returns-2 c = c .go-on2 .ensures ∙ ap flowBy (ap (into false) (c .before .first2 .ensures ∙ ap firstInShape (c .before .before .before .before .shape-at .ensures ∙ shape-is _ _ _ _ (c .before .before .before .form-at .ensures) (51 ∷ []) (c .before .before .match .keys2) 5 tt tt)) ∙ form-arm _ _ _ pathLines _ false _ (c .before .before .before .form-at .ensures) tt 1 tt (c .before .before .match .keys2) _ refl)
 
 returns-3 : tie.Need-returns-3
 unfolding pathLines labelAt shapeLines
@@ -60,24 +25,11 @@ returns-3 c =
     ∙ sym (path-one _ _ _)
     ∙ form-arm _ _ _ pathLines _ false _ (c .before .before .before .before .form-at .ensures) tt 2 tt (c .before .before .before .match .keys3) _ refl)
 
-returns-4 : tie.Need-returns-4
-unfolding pathLines
-returns-4 c = ap flowBy (form-rest _ _ _ pathLines _ false _ (c .before .form-at .ensures) (c .match .rest) _ (λ h k. refl) (λ n. refl))
-
 pub path-step-spec : {M : Type 1} → statement M
+unfolding pathLines shapeLines firstInShape
 path-step-spec =
-    tie.close
-    (tie.spec
-    shape-at-requires
-    form-at-requires
-    first-requires
-    go-on-requires
-    first-requires-2
-    go-on-requires-2
-    cell-requires
-    first-requires-3
-    last-type-in-path-requires
-    returns
-    returns-2
+    tie.close (tie.spec free free free free free free free free free
+    (λ c. c .go-on .ensures ∙ ap flowBy (ap (into false) (c .before .first .ensures ∙ ap firstInShape (c .before .before .before .before .shape-at .ensures ∙ shape-is _ _ _ _ (c .before .before .before .form-at .ensures) (42 ∷ 50 ∷ []) (c .before .before .match .keys1) 4 tt tt)) ∙ form-arm _ _ _ pathLines _ false _ (c .before .before .before .form-at .ensures) tt 0 tt (c .before .before .match .keys1) _ refl))
+    (λ c. c .go-on2 .ensures ∙ ap flowBy (ap (into false) (c .before .first2 .ensures ∙ ap firstInShape (c .before .before .before .before .shape-at .ensures ∙ shape-is _ _ _ _ (c .before .before .before .form-at .ensures) (51 ∷ []) (c .before .before .match .keys2) 5 tt tt)) ∙ form-arm _ _ _ pathLines _ false _ (c .before .before .before .form-at .ensures) tt 1 tt (c .before .before .match .keys2) _ refl))
     returns-3
-    returns-4)
+    (λ c. ap flowBy (form-rest _ _ _ pathLines _ false _ (c .before .form-at .ensures) (c .match .rest) _ (λ h k. refl) (λ n. refl))))

@@ -4,9 +4,6 @@ use Rattle.expr.specs.Handed.{neither}
 use Rattle.expr.proofs.neither.Statement.{statement}
 use Rattle.expr.proofs.neither.Tie as tie
 
-returns : tie.Need-returns
-unfolding neither
-returns c = refl
-
 pub neither-spec : {M : Type 1} → statement M
-neither-spec = tie.close (tie.spec returns)
+unfolding neither
+neither-spec = tie.close (tie.spec (λ c. refl))

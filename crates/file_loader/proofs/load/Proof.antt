@@ -1,23 +1,12 @@
 -- `tree_file::load` meets its contract. Assumes nothing.
 use mathlib.Core.Path.{_≡_, refl, sym, _∙_, subst}
 use native.Mathlib.Omega.{arith}
+use Rattle.laws.proofs.Calls.{free}
 use Rattle.file_loader.specs.Reads.{HeaderRead}
 use Rattle.file_loader.proofs.Files.{refused, too-long, bad-header, begun}
 use borrow.Author.Needs.{needs}
 use Rattle.file_loader.proofs.load.Statement.{statement}
 use Rattle.file_loader.proofs.load.Tie as tie
-
-returns : tie.Need-returns
-returns c = refused _ _ 1 (too-long _ _ (c .if1 .taken)) (λ z. omega arith)
-
-read-header-requires : tie.Need-read-header-requires
-read-header-requires c κs = search needs
-
-enum-known-context : tie.Need-enum-known-context
-enum-known-context c = search needs
-
-enum-told : tie.Need-enum-told
-enum-told c = search needs
 
 returns-2 : tie.Need-returns-2
 returns-2 c =
@@ -25,24 +14,9 @@ returns-2 c =
     (bad-header _ _ (c .before .before .before .if1 .left) (rw (c .enum-told .given .1) at (c .before .before .read-header .ensures)))
     (λ z. omega arith)
 
-load-nodes-requires : tie.Need-load-nodes-requires
-load-nodes-requires c κs = begun _ _ _ _ (c .before .before .before .before .before .if1 .left) (rw (c .before .before .context .given .1) at (c .before .before .before .before .read-header .ensures))
-
-same-length : tie.Need-same-length
-same-length c = search needs
-
-returns-3 : tie.Need-returns-3
-returns-3 c = search needs
-
 pub load-spec : {M : Type 1} → statement M
 load-spec =
-    tie.close
-    (tie.spec
-    returns
-    read-header-requires
-    enum-known-context
-    enum-told
-    returns-2
-    load-nodes-requires
-    same-length
-    returns-3)
+    tie.close (tie.spec (λ c. refused _ _ 1 (too-long _ _ (c .if1 .taken)) (λ z. omega arith)) free (λ c. search needs)
+    (λ c. search needs) returns-2
+    (λ c κs. begun _ _ _ _ (c .before .before .before .before .before .if1 .left) (rw (c .before .before .context .given .1) at (c .before .before .before .before .read-header .ensures)))
+    (λ c. search needs) (λ c. search needs))

@@ -4,36 +4,13 @@ use Prim.Native.Nat.{ℕ, _*_, _≤_}
 use native.Mathlib.Omega.{arith}
 use lib.ListN.{length-replicate}
 use lib.Seq.{length-take-le}
+use Rattle.laws.proofs.Calls.{free}
 use Rattle.tree_rules.proofs.Count.{count-fits}
 use Rattle.file_loader.proofs.Files.{refused, bad-context, bad-count, bad-body, trailing, refused-nodes, accepted-nodes, own-room}
 use Rattle.tree.specs.Sizes.{nodeCells, mostNodes}
 use borrow.Author.Needs.{needs}
 use Rattle.file_loader.proofs.load_nodes.Statement.{statement}
 use Rattle.file_loader.proofs.load_nodes.Tie as tie
-
-returns : tie.Need-returns
-returns c = refused _ _ 3 (bad-context _ _ _ _ _ (c .before .before .before .pre) (c .if1 .taken)) (λ z. omega arith)
-
-is-bad-count-requires : tie.Need-is-bad-count-requires
-is-bad-count-requires c κs = search needs
-
-returns-2 : tie.Need-returns-2
-returns-2 c = refused _ _ 4 (bad-count _ _ _ _ _ (c .before .before .before .before .before .pre) (c .before .before .if1 .left) (sym (c .before .is-bad-count .ensures) ∙ c .if2 .taken)) (λ z. omega arith)
-
-mul-cells : tie.Need-mul-cells
-mul-cells c = search needs
-
-slice-aggregate-read-body : tie.Need-slice-aggregate-read-body
-slice-aggregate-read-body c = sym (length-replicate {A = ℕ} (nodeCells * mostNodes) 0)
-
-read-body-requires : tie.Need-read-body-requires
-read-body-requires c κs = own-room _ _ _ (sym (c .before .before .is-bad-count .ensures) ∙ c .before .if2 .left) (length-replicate {A = ℕ} (nodeCells * mostNodes) 0)
-
-enum-known-end : tie.Need-enum-known-end
-enum-known-end c = search needs
-
-enum-told : tie.Need-enum-told
-enum-told c = search needs
 
 returns-3 : tie.Need-returns-3
 returns-3 c =
@@ -46,15 +23,6 @@ returns-4 c =
     refused _ _ 5
     (trailing _ _ _ _ _ (c .before .before .before .before .before .before .before .before .before .before .before .before .pre) (c .before .before .before .before .before .before .before .before .before .if1 .left) (sym (c .before .before .before .before .before .before .before .before .is-bad-count .ensures) ∙ c .before .before .before .before .before .before .before .if2 .left) _ _ (rw (c .before .before .end .given .1) at (c .before .before .before .before .before .read-body .ensures .0)) (c .if3 .taken))
     (λ z. omega arith)
-
-array-share-prefix-own : tie.Need-array-share-prefix-own
-array-share-prefix-own c = own-room _ _ _ (sym (c .before .before .before .before .before .before .before .before .is-bad-count .ensures) ∙ c .before .before .before .before .before .before .before .if2 .left) (c .before .before .before .before .before .read-body .ensures .1 ∙ length-replicate {A = ℕ} (nodeCells * mostNodes) 0)
-
-slice-aggregate-check : tie.Need-slice-aggregate-check
-slice-aggregate-check c = sym (length-take-le _ _ (own-room _ _ _ (sym (c .before .before .before .before .before .before .before .before .before .is-bad-count .ensures) ∙ c .before .before .before .before .before .before .before .before .if2 .left) (c .before .before .before .before .before .before .read-body .ensures .1 ∙ length-replicate {A = ℕ} (nodeCells * mostNodes) 0)))
-
-check-requires : tie.Need-check-requires
-check-requires c κs = search needs
 
 returns-5 : tie.Need-returns-5
 returns-5 c =
@@ -69,16 +37,10 @@ returns-5 c =
     (c .before .check .ensures)
     (c .if4 .taken)
 
-slice-aggregate-store : tie.Need-slice-aggregate-store
-slice-aggregate-store c = sym (c .before .before .before .before .before .before .before .before .before .read-body .ensures .1 ∙ length-replicate {A = ℕ} (nodeCells * mostNodes) 0)
-
 store-requires : tie.Need-store-requires
 store-requires c κs =
     let e = sym (c .before .before .before .before .before .before .before .before .before .before .before .before .before .is-bad-count .ensures) ∙ c .before .before .before .before .before .before .before .before .before .before .before .before .if2 .left in
     (own-room _ _ _ e (c .before .before .before .before .before .before .before .before .before .before .read-body .ensures .1 ∙ length-replicate {A = ℕ} (nodeCells * mostNodes) 0), count-fits _ _ e .2)
-
-same-length : tie.Need-same-length
-same-length c = search needs
 
 returns-6 : tie.Need-returns-6
 returns-6 c =
@@ -95,23 +57,15 @@ returns-6 c =
 
 pub load-nodes-spec : {M : Type 1} → statement M
 load-nodes-spec =
-    tie.close
-    (tie.spec
-    returns
-    is-bad-count-requires
-    returns-2
-    mul-cells
-    slice-aggregate-read-body
-    read-body-requires
-    enum-known-end
-    enum-told
-    returns-3
-    returns-4
-    array-share-prefix-own
-    slice-aggregate-check
-    check-requires
-    returns-5
-    slice-aggregate-store
-    store-requires
-    same-length
-    returns-6)
+    tie.close (tie.spec
+    (λ c. refused _ _ 3 (bad-context _ _ _ _ _ (c .before .before .before .pre) (c .if1 .taken)) (λ z. omega arith))
+    free
+    (λ c. refused _ _ 4 (bad-count _ _ _ _ _ (c .before .before .before .before .before .pre) (c .before .before .if1 .left) (sym (c .before .is-bad-count .ensures) ∙ c .if2 .taken)) (λ z. omega arith))
+    (λ c. search needs) (λ c. sym (length-replicate {A = ℕ} (nodeCells * mostNodes) 0))
+    (λ c κs. own-room _ _ _ (sym (c .before .before .is-bad-count .ensures) ∙ c .before .if2 .left) (length-replicate {A = ℕ} (nodeCells * mostNodes) 0))
+    (λ c. search needs) (λ c. search needs) returns-3 returns-4
+    (λ c. own-room _ _ _ (sym (c .before .before .before .before .before .before .before .before .is-bad-count .ensures) ∙ c .before .before .before .before .before .before .before .if2 .left) (c .before .before .before .before .before .read-body .ensures .1 ∙ length-replicate {A = ℕ} (nodeCells * mostNodes) 0))
+    (λ c. sym (length-take-le _ _ (own-room _ _ _ (sym (c .before .before .before .before .before .before .before .before .before .is-bad-count .ensures) ∙ c .before .before .before .before .before .before .before .before .if2 .left) (c .before .before .before .before .before .before .read-body .ensures .1 ∙ length-replicate {A = ℕ} (nodeCells * mostNodes) 0))))
+    free returns-5
+    (λ c. sym (c .before .before .before .before .before .before .before .before .before .read-body .ensures .1 ∙ length-replicate {A = ℕ} (nodeCells * mostNodes) 0))
+    store-requires (λ c. search needs) returns-6)

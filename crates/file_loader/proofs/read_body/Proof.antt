@@ -6,6 +6,7 @@ use native.Mathlib.Omega.{arith}
 use borrow.Author.Needs.{needs}
 use lib.ListN.{length, take, drop, length-set}
 use lib.Seq.{take-suc-set}
+use Rattle.laws.proofs.Calls.{free}
 use Rattle.file_loader.specs.Several.{numbers, numbersOf}
 use Rattle.file_loader.proofs.Several.{number-bad, numbers-next, numbers-stop}
 use Rattle.file_loader.proofs.read_body.Statement.{statement}
@@ -17,38 +18,10 @@ Inv-loop file from cells own₀ at₀ done₀ own at done = (done ≤ cells) × 
 abbrev μ-loop : tie.MeasureT-loop
 μ-loop file from cells own₀ at₀ done₀ own at done = cells - done
 
-loop-holds : tie.Need-loop-holds Inv-loop μ-loop
-unfolding numbersOf
-loop-holds c = (omega arith, refl, refl)
-
-number-at-requires : tie.Need-number-at-requires Inv-loop μ-loop
-number-at-requires c κs = search needs
-
-enum-known-value : tie.Need-enum-known-value Inv-loop μ-loop
-enum-known-value c = search needs
-
-enum-told : tie.Need-enum-told Inv-loop μ-loop
-enum-told c = search needs
-
-same-length : tie.Need-same-length Inv-loop μ-loop
-same-length c = c .before .before .before .before .loop .inv .1
-
 returns : tie.Need-returns Inv-loop μ-loop
 returns c =
     let l = c .before .before .before .before .loop in
     (numbers-stop (l .done) _ _ _ _ (c .before .before .before .loop-test .taken) (l .inv .2) (number-bad _ _ (sym (c .enum-told .given .1) ∙ c .before .before .number-at .ensures)), l .inv .1)
-
-mul-own : tie.Need-mul-own Inv-loop μ-loop
-mul-own c = search needs
-
-slice-write-own : tie.Need-slice-write-own Inv-loop μ-loop
-slice-write-own c = omega arith
-
-add-done : tie.Need-add-done Inv-loop μ-loop
-add-done c = omega arith
-
-loop-less : tie.Need-loop-less Inv-loop μ-loop
-loop-less c = omega arith
 
 loop-again : tie.Need-loop-again Inv-loop μ-loop
 loop-again c =
@@ -61,9 +34,6 @@ loop-again c =
           ∙ rw (take-suc-set (l .own) (l .done) _ (omega arith))),
     )
 
-same-length-2 : tie.Need-same-length-2 Inv-loop μ-loop
-same-length-2 c = c .before .loop .inv .1
-
 returns-2 : tie.Need-returns-2 Inv-loop μ-loop
 returns-2 c =
     let l = c .before .loop in
@@ -71,21 +41,8 @@ returns-2 c =
     (rw e at (l .inv .2), l .inv .1)
 
 pub read-body-spec : {M : Type 1} → statement M
+unfolding numbersOf
 read-body-spec =
-    tie.close
-    (tie.spec
-    Inv-loop
-    μ-loop
-    loop-holds
-    number-at-requires
-    enum-known-value
-    enum-told
-    same-length
-    returns
-    mul-own
-    slice-write-own
-    add-done
-    loop-less
-    loop-again
-    same-length-2
-    returns-2)
+    tie.close (tie.spec Inv-loop μ-loop (λ c. (omega arith, refl, refl)) free (λ c. search needs) (λ c. search needs)
+    (λ c. c .before .before .before .before .loop .inv .1) returns (λ c. search needs) (λ c. omega arith)
+    (λ c. omega arith) (λ c. omega arith) loop-again (λ c. c .before .loop .inv .1) returns-2)

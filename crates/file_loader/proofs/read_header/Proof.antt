@@ -2,34 +2,13 @@
 use mathlib.Core.Path.{_≡_, refl, sym, _∙_}
 use mathlib.Core.List.{[]}
 use native.Mathlib.Omega.{arith}
+use Rattle.laws.proofs.Calls.{free}
 use Rattle.file_loader.specs.Several.{numbersOf}
 use Rattle.file_loader.specs.Files.{header}
 use Rattle.file_loader.proofs.Several.{number-bad, numbers-next, numbers-stop}
 use borrow.Author.Needs.{needs}
 use Rattle.file_loader.proofs.read_header.Statement.{statement}
 use Rattle.file_loader.proofs.read_header.Tie as tie
-
-number-at-requires : tie.Need-number-at-requires
-number-at-requires c κs = search needs
-
-enum-known-context : tie.Need-enum-known-context
-enum-known-context c = search needs
-
-enum-told : tie.Need-enum-told
-enum-told c = search needs
-
-returns : tie.Need-returns
-unfolding header numbersOf
-returns c = numbers-stop 0 2 _ [] _ (omega arith) refl (number-bad _ 0 (sym (c .enum-told .given .1) ∙ c .before .before .number-at .ensures))
-
-number-at-requires-2 : tie.Need-number-at-requires-2
-number-at-requires-2 c κs = search needs
-
-enum-known-count : tie.Need-enum-known-count
-enum-known-count c = search needs
-
-enum-told-2 : tie.Need-enum-told-2
-enum-told-2 c = search needs
 
 returns-2 : tie.Need-returns-2
 unfolding header numbersOf
@@ -44,15 +23,8 @@ returns-3 c =
     numbers-next 1 _ _ _ _ _ _ one (sym (c .before .count .given .1) ∙ c .before .before .before .number-at2 .ensures)
 
 pub read-header-spec : {M : Type 1} → statement M
+unfolding header numbersOf
 read-header-spec =
-    tie.close
-    (tie.spec
-    number-at-requires
-    enum-known-context
-    enum-told
-    returns
-    number-at-requires-2
-    enum-known-count
-    enum-told-2
-    returns-2
-    returns-3)
+    tie.close (tie.spec free (λ c. search needs) (λ c. search needs)
+    (λ c. numbers-stop 0 2 _ [] _ (omega arith) refl (number-bad _ 0 (sym (c .enum-told .given .1) ∙ c .before .before .number-at .ensures)))
+    free (λ c. search needs) (λ c. search needs) returns-2 returns-3)

@@ -15,35 +15,11 @@ Inv-loop own cells table₀ done₀ table done = (done ≤ cells) × (length tab
 abbrev μ-loop : tie.MeasureT-loop
 μ-loop own cells table₀ done₀ table done = cells - done
 
-loop-holds : tie.Need-loop-holds Inv-loop μ-loop
-loop-holds c = (omega arith, refl, sym (over-none (c .args .own .now) (c .args .table .now)))
-
-mul-table : tie.Need-mul-table Inv-loop μ-loop
-mul-table c = search needs
-
-shared-slice-read-table : tie.Need-shared-slice-read-table Inv-loop μ-loop
-shared-slice-read-table c = omega arith
-
-mul-table-2 : tie.Need-mul-table-2 Inv-loop μ-loop
-mul-table-2 c = search needs
-
-slice-write-table : tie.Need-slice-write-table Inv-loop μ-loop
-slice-write-table c = omega arith
-
-add-done : tie.Need-add-done Inv-loop μ-loop
-add-done c = omega arith
-
-loop-less : tie.Need-loop-less Inv-loop μ-loop
-loop-less c = omega arith
-
 loop-again : tie.Need-loop-again Inv-loop μ-loop
 loop-again c =
     let l = c .before .before .loop in
     let e : l .done + 1 ≡ suc (l .done) = omega arith in
     (omega arith, simp length-set (l .inv .1), rw e (rw (l .inv .2) (over-more _ _ (l .done) 0 (omega arith) (omega arith))))
-
-same-length : tie.Need-same-length Inv-loop μ-loop
-same-length c = c .before .loop .inv .1
 
 returns : tie.Need-returns Inv-loop μ-loop
 returns c =
@@ -53,17 +29,7 @@ returns c =
 
 pub store-spec : {M : Type 1} → statement M
 store-spec =
-    tie.close
-    (tie.spec
-    Inv-loop
-    μ-loop
-    loop-holds
-    mul-table
-    shared-slice-read-table
-    mul-table-2
-    slice-write-table
-    add-done
-    loop-less
-    loop-again
-    same-length
-    returns)
+    tie.close (tie.spec Inv-loop μ-loop
+    (λ c. (omega arith, refl, sym (over-none (c .args .own .now) (c .args .table .now)))) (λ c. search needs)
+    (λ c. omega arith) (λ c. search needs) (λ c. omega arith) (λ c. omega arith) (λ c. omega arith) loop-again
+    (λ c. c .before .loop .inv .1) returns)

@@ -1,20 +1,12 @@
 -- `look::is_let` meets its contract. Assumes nothing.
+use Rattle.laws.proofs.Calls.{free}
 use Rattle.tree.proofs.Matches.{root-arm, root-rest}
 use Rattle.fixup_look.specs.Looks.{isLet}
-use borrow.Author.Needs.{needs}
 use Rattle.fixup_look.proofs.is_let.Statement.{statement}
 use Rattle.fixup_look.proofs.is_let.Tie as tie
 
-form-at-requires : tie.Need-form-at-requires
-form-at-requires c κs = search needs
-
-returns : tie.Need-returns
-unfolding isLet
-returns c = root-arm _ _ _ _ _ _ (c .before .form-at .ensures) tt 0 tt (c .match .keys1)
-
-returns-2 : tie.Need-returns-2
-unfolding isLet
-returns-2 c = root-rest _ _ _ _ _ _ (c .before .form-at .ensures) (c .match .rest)
-
 pub is-let-spec : {M : Type 1} → statement M
-is-let-spec = tie.close (tie.spec form-at-requires returns returns-2)
+unfolding isLet
+is-let-spec =
+    tie.close (tie.spec free (λ c. root-arm _ _ _ _ _ _ (c .before .form-at .ensures) tt 0 tt (c .match .keys1))
+    (λ c. root-rest _ _ _ _ _ _ (c .before .form-at .ensures) (c .match .rest)))

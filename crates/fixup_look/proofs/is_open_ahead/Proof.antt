@@ -2,6 +2,7 @@
 use mathlib.Core.Path.{sym, ap, _∙_}
 use mathlib.Core.Bool.{not}
 use mathlib.Core.List.{[], _∷_}
+use Rattle.laws.proofs.Calls.{free}
 use Rattle.tree.specs.declared.table.Operand.{Operand}
 use Rattle.tree_shapes.specs.Shapes.{shapeLines, firstInShape}
 use Rattle.tree.specs.Steps.{isPresent}
@@ -9,38 +10,13 @@ use Rattle.tree.proofs.Walks.{there}
 use Rattle.tree.proofs.Matches.{root-arm, root-rest}
 use Rattle.tree_shapes.proofs.Shapes.{shape-is}
 use Rattle.fixup_look.specs.Looks.{isOpenAhead}
-use borrow.Author.Needs.{needs}
 use Rattle.fixup_look.proofs.is_open_ahead.Statement.{statement}
 use Rattle.fixup_look.proofs.is_open_ahead.Tie as tie
 
-form-at-requires : tie.Need-form-at-requires
-form-at-requires c κs = search needs
-
-first-at-requires : tie.Need-first-at-requires
-first-at-requires c κs = search needs
-
-is-absent-requires : tie.Need-is-absent-requires
-is-absent-requires c κs = search needs
-
-returns : tie.Need-returns
-unfolding isOpenAhead
-returns c = root-arm _ _ _ _ _ _ (c .before .form-at .ensures) tt 0 tt (c .match .keys1)
-
-returns-2 : tie.Need-returns-2
-unfolding isOpenAhead shapeLines firstInShape
-returns-2 c = c .is-absent .ensures ∙ ap (λ (p : Operand). not (isPresent p)) (c .before .first-at .ensures ∙ ap firstInShape (shape-is _ _ _ _ (c .before .before .before .form-at .ensures) (27 ∷ []) (c .before .before .match .keys2) 0 tt tt)) ∙ ap not (sym (there (c .before .before .before .before .before .args .table .now) (c .before .before .before .before .before .args .count) (c .before .before .before .before .before .args .node) _)) ∙ root-arm _ _ _ _ _ _ (c .before .before .before .form-at .ensures) tt 1 tt (c .before .before .match .keys2)
-
-returns-3 : tie.Need-returns-3
-unfolding isOpenAhead
-returns-3 c = root-rest _ _ _ _ _ _ (c .before .form-at .ensures) (c .match .rest)
-
 pub is-open-ahead-spec : {M : Type 1} → statement M
+unfolding isOpenAhead shapeLines firstInShape
 is-open-ahead-spec =
-    tie.close
-    (tie.spec
-    form-at-requires
-    first-at-requires
-    is-absent-requires
-    returns
-    returns-2
-    returns-3)
+    tie.close (tie.spec free free free
+    (λ c. root-arm _ _ _ _ _ _ (c .before .form-at .ensures) tt 0 tt (c .match .keys1))
+    (λ c. c .is-absent .ensures ∙ ap (λ (p : Operand). not (isPresent p)) (c .before .first-at .ensures ∙ ap firstInShape (shape-is _ _ _ _ (c .before .before .before .form-at .ensures) (27 ∷ []) (c .before .before .match .keys2) 0 tt tt)) ∙ ap not (sym (there (c .before .before .before .before .before .args .table .now) (c .before .before .before .before .before .args .count) (c .before .before .before .before .before .args .node) _)) ∙ root-arm _ _ _ _ _ _ (c .before .before .before .form-at .ensures) tt 1 tt (c .before .before .match .keys2))
+    (λ c. root-rest _ _ _ _ _ _ (c .before .form-at .ensures) (c .match .rest)))

@@ -7,19 +7,7 @@ use borrow.Author.Needs.{needs}
 use Rattle.fixup_subexpression.proofs.leftmost_subexpression_with_operator.Statement.{statement}
 use Rattle.fixup_subexpression.proofs.leftmost_subexpression_with_operator.Tie as tie
 
-leftmost-fixup-with-operator-requires : tie.Need-leftmost-fixup-with-operator-requires
-leftmost-fixup-with-operator-requires c κs = search needs
-
-leftmost-subexpression-precedence-requires : tie.Need-leftmost-subexpression-precedence-requires
-leftmost-subexpression-precedence-requires c κs = search needs
-
-returns : tie.Need-returns
-returns c = operand-by ((c .leftmost-subexpression-precedence .ensures) ∙ ap (leftmostPrecedence (treeAt (c .before .before .before .args .table .now) (c .before .before .before .args .count) (c .before .before .before .args .node))) (c .before .leftmost-fixup-with-operator .ensures)) (c .before .leftmost-fixup-with-operator .ensures)
-
 pub leftmost-subexpression-with-operator-spec : {M : Type 1} → statement M
 leftmost-subexpression-with-operator-spec =
-    tie.close
-    (tie.spec
-    leftmost-fixup-with-operator-requires
-    leftmost-subexpression-precedence-requires
-    returns)
+    tie.close (tie.spec (λ c κs. search needs) (λ c κs. search needs)
+    (λ c. operand-by ((c .leftmost-subexpression-precedence .ensures) ∙ ap (leftmostPrecedence (treeAt (c .before .before .before .args .table .now) (c .before .before .before .args .count) (c .before .before .before .args .node))) (c .before .leftmost-fixup-with-operator .ensures)) (c .before .leftmost-fixup-with-operator .ensures)))

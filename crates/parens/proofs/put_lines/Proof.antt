@@ -17,16 +17,9 @@ Inv-loop out₀ end count table rows at₀ node₀ out at node = (node ≤ count
 abbrev μ-loop : tie.MeasureT-loop
 μ-loop out₀ end count table rows at₀ node₀ out at node = count - node
 
-loop-holds : tie.Need-loop-holds Inv-loop μ-loop
-unfolding joined
-loop-holds c = (omega arith, grown-none _ _)
-
 loop-again : tie.Need-loop-again Inv-loop μ-loop
 loop-again c =
     (omega arith, grown-next _ _ (c .before .before .before .before .before .loop .inv .1) (c .before .before .put-node .ensures))
-
-same-length : tie.Need-same-length Inv-loop μ-loop
-same-length c = c .before .loop .inv .1 .room
 
 returns : tie.Need-returns Inv-loop μ-loop
 returns c =
@@ -35,7 +28,7 @@ returns c =
     rw e at (l .inv .1)
 
 pub put-lines-spec : {M : Type 1} → statement M
+unfolding joined
 put-lines-spec =
-    tie.close
-    (tie.spec Inv-loop μ-loop loop-holds (λ c. omega arith) (λ c κs. search needs) (λ c. omega arith) loop-again
-    same-length returns)
+    tie.close (tie.spec Inv-loop μ-loop (λ c. (omega arith, grown-none _ _)) (λ c. omega arith) (λ c κs. search needs)
+    (λ c. omega arith) loop-again (λ c. c .before .loop .inv .1 .room) returns)

@@ -7,15 +7,12 @@ use borrow.Author.Needs.{needs}
 use Rattle.parens.proofs.put_node.Statement.{statement}
 use Rattle.parens.proofs.put_node.Tie as tie
 
-returns : tie.Need-returns
-returns c = rw (no-line _ _ _ _ _ (c .before .class-of .ensures ∙ ap classOf (c .before .before .form-at .ensures)) (c .if1 .taken)) (grown-none _ _)
-
 returns-2 : tie.Need-returns-2
 returns-2 c =
     rw (a-line _ _ _ _ _ (c .before .before .before .before .before .class-of .ensures ∙ ap classOf (c .before .before .before .before .before .before .form-at .ensures)) (c .before .before .before .before .if1 .left)) (c .before .before .put-row .ensures)
 
 pub put-node-spec : {M : Type 1} → statement M
 put-node-spec =
-    tie.close
-    (tie.spec (λ c κs. search needs) (λ c κs. search needs) returns (λ c κs. search needs) (λ c. search needs)
-    returns-2)
+    tie.close (tie.spec (λ c κs. search needs) (λ c κs. search needs)
+    (λ c. rw (no-line _ _ _ _ _ (c .before .class-of .ensures ∙ ap classOf (c .before .before .form-at .ensures)) (c .if1 .taken)) (grown-none _ _))
+    (λ c κs. search needs) (λ c. search needs) returns-2)

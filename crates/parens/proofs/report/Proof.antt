@@ -9,36 +9,12 @@ use borrow.Author.Needs.{needs}
 use Rattle.parens.proofs.report.Statement.{statement}
 use Rattle.parens.proofs.report.Tie as tie
 
-array-share-prefix-table : tie.Need-array-share-prefix-table
-array-share-prefix-table c =
-    let l = c .before .before .before .before .before .load .ensures in
-    cells-within _ _ (l .1) _ _ (sym (c .before .before .context .given .1) ∙ l .0)
-
-slice-aggregate-put-rows : tie.Need-slice-aggregate-put-rows
-slice-aggregate-put-rows c =
-    let l = c .before .before .before .before .before .before .load .ensures in
-    sym (length-take-le _ _ (cells-within _ _ (l .1) _ _ (sym (c .before .before .before .context .given .1) ∙ l .0)))
-
-put-rows-requires : tie.Need-put-rows-requires
-put-rows-requires c κs =
-    let l = c .before .before .before .before .before .before .load .ensures in
-    let e = cells-accepted _ _ (l .1) _ _ (sym (c .before .before .before .context .given .1) ∙ l .0) in
-    (e .0, e .1, search needs)
-
-returns : tie.Need-returns
-returns c =
-    let l = c .before .before .before .before .before .before .load .ensures in
-    let head = no-most (c .before .before .before .why .given .0 .0) (omega arith) in
-    rw (← printed-refusal _ _ (l .1) _ (sym (c .before .before .before .why .given .1) ∙ l .0)) (whole (fits (omega arith) (c .put-no .ensures)))
-
-returns-2 : tie.Need-returns-2
-returns-2 c =
-    let l = c .before .before .before .before .before .before .before .load .ensures in
-    rw (← printed-rows _ _ (l .1) _ _ (sym (c .before .before .before .before .context .given .1) ∙ l .0)) (whole (c .put-rows .ensures))
-
 pub report-spec : {M : Type 1} → statement M
 report-spec =
-    tie.close
-    (tie.spec (λ c. search needs) (λ c κs. search needs) (λ c. search needs) (λ c κs. search needs)
-    (λ c. search needs) (λ c. search needs) (λ c. search needs) array-share-prefix-table slice-aggregate-put-rows
-    put-rows-requires returns returns-2)
+    tie.close (tie.spec (λ c. search needs) (λ c κs. search needs) (λ c. search needs) (λ c κs. search needs)
+    (λ c. search needs) (λ c. search needs) (λ c. search needs)
+    (λ c. cells-within _ _ (c .before .before .before .before .before .load .ensures .1) _ _ (sym (c .before .before .context .given .1) ∙ c .before .before .before .before .before .load .ensures .0))
+    (λ c. sym (length-take-le _ _ (cells-within _ _ (c .before .before .before .before .before .before .load .ensures .1) _ _ (sym (c .before .before .before .context .given .1) ∙ c .before .before .before .before .before .before .load .ensures .0))))
+    (λ c κs. let e = cells-accepted _ _ (c .before .before .before .before .before .before .load .ensures .1) _ _ (sym (c .before .before .before .context .given .1) ∙ c .before .before .before .before .before .before .load .ensures .0) in (e .0, e .1, search needs))
+    (λ c. let head = no-most (c .before .before .before .why .given .0 .0) (omega arith) in rw (← printed-refusal _ _ (c .before .before .before .before .before .before .load .ensures .1) _ (sym (c .before .before .before .why .given .1) ∙ c .before .before .before .before .before .before .load .ensures .0)) (whole (fits (omega arith) (c .put-no .ensures))))
+    (λ c. rw (← printed-rows _ _ (c .before .before .before .before .before .before .before .load .ensures .1) _ _ (sym (c .before .before .before .before .context .given .1) ∙ c .before .before .before .before .before .before .before .load .ensures .0)) (whole (c .put-rows .ensures))))

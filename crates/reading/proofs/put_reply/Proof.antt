@@ -33,6 +33,5 @@ returns-2 c =
 
 pub put-reply-spec : {M : Type 1} → statement M
 put-reply-spec =
-    tie.close
-    (tie.spec (λ c. search needs) (λ c κs. search needs) (λ c. search needs) (λ c κs. search needs)
+    tie.close (tie.spec (λ c. search needs) (λ c κs. search needs) (λ c. search needs) (λ c κs. search needs)
     (λ c. search needs) (λ c. search needs) put-table-requires returns returns-2)

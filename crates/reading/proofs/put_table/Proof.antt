@@ -20,5 +20,4 @@ returns c =
 
 pub put-table-spec : {M : Type 1} → statement M
 put-table-spec =
-    tie.close
-    (tie.spec (λ c κs. search needs) (λ c κs. search needs) (λ c. search needs) returns)
+    tie.close (tie.spec (λ c κs. search needs) (λ c κs. search needs) (λ c. search needs) returns)

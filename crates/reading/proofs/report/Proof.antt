@@ -45,6 +45,5 @@ returns c =
 
 pub report-spec : {M : Type 1} → statement M
 report-spec =
-    tie.close
-    (tie.spec (λ c. search needs) (λ c κs. search needs) array-share-prefix-codes slice-aggregate-put-reply
+    tie.close (tie.spec (λ c. search needs) (λ c κs. search needs) array-share-prefix-codes slice-aggregate-put-reply
     (λ c κs. search needs) returns)

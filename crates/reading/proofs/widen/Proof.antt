@@ -16,21 +16,12 @@ Inv-loop file codes₀ done₀ codes done = (done ≤ length file) × (length co
 abbrev μ-loop : tie.MeasureT-loop
 μ-loop file codes₀ done₀ codes done = length file - done
 
-loop-holds : tie.Need-loop-holds Inv-loop μ-loop
-loop-holds c = (omega arith, omega arith, sym (over-none (c .args .file .now) (c .args .codes .now)))
-
-cast-codes : tie.Need-cast-codes Inv-loop μ-loop
-cast-codes c = let byte = c .shared-slice-known .given (c .before .before .loop .done) in search needs
-
 loop-again : tie.Need-loop-again Inv-loop μ-loop
 loop-again c =
     let l = c .before .before .loop in
     let a = c .before .before .before .args in
     let e : l .done + 1 ≡ suc (l .done) = omega arith in
     (omega arith, length-set {A = ℕ} (l .codes) (l .done) _ ∙ l .inv .1, rw (e, l .inv .2) (over-more (a .file .now) (a .codes .now) (l .done) 0 (omega arith) (omega arith)))
-
-same-length : tie.Need-same-length Inv-loop μ-loop
-same-length c = c .before .loop .inv .1
 
 returns : tie.Need-returns Inv-loop μ-loop
 returns c =
@@ -40,6 +31,7 @@ returns c =
 
 pub widen-spec : {M : Type 1} → statement M
 widen-spec =
-    tie.close
-    (tie.spec Inv-loop μ-loop loop-holds (λ c. omega arith) cast-codes (λ c. search needs) (λ c. omega arith)
-    (λ c. omega arith) (λ c. omega arith) loop-again same-length returns)
+    tie.close (tie.spec Inv-loop μ-loop
+    (λ c. (omega arith, omega arith, sym (over-none (c .args .file .now) (c .args .codes .now)))) (λ c. omega arith)
+    (λ c. let byte = c .shared-slice-known .given (c .before .before .loop .done) in search needs) (λ c. search needs)
+    (λ c. omega arith) (λ c. omega arith) (λ c. omega arith) loop-again (λ c. c .before .loop .inv .1) returns)

@@ -12,12 +12,9 @@ Inv-loop fd kind met₀ agreed₀ files₀ different₀ met agreed files differe
 abbrev μ-loop : tie.MeasureT-loop
 μ-loop fd kind met₀ agreed₀ files₀ different₀ met agreed files different = 100_001 - files
 
-loop-again : tie.Need-loop-again Inv-loop μ-loop
-loop-again c = ⊎-elim (λ w. omega arith) (λ w. omega arith) (c .match .came)
-
 pub run-spec : {M : Type 1} → statement M
 run-spec =
-    tie.close
-    (tie.spec Inv-loop μ-loop (λ c. omega arith) (λ c κs. tt) (λ c. search needs) (λ c κs. tt) (λ c. tt)
+    tie.close (tie.spec Inv-loop μ-loop (λ c. omega arith) (λ c κs. tt) (λ c. search needs) (λ c κs. tt) (λ c. tt)
     (λ c. search needs) (λ c κs. tt) (λ c. tt) (λ c. search needs) (λ c κs. tt) (λ c κs. tt) (λ c. search needs)
-    (λ c κs. tt) (λ c. omega arith) (λ c. omega arith) (λ c. omega arith) loop-again (λ c κs. tt) (λ c. tt))
+    (λ c κs. tt) (λ c. omega arith) (λ c. omega arith) (λ c. omega arith)
+    (λ c. ⊎-elim (λ w. omega arith) (λ w. omega arith) (c .match .came)) (λ c κs. tt) (λ c. tt))

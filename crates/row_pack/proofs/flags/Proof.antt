@@ -5,16 +5,12 @@ use Rattle.row_pack.specs.Cells.{ofBits, flagsOf}
 use Rattle.row_pack.proofs.flags.Statement.{statement}
 use Rattle.row_pack.proofs.flags.Tie as tie
 
-returns : tie.Need-returns
-unfolding flagsOf ofBits
-returns c = omega arith
-
 pub flags-spec : {M : Type 1} → statement M
+unfolding flagsOf ofBits
 flags-spec =
-    tie.close
-    (tie.spec (λ c κs. search needs) (λ c κs. search needs) (λ c. search needs) (λ c. search needs)
+    tie.close (tie.spec (λ c κs. search needs) (λ c κs. search needs) (λ c. search needs) (λ c. search needs)
     (λ c κs. search needs) (λ c. search needs) (λ c. search needs) (λ c κs. search needs) (λ c. search needs)
     (λ c. search needs) (λ c κs. search needs) (λ c. search needs) (λ c. search needs) (λ c κs. search needs)
     (λ c. search needs) (λ c. search needs) (λ c κs. search needs) (λ c. search needs) (λ c. search needs)
     (λ c κs. search needs) (λ c. search needs) (λ c. search needs) (λ c κs. search needs) (λ c. search needs)
-    (λ c. search needs) (λ c κs. search needs) (λ c. search needs) (λ c. search needs) returns)
+    (λ c. search needs) (λ c κs. search needs) (λ c. search needs) (λ c. search needs) (λ c. omega arith))

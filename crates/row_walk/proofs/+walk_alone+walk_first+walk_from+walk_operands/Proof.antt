@@ -1,11 +1,10 @@
 -- The cycle of the walk meets its contracts: with each call there are fewer numbers above the node, or a function further down the list is called for the same node. The loop of `walk_alone` keeps what is left to be done: the rows of the node that it has come to. Assumes nothing.
-use mathlib.Core.Path.{_≡_, refl, sym, ap, _∙_}
-use mathlib.Core.Bool.{true, false}
-use Prim.Native.Nat.{ℕ, _+_, _*_, _≤_, _<_}
+use mathlib.Core.Path.{_≡_, refl, sym, ap, subst, _∙_}
+use Prim.Native.Nat.{ℕ, _+_, _*_, _≤_}
 use lib.ListN.{length}
 use native.Mathlib.Omega.{arith}
 use borrow.Author.Needs.{needs}
-use borrow.Author.Tests.{eq-eqb, ne-eqb}
+use Rattle.laws.proofs.Calls.{free, given-at, given-below}
 use Rattle.tree.specs.Table.{cellAt, firstColumn, secondColumn}
 use Rattle.tree.specs.Trees.{operandAt, treeAt}
 use Rattle.tree.proofs.Unfold.{tree-past, left, left-falls}
@@ -13,14 +12,13 @@ use Rattle.tree.proofs.Walks.{present-above, absent-zero}
 use Rattle.expr.specs.Expr.{handsFirst, handsSecond}
 use Rattle.row.specs.declared.Row.{Row}
 use Rattle.row.specs.declared.Decision.{Decision}
-use Rattle.row.specs.Rows.{Rows, isExpression}
+use Rattle.row.specs.Rows.{Rows}
 use Rattle.row_walk.specs.Walk.{rowStored, placed}
 use Rattle.row.specs.Steps.{alone}
 use Rattle.row_walk.specs.Steps.{placedAlone}
-use Rattle.row_walk.proofs.Decisions.{own-alone, own-outer, own-kept, row-expression, rows-other, class-is, there}
+use Rattle.row_walk.proofs.Decisions.{own-alone, own-outer, own-kept, row-expression, rows-other, is-expression, is-other, there}
 use Rattle.row_walk.proofs.Placed.{length-stored, length-placed, length-below, placed-none, placed-absent, placed-by, placed-other}
-use borrow.Fn.Kinds.{In}
-use borrow.Fn.PlainCycle.{Measures, is, falls, and}
+use borrow.Fn.PlainCycle.{Measures}
 use Rattle.row_walk.proofs.walk_alone.Reads as walk-alone
 use Rattle.row_walk.proofs.walk_alone.Kinds as walk-alone-kinds
 use Rattle.row_walk.proofs.+walk_alone+walk_first+walk_from+walk_operands.Lts-walk_alone as walk-alone-lts
@@ -59,53 +57,18 @@ abbrev μ-walk-from : Measures 2 walk-from-kinds.ps ℕ
 abbrev μ-walk-operands : Measures 2 walk-operands-kinds.ps ℕ
 μ-walk-operands κs a = 4 * left (a .1 .1 .1 .0) + 1
 
-abbrev walk-alone-at : ℕ → In 2 walk-alone-kinds.ps
-walk-alone-at t =
-    and 2 walk-alone-kinds.ps (is 2 walk-alone-kinds.ps μ-walk-alone t) walk-alone.Pre
-
-abbrev walk-alone-below : ℕ → In 2 walk-alone-kinds.ps
-walk-alone-below t =
-    and 2 walk-alone-kinds.ps (falls 2 walk-alone-kinds.ps _<_ μ-walk-alone t) walk-alone.Pre
-
-abbrev walk-first-at : ℕ → In 2 walk-first-kinds.ps
-walk-first-at t =
-    and 2 walk-first-kinds.ps (is 2 walk-first-kinds.ps μ-walk-first t) walk-first.Pre
-
-abbrev walk-first-below : ℕ → In 2 walk-first-kinds.ps
-walk-first-below t =
-    and 2 walk-first-kinds.ps (falls 2 walk-first-kinds.ps _<_ μ-walk-first t) walk-first.Pre
-
-abbrev walk-from-at : ℕ → In 2 walk-from-kinds.ps
-walk-from-at t = and 2 walk-from-kinds.ps (is 2 walk-from-kinds.ps μ-walk-from t) walk-from.Pre
-
-abbrev walk-from-below : ℕ → In 2 walk-from-kinds.ps
-walk-from-below t =
-    and 2 walk-from-kinds.ps (falls 2 walk-from-kinds.ps _<_ μ-walk-from t) walk-from.Pre
-
-abbrev walk-operands-at : ℕ → In 2 walk-operands-kinds.ps
-walk-operands-at t =
-    and 2 walk-operands-kinds.ps (is 2 walk-operands-kinds.ps μ-walk-operands t) walk-operands.Pre
-
-abbrev walk-operands-below : ℕ → In 2 walk-operands-kinds.ps
-walk-operands-below t =
-    and
-    2
-    walk-operands-kinds.ps
-    (falls 2 walk-operands-kinds.ps _<_ μ-walk-operands t)
-    walk-operands.Pre
-
 -- what the callees ask and ensure
 abbrev walk-alone-claims : ℕ → walk-alone-lts.Claims
-walk-alone-claims t = (form-at-reads.Asked, form-at-reads.Learnt, class-of-reads.Asked, class-of-reads.Learnt, lone-row-reads.Asked, lone-row-reads.Learnt, store-reads.Asked, store-reads.Learnt, none-reads.Asked, none-reads.Learnt, walk-operands-below t, walk-operands.Post, no-row-reads.Asked, no-row-reads.Learnt, operand-number-reads.Asked, operand-number-reads.Learnt, walk-alone-below t, walk-alone.Post)
+walk-alone-claims t = (form-at-reads.Asked, form-at-reads.Learnt, class-of-reads.Asked, class-of-reads.Learnt, lone-row-reads.Asked, lone-row-reads.Learnt, store-reads.Asked, store-reads.Learnt, none-reads.Asked, none-reads.Learnt, given-below 2 walk-operands-kinds.ps μ-walk-operands walk-operands.Pre t, walk-operands.Post, no-row-reads.Asked, no-row-reads.Learnt, operand-number-reads.Asked, operand-number-reads.Learnt, given-below 2 walk-alone-kinds.ps μ-walk-alone walk-alone.Pre t, walk-alone.Post)
 
 abbrev walk-first-claims : ℕ → walk-first-lts.Claims
-walk-first-claims t = (operand-at-reads.Asked, operand-at-reads.Learnt, first-operand-reads.Asked, first-operand-reads.Learnt, walk-from-below t, walk-from.Post)
+walk-first-claims t = (operand-at-reads.Asked, operand-at-reads.Learnt, first-operand-reads.Asked, first-operand-reads.Learnt, given-below 2 walk-from-kinds.ps μ-walk-from walk-from.Pre t, walk-from.Post)
 
 abbrev walk-from-claims : ℕ → walk-from-lts.Claims
-walk-from-claims t = (form-at-reads.Asked, form-at-reads.Learnt, class-of-reads.Asked, class-of-reads.Learnt, walk-alone-below t, walk-alone.Post, decision-of-reads.Asked, decision-of-reads.Learnt, store-reads.Asked, store-reads.Learnt, none-reads.Asked, none-reads.Learnt, walk-operands-below t, walk-operands.Post)
+walk-from-claims t = (form-at-reads.Asked, form-at-reads.Learnt, class-of-reads.Asked, class-of-reads.Learnt, given-below 2 walk-alone-kinds.ps μ-walk-alone walk-alone.Pre t, walk-alone.Post, decision-of-reads.Asked, decision-of-reads.Learnt, store-reads.Asked, store-reads.Learnt, none-reads.Asked, none-reads.Learnt, given-below 2 walk-operands-kinds.ps μ-walk-operands walk-operands.Pre t, walk-operands.Post)
 
 abbrev walk-operands-claims : ℕ → walk-operands-lts.Claims
-walk-operands-claims t = (walk-first-below t, walk-first.Post, operand-at-reads.Asked, operand-at-reads.Learnt, second-operand-reads.Asked, second-operand-reads.Learnt, walk-from-below t, walk-from.Post)
+walk-operands-claims t = (given-below 2 walk-first-kinds.ps μ-walk-first walk-first.Pre t, walk-first.Post, operand-at-reads.Asked, operand-at-reads.Learnt, second-operand-reads.Asked, second-operand-reads.Learnt, given-below 2 walk-from-kinds.ps μ-walk-from walk-from.Pre t, walk-from.Post)
 
 abbrev walk-alone-Inv-loop : walk-alone-lts.InvT-loop
 walk-alone-Inv-loop table count node rows₀ at₀ rows at = (left at ≤ left node) × (length rows ≡ length rows₀) × (placedAlone table count at rows ≡ placedAlone table count node rows₀)
@@ -113,13 +76,7 @@ walk-alone-Inv-loop table count node rows₀ at₀ rows at = (left at ≤ left n
 abbrev walk-alone-μ-loop : walk-alone-lts.MeasureT-loop
 walk-alone-μ-loop table count node rows₀ at₀ rows at = left at
 
-walk-alone-loop-holds : (t : ℕ) → walk-alone-lts.Need-loop-holds (walk-alone-claims t) (walk-alone-at t) walk-alone.Post walk-alone-Inv-loop walk-alone-μ-loop
-walk-alone-loop-holds t c = (omega arith, refl, refl)
-
-walk-alone-same-length : (t : ℕ) → walk-alone-lts.Need-same-length (walk-alone-claims t) (walk-alone-at t) walk-alone.Post walk-alone-Inv-loop walk-alone-μ-loop
-walk-alone-same-length t c = c .before .before .loop .inv .1
-
-walk-alone-returns : (t : ℕ) → walk-alone-lts.Need-returns (walk-alone-claims t) (walk-alone-at t) walk-alone.Post walk-alone-Inv-loop walk-alone-μ-loop
+walk-alone-returns : (t : ℕ) → walk-alone-lts.Need-returns (walk-alone-claims t) (given-at 2 walk-alone-kinds.ps μ-walk-alone walk-alone.Pre t) walk-alone.Post walk-alone-Inv-loop walk-alone-μ-loop
 walk-alone-returns t c =
     let s = c .before .before .before .before .before in
     let a = s .args in
@@ -127,79 +84,18 @@ walk-alone-returns t c =
     let k = c .if1 .taken in
     sym (placed-none (a .table .now) (a .count) (l .at) alone _ (tree-past _ _ _ (omega arith))) ∙ l .inv .2
 
-walk-alone-form-at-requires : (t : ℕ) → walk-alone-lts.Need-form-at-requires (walk-alone-claims t) (walk-alone-at t) walk-alone.Post walk-alone-Inv-loop walk-alone-μ-loop
-walk-alone-form-at-requires t c κs = search needs
-
-walk-alone-class-of-requires : (t : ℕ) → walk-alone-lts.Need-class-of-requires (walk-alone-claims t) (walk-alone-at t) walk-alone.Post walk-alone-Inv-loop walk-alone-μ-loop
-walk-alone-class-of-requires t c κs = search needs
-
-walk-alone-lone-row-requires : (t : ℕ) → walk-alone-lts.Need-lone-row-requires (walk-alone-claims t) (walk-alone-at t) walk-alone.Post walk-alone-Inv-loop walk-alone-μ-loop
-walk-alone-lone-row-requires t c κs = search needs
-
-walk-alone-store-requires : (t : ℕ) → walk-alone-lts.Need-store-requires (walk-alone-claims t) (walk-alone-at t) walk-alone.Post walk-alone-Inv-loop walk-alone-μ-loop
-walk-alone-store-requires t c κs =
-    let s = c .before .before .before .before .before .before .before .before .before .before in
-    let a = s .args in
-    let l = c .before .before .before .before .before .before .before .loop in
-    let j = c .before .before .before .before .before .before .loop-test in
-    let k = c .before .before .before .before .before .if1 .left in
-    let e = l .inv .1 in
-    let p = s .pre .1 in
-    omega arith
-
-walk-alone-none-requires : (t : ℕ) → walk-alone-lts.Need-none-requires (walk-alone-claims t) (walk-alone-at t) walk-alone.Post walk-alone-Inv-loop walk-alone-μ-loop
-walk-alone-none-requires t c κs = search needs
-
-walk-alone-walk-operands-requires : (t : ℕ) → walk-alone-lts.Need-walk-operands-requires (walk-alone-claims t) (walk-alone-at t) walk-alone.Post walk-alone-Inv-loop walk-alone-μ-loop
-walk-alone-walk-operands-requires t c κs =
-    let s = c .before .before .before .before .before .before .before .before .before .before .before .before .before .before .before in
-    let a = s .args in
-    let l = c .before .before .before .before .before .before .before .before .before .before .before .before .loop in
-    let j = c .before .before .before .before .before .before .before .before .before .before .before .loop-test in
-    let k = c .before .before .before .before .before .before .before .before .before .before .if1 .left in
-    let e = l .inv .1 in
-    let p = s .pre .1 in
-    let m = l .inv .0 in
-    let t≡ = s .pre .0 in
-    let z = ap length (c .before .before .before .before .store .ensures) ∙ length-stored _ _ _ in
-    (omega arith, (omega arith, omega arith, omega arith))
-
-walk-alone-same-length-2 : (t : ℕ) → walk-alone-lts.Need-same-length-2 (walk-alone-claims t) (walk-alone-at t) walk-alone.Post walk-alone-Inv-loop walk-alone-μ-loop
-walk-alone-same-length-2 t c =
-    let s = c .before .before .before .before .before .before .before .before .before .before .before .before .before .before .before .before .before .before in
-    let a = s .args in
-    let l = c .before .before .before .before .before .before .before .before .before .before .before .before .before .before .before .loop in
-    ap length (c .before .before .walk-operands .ensures) ∙ length-below _ _ _ _ _ ∙ ap length (c .before .before .before .before .before .before .before .store .ensures) ∙ length-stored _ _ _ ∙ l .inv .1
-
-walk-alone-returns-2 : (t : ℕ) → walk-alone-lts.Need-returns-2 (walk-alone-claims t) (walk-alone-at t) walk-alone.Post walk-alone-Inv-loop walk-alone-μ-loop
+walk-alone-returns-2 : (t : ℕ) → walk-alone-lts.Need-returns-2 (walk-alone-claims t) (given-at 2 walk-alone-kinds.ps μ-walk-alone walk-alone.Pre t) walk-alone.Post walk-alone-Inv-loop walk-alone-μ-loop
 walk-alone-returns-2 t c =
     let s = c .before .before .before .before .before .before .before .before .before .before .before .before .before .before .before .before .before .before in
     let a = s .args in
     let l = c .before .before .before .before .before .before .before .before .before .before .before .before .before .before .before .loop in
     let j = c .before .before .before .before .before .before .before .before .before .before .before .before .before .before .loop-test in
     let k = c .before .before .before .before .before .before .before .before .before .before .before .before .before .if1 .left in
-    let e : isExpression (treeAt (a .table .now) (a .count) (l .at)) ≡ true = sym (class-is (a .table .now) (a .count) (l .at)) ∙ rw (← c .before .before .before .before .before .before .before .before .before .before .before .before .form-at .ensures, ← c .before .before .before .before .before .before .before .before .before .before .before .class-of .ensures) (eq-eqb _ _ (c .before .before .before .before .before .before .before .before .before .before .if2 .taken)) in
+    let e = is-expression (a .table .now) (a .count) (l .at) (c .before .before .before .before .before .before .before .before .before .before .before .before .form-at .ensures) (c .before .before .before .before .before .before .before .before .before .before .before .class-of .ensures) (c .before .before .before .before .before .before .before .before .before .before .if2 .taken) in
     placed-by (a .table .now) (a .count) (l .at) alone _ (omega arith) (omega arith) _ (c .before .before .before .before .none .ensures ∙ own-alone _ e) _ (c .before .before .before .before .before .before .before .before .lone-row .ensures ∙ row-expression alone _ e) _ (c .before .before .before .before .before .before .before .store .ensures) _ (c .before .before .walk-operands .ensures)
     ∙ l .inv .2
 
-walk-alone-no-row-requires : (t : ℕ) → walk-alone-lts.Need-no-row-requires (walk-alone-claims t) (walk-alone-at t) walk-alone.Post walk-alone-Inv-loop walk-alone-μ-loop
-walk-alone-no-row-requires t c κs = search needs
-
-walk-alone-store-requires-2 : (t : ℕ) → walk-alone-lts.Need-store-requires-2 (walk-alone-claims t) (walk-alone-at t) walk-alone.Post walk-alone-Inv-loop walk-alone-μ-loop
-walk-alone-store-requires-2 t c κs =
-    let s = c .before .before .before .before .before .before .before .before .before .before in
-    let a = s .args in
-    let l = c .before .before .before .before .before .before .before .loop in
-    let j = c .before .before .before .before .before .before .loop-test in
-    let k = c .before .before .before .before .before .if1 .left in
-    let e = l .inv .1 in
-    let p = s .pre .1 in
-    omega arith
-
-walk-alone-operand-number-requires : (t : ℕ) → walk-alone-lts.Need-operand-number-requires (walk-alone-claims t) (walk-alone-at t) walk-alone.Post walk-alone-Inv-loop walk-alone-μ-loop
-walk-alone-operand-number-requires t c κs = search needs
-
-walk-alone-walk-alone-requires : (t : ℕ) → walk-alone-lts.Need-walk-alone-requires (walk-alone-claims t) (walk-alone-at t) walk-alone.Post walk-alone-Inv-loop walk-alone-μ-loop
+walk-alone-walk-alone-requires : (t : ℕ) → walk-alone-lts.Need-walk-alone-requires (walk-alone-claims t) (given-at 2 walk-alone-kinds.ps μ-walk-alone walk-alone.Pre t) walk-alone.Post walk-alone-Inv-loop walk-alone-μ-loop
 walk-alone-walk-alone-requires t c κs =
     let s = c .before .before .before .before .before .before .before .before .before .before .before .before .before .before .before in
     let a = s .args in
@@ -215,20 +111,7 @@ walk-alone-walk-alone-requires t c κs =
     let q = left-falls (a .count) (l .at) (cellAt (a .table .now) (l .at) firstColumn) (omega arith) (omega arith) (omega arith) in
     (rw (c .before .operand-number .ensures) (omega arith), omega arith)
 
-walk-alone-operand-number-requires-2 : (t : ℕ) → walk-alone-lts.Need-operand-number-requires-2 (walk-alone-claims t) (walk-alone-at t) walk-alone.Post walk-alone-Inv-loop walk-alone-μ-loop
-walk-alone-operand-number-requires-2 t c κs = search needs
-
-walk-alone-loop-less : (t : ℕ) → walk-alone-lts.Need-loop-less (walk-alone-claims t) (walk-alone-at t) walk-alone.Post walk-alone-Inv-loop walk-alone-μ-loop
-walk-alone-loop-less t c =
-    let s = c .before .before .before .before .before .before .before .before .before .before .before .before .before .before .before .before .before .before .before in
-    let a = s .args in
-    let l = c .before .before .before .before .before .before .before .before .before .before .before .before .before .before .before .before .loop in
-    let j = c .before .before .before .before .before .before .before .before .before .before .before .before .before .before .before .loop-test in
-    let k = c .before .before .before .before .before .before .before .before .before .before .before .before .before .before .if1 .left in
-    let w = s .fits in
-    rw (c .operand-number2 .ensures) (left-falls (a .count) (l .at) (cellAt (a .table .now) (l .at) secondColumn) (omega arith) (omega arith) (omega arith))
-
-walk-alone-loop-again : (t : ℕ) → walk-alone-lts.Need-loop-again (walk-alone-claims t) (walk-alone-at t) walk-alone.Post walk-alone-Inv-loop walk-alone-μ-loop
+walk-alone-loop-again : (t : ℕ) → walk-alone-lts.Need-loop-again (walk-alone-claims t) (given-at 2 walk-alone-kinds.ps μ-walk-alone walk-alone.Pre t) walk-alone.Post walk-alone-Inv-loop walk-alone-μ-loop
 walk-alone-loop-again t c =
     let s = c .before .before .before .before .before .before .before .before .before .before .before .before .before .before .before .before .before .before .before in
     let a = s .args in
@@ -237,7 +120,7 @@ walk-alone-loop-again t c =
     let k = c .before .before .before .before .before .before .before .before .before .before .before .before .before .before .if1 .left in
     let w = s .fits in
     let m = l .inv .0 in
-    let e : isExpression (treeAt (a .table .now) (a .count) (l .at)) ≡ false = sym (class-is (a .table .now) (a .count) (l .at)) ∙ rw (← c .before .before .before .before .before .before .before .before .before .before .before .before .before .form-at .ensures, ← c .before .before .before .before .before .before .before .before .before .before .before .before .class-of .ensures) (ne-eqb _ _ (c .before .before .before .before .before .before .before .before .before .before .before .if2 .left)) in
+    let e = is-other (a .table .now) (a .count) (l .at) (c .before .before .before .before .before .before .before .before .before .before .before .before .before .form-at .ensures) (c .before .before .before .before .before .before .before .before .before .before .before .before .class-of .ensures) (c .before .before .before .before .before .before .before .before .before .before .before .if2 .left) in
     let q = left-falls (a .count) (l .at) (cellAt (a .table .now) (l .at) secondColumn) (omega arith) (omega arith) (omega arith) in
     let o = c .operand-number2 .ensures in (
       rw o (omega arith),
@@ -245,35 +128,12 @@ walk-alone-loop-again t c =
       placed-other (a .table .now) (a .count) (l .at) _ (omega arith) (omega arith) e _ (c .before .before .before .before .before .before .before .before .store2 .ensures ∙ ap (λ (r : Row). rowStored (l .at) r (l .rows)) (c .before .before .before .before .before .before .before .before .before .no-row .ensures)) _ (c .before .before .before .before .before .operand-number .ensures) _ (c .before .before .before .walk-alone .ensures) _ o ∙ l .inv .2,
     )
 
-walk-alone-same-length-3 : (t : ℕ) → walk-alone-lts.Need-same-length-3 (walk-alone-claims t) (walk-alone-at t) walk-alone.Post walk-alone-Inv-loop walk-alone-μ-loop
-walk-alone-same-length-3 t c = c .before .loop .inv .1
-
-walk-alone-returns-3 : (t : ℕ) → walk-alone-lts.Need-returns-3 (walk-alone-claims t) (walk-alone-at t) walk-alone.Post walk-alone-Inv-loop walk-alone-μ-loop
-walk-alone-returns-3 t c =
-    let s = c .before .before .before .before in
-    let a = s .args in
-    let l = c .before .loop in
-    let k = c .loop-test in
-    sym (placed-absent (a .table .now) (a .count) (l .at) alone _ (omega arith)) ∙ l .inv .2
-
-walk-first-operand-at-requires : (t : ℕ) → walk-first-lts.Need-operand-at-requires (walk-first-claims t) (walk-first-at t) walk-first.Post
-walk-first-operand-at-requires t c κs = search needs
-
-walk-first-enum-known-operand : (t : ℕ) → walk-first-lts.Need-enum-known-operand (walk-first-claims t) (walk-first-at t) walk-first.Post
-walk-first-enum-known-operand t c = search needs
-
-walk-first-enum-told : (t : ℕ) → walk-first-lts.Need-enum-told (walk-first-claims t) (walk-first-at t) walk-first.Post
-walk-first-enum-told t c = search needs
-
-walk-first-returns : (t : ℕ) → walk-first-lts.Need-returns (walk-first-claims t) (walk-first-at t) walk-first.Post
+walk-first-returns : (t : ℕ) → walk-first-lts.Need-returns (walk-first-claims t) (given-at 2 walk-first-kinds.ps μ-walk-first walk-first.Pre t) walk-first.Post
 walk-first-returns t c =
     let a = c .before .before .before .before .before .args in
     sym (placed-absent (a .table .now) (a .count) (operandAt (a .table .now) (a .count) (a .node) firstColumn) (handsFirst (a .own) (treeAt (a .table .now) (a .count) (a .node))) _ (absent-zero _ (sym (c .before .before .operand-at .ensures) ∙ c .enum-told .given .1)))
 
-walk-first-first-operand-requires : (t : ℕ) → walk-first-lts.Need-first-operand-requires (walk-first-claims t) (walk-first-at t) walk-first.Post
-walk-first-first-operand-requires t c κs = search needs
-
-walk-first-walk-from-requires : (t : ℕ) → walk-first-lts.Need-walk-from-requires (walk-first-claims t) (walk-first-at t) walk-first.Post
+walk-first-walk-from-requires : (t : ℕ) → walk-first-lts.Need-walk-from-requires (walk-first-claims t) (given-at 2 walk-first-kinds.ps μ-walk-first walk-first.Pre t) walk-first.Post
 walk-first-walk-from-requires t c κs =
     let s = c .before .before .before .before .before .before .before .before in
     let a = s .args in
@@ -284,126 +144,42 @@ walk-first-walk-from-requires t c κs =
     let f = left-falls (a .count) (a .node) (cellAt (a .table .now) (a .node) firstColumn) (omega arith) (omega arith) (omega arith) in
     (rw (← q .0) (omega arith), omega arith)
 
-walk-first-same-length : (t : ℕ) → walk-first-lts.Need-same-length (walk-first-claims t) (walk-first-at t) walk-first.Post
-walk-first-same-length t c = search needs
-
-walk-first-returns-2 : (t : ℕ) → walk-first-lts.Need-returns-2 (walk-first-claims t) (walk-first-at t) walk-first.Post
+walk-first-returns-2 : (t : ℕ) → walk-first-lts.Need-returns-2 (walk-first-claims t) (given-at 2 walk-first-kinds.ps μ-walk-first walk-first.Pre t) walk-first.Post
 walk-first-returns-2 t c =
     let a = c .before .before .before .before .before .before .before .before .before .before .before .args in
     let q = present-above (a .count) (a .node) (cellAt (a .table .now) (a .node) firstColumn) _ (sym (c .before .before .before .before .before .before .before .before .operand-at .ensures) ∙ c .before .before .before .before .before .before .operand .given .1) in
     rw (q .0, ← c .before .before .before .before .first-operand .ensures) (c .before .before .walk-from .ensures)
 
-walk-from-form-at-requires : (t : ℕ) → walk-from-lts.Need-form-at-requires (walk-from-claims t) (walk-from-at t) walk-from.Post
-walk-from-form-at-requires t c κs = search needs
-
-walk-from-class-of-requires : (t : ℕ) → walk-from-lts.Need-class-of-requires (walk-from-claims t) (walk-from-at t) walk-from.Post
-walk-from-class-of-requires t c κs = search needs
-
-walk-from-walk-alone-requires : (t : ℕ) → walk-from-lts.Need-walk-alone-requires (walk-from-claims t) (walk-from-at t) walk-from.Post
-walk-from-walk-alone-requires t c κs =
-    let s = c .before .before .before .before .before .before in
-    let p = s .pre .1 in
-    let t≡ = s .pre .0 in
-    (omega arith, omega arith)
-
-walk-from-same-length : (t : ℕ) → walk-from-lts.Need-same-length (walk-from-claims t) (walk-from-at t) walk-from.Post
-walk-from-same-length t c = search needs
-
-walk-from-returns : (t : ℕ) → walk-from-lts.Need-returns (walk-from-claims t) (walk-from-at t) walk-from.Post
+walk-from-returns : (t : ℕ) → walk-from-lts.Need-returns (walk-from-claims t) (given-at 2 walk-from-kinds.ps μ-walk-from walk-from.Pre t) walk-from.Post
 walk-from-returns t c =
     let s = c .before .before .before .before .before .before .before .before .before in
     let a = s .args in
     c .before .before .walk-alone .ensures
-    ∙ ap (λ (r : Rows). placed (a .table .now) (a .count) (a .node) r (a .rows .now)) (rows-other (a .handed) (treeAt (a .table .now) (a .count) (a .node)) (sym (class-is (a .table .now) (a .count) (a .node)) ∙ rw (← c .before .before .before .before .before .before .form-at .ensures, ← c .before .before .before .before .before .class-of .ensures) (ne-eqb _ _ (c .before .before .before .before .if1 .taken))))
+    ∙ ap (λ (r : Rows). placed (a .table .now) (a .count) (a .node) r (a .rows .now)) (rows-other (a .handed) (treeAt (a .table .now) (a .count) (a .node)) (is-other (a .table .now) (a .count) (a .node) (c .before .before .before .before .before .before .form-at .ensures) (c .before .before .before .before .before .class-of .ensures) (c .before .before .before .before .if1 .taken)))
 
-walk-from-decision-of-requires : (t : ℕ) → walk-from-lts.Need-decision-of-requires (walk-from-claims t) (walk-from-at t) walk-from.Post
-walk-from-decision-of-requires t c κs = search needs
-
-walk-from-store-requires : (t : ℕ) → walk-from-lts.Need-store-requires (walk-from-claims t) (walk-from-at t) walk-from.Post
-walk-from-store-requires t c κs =
-    let s = c .before .before .before .before .before .before .before .before in
-    let a = s .args in
-    let e : isExpression (treeAt (a .table .now) (a .count) (a .node)) ≡ true = sym (class-is (a .table .now) (a .count) (a .node)) ∙ rw (← c .before .before .before .before .before .form-at .ensures, ← c .before .before .before .before .class-of .ensures) (eq-eqb _ _ (c .before .before .before .if1 .left)) in
-    let r = there (a .table .now) (a .count) (a .node) e in
-    let p = s .pre .1 in
-    omega arith
-
-walk-from-none-requires : (t : ℕ) → walk-from-lts.Need-none-requires (walk-from-claims t) (walk-from-at t) walk-from.Post
-walk-from-none-requires t c κs = search needs
-
-walk-from-walk-operands-requires : (t : ℕ) → walk-from-lts.Need-walk-operands-requires (walk-from-claims t) (walk-from-at t) walk-from.Post
-walk-from-walk-operands-requires t c κs =
-    let s = c .before .before .before .before .before .before .before .before .before .before .before .before .before .before in
-    let a = s .args in
-    let e : isExpression (treeAt (a .table .now) (a .count) (a .node)) ≡ true = sym (class-is (a .table .now) (a .count) (a .node)) ∙ rw (← c .before .before .before .before .before .before .before .before .before .before .before .form-at .ensures, ← c .before .before .before .before .before .before .before .before .before .before .class-of .ensures) (eq-eqb _ _ (c .before .before .before .before .before .before .before .before .before .if1 .left)) in
-    let r = there (a .table .now) (a .count) (a .node) e in
-    let p = s .pre .1 in
-    let t≡ = s .pre .0 in
-    let z = ap length (c .before .before .before .before .before .store .ensures) ∙ length-stored _ _ _ in
-    (omega arith, (omega arith, omega arith, omega arith))
-
-walk-from-same-length-2 : (t : ℕ) → walk-from-lts.Need-same-length-2 (walk-from-claims t) (walk-from-at t) walk-from.Post
-walk-from-same-length-2 t c = search needs
-
-walk-from-returns-2 : (t : ℕ) → walk-from-lts.Need-returns-2 (walk-from-claims t) (walk-from-at t) walk-from.Post
+walk-from-returns-2 : (t : ℕ) → walk-from-lts.Need-returns-2 (walk-from-claims t) (given-at 2 walk-from-kinds.ps μ-walk-from walk-from.Pre t) walk-from.Post
 walk-from-returns-2 t c =
     let s = c .before .before .before .before .before .before .before .before .before .before .before .before .before .before .before .before .before in
     let a = s .args in
-    let e : isExpression (treeAt (a .table .now) (a .count) (a .node)) ≡ true = sym (class-is (a .table .now) (a .count) (a .node)) ∙ rw (← c .before .before .before .before .before .before .before .before .before .before .before .before .before .before .form-at .ensures, ← c .before .before .before .before .before .before .before .before .before .before .before .before .before .class-of .ensures) (eq-eqb _ _ (c .before .before .before .before .before .before .before .before .before .before .before .before .if1 .left)) in
+    let e = is-expression (a .table .now) (a .count) (a .node) (c .before .before .before .before .before .before .before .before .before .before .before .before .before .before .form-at .ensures) (c .before .before .before .before .before .before .before .before .before .before .before .before .before .class-of .ensures) (c .before .before .before .before .before .before .before .before .before .before .before .before .if1 .left) in
     let r = there (a .table .now) (a .count) (a .node) e in
     placed-by (a .table .now) (a .count) (a .node) (a .handed) (a .rows .now) (r .0) (r .1) _ (c .before .before .before .before .none .ensures ∙ own-outer (a .handed) _ e (sym (ap (λ (d : Decision). d .outer) (c .before .before .before .before .before .before .before .before .before .before .before .decision-of .ensures)) ∙ c .before .before .before .before .before .if2 .taken)) _ (ap (λ (d : Decision). d .row) (c .before .before .before .before .before .before .before .before .before .before .before .decision-of .ensures) ∙ row-expression (a .handed) _ e) _ (c .before .before .before .before .before .before .before .before .store .ensures) _ (c .before .before .walk-operands .ensures)
 
-walk-from-walk-operands-requires-2 : (t : ℕ) → walk-from-lts.Need-walk-operands-requires-2 (walk-from-claims t) (walk-from-at t) walk-from.Post
-walk-from-walk-operands-requires-2 t c κs =
-    let s = c .before .before .before .before .before .before .before .before .before .before .before .before .before .before in
-    let a = s .args in
-    let e : isExpression (treeAt (a .table .now) (a .count) (a .node)) ≡ true = sym (class-is (a .table .now) (a .count) (a .node)) ∙ rw (← c .before .before .before .before .before .before .before .before .before .before .before .form-at .ensures, ← c .before .before .before .before .before .before .before .before .before .before .class-of .ensures) (eq-eqb _ _ (c .before .before .before .before .before .before .before .before .before .if1 .left)) in
-    let r = there (a .table .now) (a .count) (a .node) e in
-    let p = s .pre .1 in
-    let t≡ = s .pre .0 in
-    let z = ap length (c .before .before .before .before .before .store .ensures) ∙ length-stored _ _ _ in
-    (omega arith, (omega arith, omega arith, omega arith))
-
-walk-from-same-length-3 : (t : ℕ) → walk-from-lts.Need-same-length-3 (walk-from-claims t) (walk-from-at t) walk-from.Post
-walk-from-same-length-3 t c = search needs
-
-walk-from-returns-3 : (t : ℕ) → walk-from-lts.Need-returns-3 (walk-from-claims t) (walk-from-at t) walk-from.Post
+walk-from-returns-3 : (t : ℕ) → walk-from-lts.Need-returns-3 (walk-from-claims t) (given-at 2 walk-from-kinds.ps μ-walk-from walk-from.Pre t) walk-from.Post
 walk-from-returns-3 t c =
     let s = c .before .before .before .before .before .before .before .before .before .before .before .before .before .before .before .before .before in
     let a = s .args in
-    let e : isExpression (treeAt (a .table .now) (a .count) (a .node)) ≡ true = sym (class-is (a .table .now) (a .count) (a .node)) ∙ rw (← c .before .before .before .before .before .before .before .before .before .before .before .before .before .before .form-at .ensures, ← c .before .before .before .before .before .before .before .before .before .before .before .before .before .class-of .ensures) (eq-eqb _ _ (c .before .before .before .before .before .before .before .before .before .before .before .before .if1 .left)) in
+    let e = is-expression (a .table .now) (a .count) (a .node) (c .before .before .before .before .before .before .before .before .before .before .before .before .before .before .form-at .ensures) (c .before .before .before .before .before .before .before .before .before .before .before .before .before .class-of .ensures) (c .before .before .before .before .before .before .before .before .before .before .before .before .if1 .left) in
     let r = there (a .table .now) (a .count) (a .node) e in
     placed-by (a .table .now) (a .count) (a .node) (a .handed) (a .rows .now) (r .0) (r .1) _ (own-kept (a .handed) _ e (sym (ap (λ (d : Decision). d .outer) (c .before .before .before .before .before .before .before .before .before .before .before .decision-of .ensures)) ∙ c .before .before .before .before .before .if2 .left)) _ (ap (λ (d : Decision). d .row) (c .before .before .before .before .before .before .before .before .before .before .before .decision-of .ensures) ∙ row-expression (a .handed) _ e) _ (c .before .before .before .before .before .before .before .before .store .ensures) _ (c .before .before .walk-operands2 .ensures)
 
-walk-operands-walk-first-requires : (t : ℕ) → walk-operands-lts.Need-walk-first-requires (walk-operands-claims t) (walk-operands-at t) walk-operands.Post
-walk-operands-walk-first-requires t c κs =
-    let s = c .before .before .before in
-    let p = s .pre .1 in
-    let t≡ = s .pre .0 in
-    (omega arith, (omega arith, omega arith, omega arith))
-
-walk-operands-operand-at-requires : (t : ℕ) → walk-operands-lts.Need-operand-at-requires (walk-operands-claims t) (walk-operands-at t) walk-operands.Post
-walk-operands-operand-at-requires t c κs = search needs
-
-walk-operands-enum-known-operand : (t : ℕ) → walk-operands-lts.Need-enum-known-operand (walk-operands-claims t) (walk-operands-at t) walk-operands.Post
-walk-operands-enum-known-operand t c = search needs
-
-walk-operands-enum-told : (t : ℕ) → walk-operands-lts.Need-enum-told (walk-operands-claims t) (walk-operands-at t) walk-operands.Post
-walk-operands-enum-told t c = search needs
-
-walk-operands-same-length : (t : ℕ) → walk-operands-lts.Need-same-length (walk-operands-claims t) (walk-operands-at t) walk-operands.Post
-walk-operands-same-length t c = ap length (c .before .before .before .before .before .walk-first .ensures) ∙ length-placed _ _ _ _ _
-
-walk-operands-returns : (t : ℕ) → walk-operands-lts.Need-returns (walk-operands-claims t) (walk-operands-at t) walk-operands.Post
+walk-operands-returns : (t : ℕ) → walk-operands-lts.Need-returns (walk-operands-claims t) (given-at 2 walk-operands-kinds.ps μ-walk-operands walk-operands.Pre t) walk-operands.Post
 walk-operands-returns t c =
     let a = c .before .before .before .before .before .before .before .before .before .args in
     c .before .before .before .before .before .walk-first .ensures
     ∙ sym (placed-absent (a .table .now) (a .count) (operandAt (a .table .now) (a .count) (a .node) secondColumn) (handsSecond (a .own) (treeAt (a .table .now) (a .count) (a .node))) _ (absent-zero _ (sym (c .before .before .operand-at .ensures) ∙ c .enum-told .given .1)))
 
-walk-operands-second-operand-requires : (t : ℕ) → walk-operands-lts.Need-second-operand-requires (walk-operands-claims t) (walk-operands-at t) walk-operands.Post
-walk-operands-second-operand-requires t c κs = search needs
-
-walk-operands-walk-from-requires : (t : ℕ) → walk-operands-lts.Need-walk-from-requires (walk-operands-claims t) (walk-operands-at t) walk-operands.Post
+walk-operands-walk-from-requires : (t : ℕ) → walk-operands-lts.Need-walk-from-requires (walk-operands-claims t) (given-at 2 walk-operands-kinds.ps μ-walk-operands walk-operands.Pre t) walk-operands.Post
 walk-operands-walk-from-requires t c κs =
     let s = c .before .before .before .before .before .before .before .before .before .before .before .before in
     let a = s .args in
@@ -415,10 +191,7 @@ walk-operands-walk-from-requires t c κs =
     let f = left-falls (a .count) (a .node) (cellAt (a .table .now) (a .node) secondColumn) (omega arith) (omega arith) (omega arith) in
     (rw (← q .0) (omega arith), omega arith)
 
-walk-operands-same-length-2 : (t : ℕ) → walk-operands-lts.Need-same-length-2 (walk-operands-claims t) (walk-operands-at t) walk-operands.Post
-walk-operands-same-length-2 t c = search needs
-
-walk-operands-returns-2 : (t : ℕ) → walk-operands-lts.Need-returns-2 (walk-operands-claims t) (walk-operands-at t) walk-operands.Post
+walk-operands-returns-2 : (t : ℕ) → walk-operands-lts.Need-returns-2 (walk-operands-claims t) (given-at 2 walk-operands-kinds.ps μ-walk-operands walk-operands.Pre t) walk-operands.Post
 walk-operands-returns-2 t c =
     let a = c .before .before .before .before .before .before .before .before .before .before .before .before .before .before .before .args in
     let q = present-above (a .count) (a .node) (cellAt (a .table .now) (a .node) secondColumn) _ (sym (c .before .before .before .before .before .before .before .before .operand-at .ensures) ∙ c .before .before .before .before .before .before .operand .given .1) in
@@ -427,69 +200,36 @@ walk-operands-returns-2 t c =
 
 pub +walk-alone+walk-first+walk-from+walk-operands-spec : {M : Type 1} → statement M
 +walk-alone+walk-first+walk-from+walk-operands-spec =
-    close μ-walk-alone μ-walk-first μ-walk-from μ-walk-operands (λ t. walk-alone-lts.spec (walk-alone-claims t)
-    (walk-alone-at t)
-    walk-alone.Post
-    walk-alone-Inv-loop
-    walk-alone-μ-loop
-    (walk-alone-loop-holds t)
-    (walk-alone-same-length t)
-    (walk-alone-returns t)
-    (walk-alone-form-at-requires t)
-    (walk-alone-class-of-requires t)
-    (walk-alone-lone-row-requires t)
-    (walk-alone-store-requires t)
-    (walk-alone-none-requires t)
-    (walk-alone-walk-operands-requires t)
-    (walk-alone-same-length-2 t)
-    (walk-alone-returns-2 t)
-    (walk-alone-no-row-requires t)
-    (walk-alone-store-requires-2 t)
-    (walk-alone-operand-number-requires t)
-    (walk-alone-walk-alone-requires t)
-    (walk-alone-operand-number-requires-2 t)
-    (walk-alone-loop-less t)
-    (walk-alone-loop-again t)
-    (walk-alone-same-length-3 t)
-    (walk-alone-returns-3 t))
-    (λ t. walk-first-lts.spec (walk-first-claims t)
-    (walk-first-at t)
-    walk-first.Post
-    (walk-first-operand-at-requires t)
-    (walk-first-enum-known-operand t)
-    (walk-first-enum-told t)
-    (walk-first-returns t)
-    (walk-first-first-operand-requires t)
-    (walk-first-walk-from-requires t)
-    (walk-first-same-length t)
-    (walk-first-returns-2 t))
-    (λ t. walk-from-lts.spec (walk-from-claims t)
-    (walk-from-at t)
-    walk-from.Post
-    (walk-from-form-at-requires t)
-    (walk-from-class-of-requires t)
-    (walk-from-walk-alone-requires t)
-    (walk-from-same-length t)
-    (walk-from-returns t)
-    (walk-from-decision-of-requires t)
-    (walk-from-store-requires t)
-    (walk-from-none-requires t)
-    (walk-from-walk-operands-requires t)
-    (walk-from-same-length-2 t)
-    (walk-from-returns-2 t)
-    (walk-from-walk-operands-requires-2 t)
-    (walk-from-same-length-3 t)
-    (walk-from-returns-3 t))
+    close μ-walk-alone μ-walk-first μ-walk-from μ-walk-operands
+    (λ t. walk-alone-lts.spec (walk-alone-claims t) (given-at 2 walk-alone-kinds.ps μ-walk-alone walk-alone.Pre t)
+    walk-alone.Post walk-alone-Inv-loop walk-alone-μ-loop (λ c. (omega arith, refl, refl))
+    (λ c. c .before .before .loop .inv .1) (walk-alone-returns t) free free free
+    (λ c κs. omega (arith, c .before .before .before .before .before .before .before .loop .inv .1, c .before .before .before .before .before .before .loop-test, c .before .before .before .before .before .if1 .left, c .before .before .before .before .before .before .before .before .before .before .pre .1))
+    free
+    (λ c κs. let z = ap length (c .before .before .before .before .store .ensures) ∙ length-stored _ _ _ in (omega (arith, c .before .before .before .before .before .before .before .before .before .before .before .before .loop .inv .0, c .before .before .before .before .before .before .before .before .before .before .before .before .before .before .before .pre .0), (omega (arith, c .before .before .before .before .before .before .before .before .before .before .before .loop-test), omega (arith, c .before .before .before .before .before .before .before .before .before .before .if1 .left), omega (arith, c .before .before .before .before .before .before .before .before .before .before .before .before .loop .inv .1, c .before .before .before .before .before .before .before .before .before .before .before .before .before .before .before .pre .1))))
+    (λ c. ap length (c .before .before .walk-operands .ensures) ∙ length-below _ _ _ _ _ ∙ ap length (c .before .before .before .before .before .before .before .store .ensures) ∙ length-stored _ _ _ ∙ c .before .before .before .before .before .before .before .before .before .before .before .before .before .before .before .loop .inv .1)
+    (walk-alone-returns-2 t) free
+    (λ c κs. omega (arith, c .before .before .before .before .before .before .before .loop .inv .1, c .before .before .before .before .before .before .loop-test, c .before .before .before .before .before .if1 .left, c .before .before .before .before .before .before .before .before .before .before .pre .1))
+    free (walk-alone-walk-alone-requires t) free
+    (λ c. let a = c .before .before .before .before .before .before .before .before .before .before .before .before .before .before .before .before .before .before .before .args in let l = c .before .before .before .before .before .before .before .before .before .before .before .before .before .before .before .before .loop in let w = c .before .before .before .before .before .before .before .before .before .before .before .before .before .before .before .before .before .before .before .fits in rw (c .operand-number2 .ensures) (left-falls (a .count) (l .at) (cellAt (a .table .now) (l .at) 4) (omega (arith, c .before .before .before .before .before .before .before .before .before .before .before .before .before .before .before .loop-test)) (omega (arith, c .before .before .before .before .before .before .before .before .before .before .before .before .before .before .if1 .left)) (omega arith)))
+    (walk-alone-loop-again t) (λ c. c .before .loop .inv .1)
+    (λ c. let a = c .before .before .before .before .args in sym (placed-absent (a .table .now) (a .count) (c .before .loop .at) alone _ (omega (arith, c .loop-test))) ∙ c .before .loop .inv .2))
+    (λ t. walk-first-lts.spec (walk-first-claims t) (given-at 2 walk-first-kinds.ps μ-walk-first walk-first.Pre t)
+    walk-first.Post free (λ c. search needs) (λ c. search needs) (walk-first-returns t) free
+    (walk-first-walk-from-requires t) (λ c. search needs) (walk-first-returns-2 t))
+    (λ t. walk-from-lts.spec (walk-from-claims t) (given-at 2 walk-from-kinds.ps μ-walk-from walk-from.Pre t)
+    walk-from.Post free free
+    (λ c κs. (omega (arith, c .before .before .before .before .before .before .pre .0), c .before .before .before .before .before .before .pre .1))
+    (λ c. search needs) (walk-from-returns t) free
+    (λ c κs. let a = c .before .before .before .before .before .before .before .before .args in let r = there (a .table .now) (a .count) (a .node) (is-expression (a .table .now) (a .count) (a .node) (c .before .before .before .before .before .form-at .ensures) (c .before .before .before .before .class-of .ensures) (c .before .before .before .if1 .left)) in omega (arith, c .before .before .before .before .before .before .before .before .pre .1))
+    free
+    (λ c κs. let a = c .before .before .before .before .before .before .before .before .before .before .before .before .before .before .args in let r = there (a .table .now) (a .count) (a .node) (is-expression (a .table .now) (a .count) (a .node) (c .before .before .before .before .before .before .before .before .before .before .before .form-at .ensures) (c .before .before .before .before .before .before .before .before .before .before .class-of .ensures) (c .before .before .before .before .before .before .before .before .before .if1 .left)) in (omega (arith, c .before .before .before .before .before .before .before .before .before .before .before .before .before .before .pre .0), (r .0, r .1, subst (λ n. 5 * a .count ≤ n) (sym (ap length (c .before .before .before .before .before .store .ensures) ∙ length-stored _ _ _)) (c .before .before .before .before .before .before .before .before .before .before .before .before .before .before .pre .1))))
+    (λ c. search needs) (walk-from-returns-2 t)
+    (λ c κs. let a = c .before .before .before .before .before .before .before .before .before .before .before .before .before .before .args in let r = there (a .table .now) (a .count) (a .node) (is-expression (a .table .now) (a .count) (a .node) (c .before .before .before .before .before .before .before .before .before .before .before .form-at .ensures) (c .before .before .before .before .before .before .before .before .before .before .class-of .ensures) (c .before .before .before .before .before .before .before .before .before .if1 .left)) in (omega (arith, c .before .before .before .before .before .before .before .before .before .before .before .before .before .before .pre .0), (r .0, r .1, subst (λ n. 5 * a .count ≤ n) (sym (ap length (c .before .before .before .before .before .store .ensures) ∙ length-stored _ _ _)) (c .before .before .before .before .before .before .before .before .before .before .before .before .before .before .pre .1))))
+    (λ c. search needs) (walk-from-returns-3 t))
     λ t. walk-operands-lts.spec (walk-operands-claims t)
-    (walk-operands-at t)
-    walk-operands.Post
-    (walk-operands-walk-first-requires t)
-    (walk-operands-operand-at-requires t)
-    (walk-operands-enum-known-operand t)
-    (walk-operands-enum-told t)
-    (walk-operands-same-length t)
-    (walk-operands-returns t)
-    (walk-operands-second-operand-requires t)
-    (walk-operands-walk-from-requires t)
-    (walk-operands-same-length-2 t)
-    (walk-operands-returns-2 t)
+    (given-at 2 walk-operands-kinds.ps μ-walk-operands walk-operands.Pre t) walk-operands.Post
+    (λ c κs. (omega (arith, c .before .before .before .pre .0), c .before .before .before .pre .1)) free
+    (λ c. search needs) (λ c. search needs)
+    (λ c. ap length (c .before .before .before .before .before .walk-first .ensures) ∙ length-placed _ _ _ _ _)
+    (walk-operands-returns t) free (walk-operands-walk-from-requires t) (λ c. search needs) (walk-operands-returns-2 t)

@@ -16,21 +16,6 @@ Inv-loop buffer₀ cells done₀ buffer done = (done ≤ cells) × (length buffe
 abbrev μ-loop : tie.MeasureT-loop
 μ-loop buffer₀ cells done₀ buffer done = cells - done
 
-loop-holds : tie.Need-loop-holds Inv-loop μ-loop
-loop-holds c = (omega arith, refl, sym (over-none (replicate (c .args .cells) 0) (c .args .buffer .now)))
-
-mul-buffer : tie.Need-mul-buffer Inv-loop μ-loop
-mul-buffer c = search needs
-
-slice-write-buffer : tie.Need-slice-write-buffer Inv-loop μ-loop
-slice-write-buffer c = omega arith
-
-add-done : tie.Need-add-done Inv-loop μ-loop
-add-done c = omega arith
-
-loop-less : tie.Need-loop-less Inv-loop μ-loop
-loop-less c = omega arith
-
 loop-again : tie.Need-loop-again Inv-loop μ-loop
 loop-again c =
     let l = c .before .loop in
@@ -38,9 +23,6 @@ loop-again c =
     let e : l .done + 1 ≡ suc (l .done) = omega arith in
     let z = getD-replicate {A = ℕ} n (l .done) 0 0 (omega arith) in
     (omega arith, simp length-set (l .inv .1), rw e (rw (l .inv .2, ← over-more {A = ℕ} (replicate n 0) (c .before .before .args .buffer .now) (l .done) 0 (simp length-replicate (omega arith)) (omega arith), z)))
-
-same-length : tie.Need-same-length Inv-loop μ-loop
-same-length c = c .before .loop .inv .1
 
 returns : tie.Need-returns Inv-loop μ-loop
 returns c =
@@ -50,15 +32,7 @@ returns c =
 
 pub clear-spec : {M : Type 1} → statement M
 clear-spec =
-    tie.close
-    (tie.spec
-    Inv-loop
-    μ-loop
-    loop-holds
-    mul-buffer
-    slice-write-buffer
-    add-done
-    loop-less
-    loop-again
-    same-length
-    returns)
+    tie.close (tie.spec Inv-loop μ-loop
+    (λ c. (omega arith, refl, sym (over-none (replicate (c .args .cells) 0) (c .args .buffer .now))))
+    (λ c. search needs) (λ c. omega arith) (λ c. omega arith) (λ c. omega arith) loop-again
+    (λ c. c .before .loop .inv .1) returns)

@@ -1,52 +1,26 @@
 -- `walk::decide` meets its contract. Assumes nothing.
 use mathlib.Core.Path.{sym, _∙_}
 use native.Mathlib.Omega.{arith}
+use Rattle.laws.proofs.Calls.{free}
 use Rattle.row_walk.proofs.Replies.{refused, short-rows, short-scratch, done}
 use borrow.Author.Needs.{needs}
 use Rattle.row_walk.proofs.decide.Statement.{statement}
 use Rattle.row_walk.proofs.decide.Tie as tie
-
-check-requires : tie.Need-check-requires
-check-requires c κs = search needs
 
 returns : tie.Need-returns
 returns c =
     let a = c .before .before .before .before .before .args in
     refused (a .context) (a .count) (a .table .now) (a .rows .now) (a .scratch .now) _ (c .before .check .ensures) (c .if1 .taken)
 
-mul-if2 : tie.Need-mul-if2
-mul-if2 c = search needs
-
 returns-2 : tie.Need-returns-2
 returns-2 c =
     let a = c .before .before .before .before .before .before .args in
     short-rows (a .context) (a .count) (a .table .now) (a .rows .now) (a .scratch .now) (sym (c .before .before .check .ensures) ∙ c .before .if1 .left) (omega arith)
 
-mul-if3 : tie.Need-mul-if3
-mul-if3 c = search needs
-
 returns-3 : tie.Need-returns-3
 returns-3 c =
     let a = c .before .before .before .before .before .before .before .args in
     short-scratch (a .context) (a .count) (a .table .now) (a .rows .now) (a .scratch .now) (sym (c .before .before .before .check .ensures) ∙ c .before .before .if1 .left) (omega arith) (omega arith)
-
-root-handed-requires : tie.Need-root-handed-requires
-root-handed-requires c κs = search needs
-
-walk-from-requires : tie.Need-walk-from-requires
-walk-from-requires c κs = search needs
-
-mul-clear : tie.Need-mul-clear
-mul-clear c = search needs
-
-clear-requires : tie.Need-clear-requires
-clear-requires c κs = search needs
-
-same-length : tie.Need-same-length
-same-length c = search needs
-
-same-length-2 : tie.Need-same-length-2
-same-length-2 c = search needs
 
 returns-4 : tie.Need-returns-4
 returns-4 c =
@@ -57,18 +31,5 @@ returns-4 c =
 
 pub decide-spec : {M : Type 1} → statement M
 decide-spec =
-    tie.close
-    (tie.spec
-    check-requires
-    returns
-    mul-if2
-    returns-2
-    mul-if3
-    returns-3
-    root-handed-requires
-    walk-from-requires
-    mul-clear
-    clear-requires
-    same-length
-    same-length-2
-    returns-4)
+    tie.close (tie.spec free returns (λ c. search needs) returns-2 (λ c. search needs) returns-3 free
+    (λ c κs. search needs) (λ c. search needs) (λ c κs. search needs) (λ c. search needs) (λ c. search needs) returns-4)

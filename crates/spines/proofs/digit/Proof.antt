@@ -5,8 +5,7 @@ use borrow.Author.Needs.{needs}
 use Rattle.spines.proofs.digit.Statement.{statement}
 use Rattle.spines.proofs.digit.Tie as tie
 
-returns : tie.Need-returns
-returns c = omega (arith, mod-lt (c .args .number) {m = c .args .base} (omega arith))
-
 pub digit-spec : {M : Type 1} → statement M
-digit-spec = tie.close (tie.spec (λ c. search needs) returns)
+digit-spec =
+    tie.close (tie.spec (λ c. search needs)
+    (λ c. omega (arith, mod-lt (c .args .number) {m = c .args .base} (omega arith))))

@@ -12,14 +12,11 @@ Inv-loop name stems length from size blocks step fd done₀ different₀ block�
 abbrev μ-loop : tie.MeasureT-loop
 μ-loop name stems length from size blocks step fd done₀ different₀ block₀ done different block = blocks - block
 
-loop-again : tie.Need-loop-again Inv-loop μ-loop
-loop-again c = ⊎-elim (λ w. omega arith) (λ w. omega arith) (c .if3 .came)
-
 pub run-spec : {M : Type 1} → statement M
 run-spec =
-    tie.close
-    (tie.spec Inv-loop μ-loop (λ c κs. search needs) (λ c κs. search needs) (λ c. search needs) (λ c. search needs)
-    (λ c. search needs) (λ c κs. search needs) (λ c κs. search needs) (λ c κs. search needs) (λ c. search needs)
-    (λ c. search needs) (λ c κs. search needs) (λ c κs. search needs) (λ c κs. search needs) (λ c. search needs)
-    (λ c. search needs) (λ c. search needs) (λ c. search needs) loop-again (λ c κs. search needs)
-    (λ c κs. search needs) (λ c. search needs))
+    tie.close (tie.spec Inv-loop μ-loop (λ c κs. search needs) (λ c κs. search needs) (λ c. search needs)
+    (λ c. search needs) (λ c. search needs) (λ c κs. search needs) (λ c κs. search needs) (λ c κs. search needs)
+    (λ c. search needs) (λ c. search needs) (λ c κs. search needs) (λ c κs. search needs) (λ c κs. search needs)
+    (λ c. search needs) (λ c. search needs) (λ c. search needs) (λ c. search needs)
+    (λ c. ⊎-elim (λ w. omega arith) (λ w. omega arith) (c .if3 .came)) (λ c κs. search needs) (λ c κs. search needs)
+    (λ c. search needs))

@@ -7,9 +7,6 @@ use Rattle.text.proofs.Rows.{none-left, few-left, more-left}
 use Rattle.text.proofs.part.Statement.{statement}
 use Rattle.text.proofs.part.Tie as tie
 
-slice-aggregate-result : tie.Need-slice-aggregate-result
-slice-aggregate-result c = refl
-
 returns : tie.Need-returns
 returns c =
     let a = c .before .before .args in
@@ -20,9 +17,6 @@ returns-2 c =
     let a = c .before .before .before .args in
     few-left (a .numbers .now) (a .from) (a .most) (omega arith)
 
-slice-aggregate-result-2 : tie.Need-slice-aggregate-result-2
-slice-aggregate-result-2 c = sym (length-take-le _ _ (c .before .if2 .left))
-
 returns-3 : tie.Need-returns-3
 returns-3 c =
     let a = c .before .before .before .before .args in
@@ -30,6 +24,5 @@ returns-3 c =
 
 pub part-spec : {M : Type 1} → statement M
 part-spec =
-    tie.close
-    (tie.spec slice-aggregate-result returns (λ c. search needs) (λ c. search needs) (λ c. search needs)
-    (λ c. search needs) returns-2 slice-aggregate-result-2 returns-3)
+    tie.close (tie.spec (λ c. refl) returns (λ c. search needs) (λ c. search needs) (λ c. search needs)
+    (λ c. search needs) returns-2 (λ c. sym (length-take-le _ _ (c .before .if2 .left))) returns-3)

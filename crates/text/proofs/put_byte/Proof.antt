@@ -4,11 +4,7 @@ use Rattle.text.proofs.Growing.{grown-byte, grown-full}
 use Rattle.text.proofs.put_byte.Statement.{statement}
 use Rattle.text.proofs.put_byte.Tie as tie
 
-returns : tie.Need-returns
-returns c = grown-byte _ _ _ (c .if1 .taken)
-
-returns-2 : tie.Need-returns-2
-returns-2 c = grown-full _ _ _ (c .if1 .left)
-
 pub put-byte-spec : {M : Type 1} → statement M
-put-byte-spec = tie.close (tie.spec (λ c. search needs) (λ c. search needs) (λ c. search needs) returns returns-2)
+put-byte-spec =
+    tie.close (tie.spec (λ c. search needs) (λ c. search needs) (λ c. search needs)
+    (λ c. grown-byte _ _ _ (c .if1 .taken)) (λ c. grown-full _ _ _ (c .if1 .left)))

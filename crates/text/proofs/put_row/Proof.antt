@@ -21,6 +21,5 @@ returns c =
 
 pub put-row-spec : {M : Type 1} → statement M
 put-row-spec =
-    tie.close
-    (tie.spec (λ c κs. search needs) (λ c. search needs) mul-from (λ c κs. search needs) (λ c κs. search needs)
-    (λ c. search needs) returns)
+    tie.close (tie.spec (λ c κs. search needs) (λ c. search needs) mul-from (λ c κs. search needs)
+    (λ c κs. search needs) (λ c. search needs) returns)

@@ -17,18 +17,11 @@ Inv-loop out₀ end numbers at₀ done₀ out at done = (done ≤ length numbers
 abbrev μ-loop : tie.MeasureT-loop
 μ-loop out₀ end numbers at₀ done₀ out at done = length numbers - done
 
-loop-holds : tie.Need-loop-holds Inv-loop μ-loop
-unfolding spaced
-loop-holds c = (omega arith, grown-none _ _)
-
 loop-again : tie.Need-loop-again Inv-loop μ-loop
 loop-again c =
     let l = c .before .before .before .before .before .before .before .before .before .before .loop in
     let next = spaced-next (c .before .before .before .before .before .before .before .before .before .before .before .before .before .args .numbers .now) (l .done) (omega arith) in
     (omega arith, rw next (grown-more (l .inv .1) (grown-more (c .before .before .before .before .before .before .before .put-byte .ensures) (c .before .before .put-number .ensures))))
-
-same-length : tie.Need-same-length Inv-loop μ-loop
-same-length c = c .before .loop .inv .1 .room
 
 returns : tie.Need-returns Inv-loop μ-loop
 returns c =
@@ -37,7 +30,8 @@ returns c =
     rw e at (l .inv .1)
 
 pub put-spaced-spec : {M : Type 1} → statement M
+unfolding spaced
 put-spaced-spec =
-    tie.close
-    (tie.spec Inv-loop μ-loop loop-holds (λ c κs. search needs) (λ c. omega arith) (λ c. omega arith)
-    (λ c κs. search needs) (λ c. omega arith) (λ c. omega arith) loop-again same-length returns)
+    tie.close (tie.spec Inv-loop μ-loop (λ c. (omega arith, grown-none _ _)) (λ c κs. search needs) (λ c. omega arith)
+    (λ c. omega arith) (λ c κs. search needs) (λ c. omega arith) (λ c. omega arith) loop-again
+    (λ c. c .before .loop .inv .1 .room) returns)

@@ -4,8 +4,8 @@ use mathlib.Core.Bool.{Bool, false, not, _&&_}
 use Prim.Native.Nat.{ℕ, _≤_, _<_}
 use native.Mathlib.Omega.{arith}
 use lib.Dec.{leb}
-use borrow.Author.Needs.{needs}
 use borrow.Author.Tests.{lt-leb, le-leb}
+use Rattle.laws.proofs.Calls.{free}
 use Rattle.token_follow.specs.Follow.{goesOnBy}
 use Rattle.token_follow.specs.Tables.{beforeOf}
 use Rattle.token_follow.proofs.Tables.{before-at, barred-at}
@@ -22,24 +22,11 @@ too-weak n l m k p j b e h q g = rw (← e, le-leb n l h, ← q, lt-leb k j g)
 ruled : (n l m k p j : ℕ) (r b : Bool) → l ≡ m → n ≤ l → k ≡ p → k ≤ j → r ≡ b → not r ≡ (leb n m && (leb p j && not b))
 ruled n l m k p j r b e h i g q = rw (← e, le-leb n l h, ← i, le-leb k j g, q)
 
-level-of-requires : tie.Need-level-of-requires
-level-of-requires c κs = search needs
-
-returns : tie.Need-returns
-unfolding goesOnBy
-returns c = too-low _ _ _ _ (c .before .level-of .ensures) (c .if1 .taken)
-
-lowest-before-requires : tie.Need-lowest-before-requires
-lowest-before-requires c κs = search needs
-
 returns-2 : tie.Need-returns-2
 unfolding goesOnBy
 returns-2 c =
     let e = c .before .before .before .level-of .ensures in
     too-weak _ _ _ _ _ _ _ e (c .before .before .if1 .left) (c .before .lowest-before .ensures ∙ ap beforeOf e ∙ before-at _) (c .if2 .taken)
-
-is-barred-requires : tie.Need-is-barred-requires
-is-barred-requires c κs = search needs
 
 returns-3 : tie.Need-returns-3
 unfolding goesOnBy
@@ -48,4 +35,7 @@ returns-3 c =
     ruled _ _ _ _ _ _ _ _ e (c .before .before .before .if1 .left) (c .before .before .lowest-before .ensures ∙ ap beforeOf e ∙ before-at _) (c .before .if2 .left) (c .is-barred .ensures ∙ barred-at _ _ _)
 
 pub goes-on-spec : {M : Type 1} → statement M
-goes-on-spec = tie.close (tie.spec level-of-requires returns lowest-before-requires returns-2 is-barred-requires returns-3)
+unfolding goesOnBy
+goes-on-spec =
+    tie.close (tie.spec free (λ c. too-low _ _ _ _ (c .before .level-of .ensures) (c .if1 .taken)) free returns-2 free
+    returns-3)

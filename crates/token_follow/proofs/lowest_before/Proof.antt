@@ -5,17 +5,8 @@ use Rattle.token_follow.specs.Tables.{beforeLines, beforeOf}
 use Rattle.token_follow.proofs.lowest_before.Statement.{statement}
 use Rattle.token_follow.proofs.lowest_before.Tie as tie
 
-returns : tie.Need-returns
-unfolding beforeOf
-returns c = sym (arm beforeLines _ _ 0 tt (c .match .keys1))
-
-returns-2 : tie.Need-returns-2
-unfolding beforeOf
-returns-2 c = sym (arm beforeLines _ _ 1 tt (c .match .keys2))
-
-returns-3 : tie.Need-returns-3
-unfolding beforeOf
-returns-3 c = sym (rest beforeLines _ _ (c .match .rest))
-
 pub lowest-before-spec : {M : Type 1} → statement M
-lowest-before-spec = tie.close (tie.spec returns returns-2 returns-3)
+unfolding beforeOf
+lowest-before-spec =
+    tie.close (tie.spec (λ c. sym (arm beforeLines _ _ 0 tt (c .match .keys1)))
+    (λ c. sym (arm beforeLines _ _ 1 tt (c .match .keys2))) (λ c. sym (rest beforeLines _ _ (c .match .rest))))

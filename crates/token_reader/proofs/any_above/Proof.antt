@@ -15,25 +15,10 @@ Inv-loop codes most at₀ at = (at ≤ length codes) × (anyAbove most codes ≡
 abbrev μ-loop : tie.MeasureT-loop
 μ-loop codes most at₀ at = length codes - at
 
-loop-holds : tie.Need-loop-holds Inv-loop μ-loop
-loop-holds c = (omega arith, refl)
-
-mul-if1 : tie.Need-mul-if1 Inv-loop μ-loop
-mul-if1 c = search needs
-
-shared-slice-read-if1 : tie.Need-shared-slice-read-if1 Inv-loop μ-loop
-shared-slice-read-if1 c = search needs
-
 returns : tie.Need-returns Inv-loop μ-loop
 returns c =
     let l = c .before .before .before .loop in
     sym (l .inv .1 ∙ above-here _ _ (l .at) (omega arith) (c .if1 .taken))
-
-add-at : tie.Need-add-at Inv-loop μ-loop
-add-at c = search needs
-
-loop-less : tie.Need-loop-less Inv-loop μ-loop
-loop-less c = omega arith
 
 loop-again : tie.Need-loop-again Inv-loop μ-loop
 loop-again c =
@@ -47,5 +32,5 @@ returns-2 c =
 
 pub any-above-spec : {M : Type 1} → statement M
 any-above-spec =
-    tie.close
-    (tie.spec Inv-loop μ-loop loop-holds mul-if1 shared-slice-read-if1 returns add-at loop-less loop-again returns-2)
+    tie.close (tie.spec Inv-loop μ-loop (λ c. (omega arith, refl)) (λ c. search needs) (λ c. search needs) returns
+    (λ c. search needs) (λ c. omega arith) loop-again returns-2)

@@ -8,16 +8,9 @@ use borrow.Author.Needs.{needs}
 use Rattle.token_writer.proofs.has_pair.Statement.{statement}
 use Rattle.token_writer.proofs.has_pair.Tie as tie
 
-pair-at-requires : tie.Need-pair-at-requires
-pair-at-requires c κs = search needs
-
-returns : tie.Need-returns
-unfolding hasPair
-returns c = sym (ap (hasKey (1 ∷ 3 ∷ [])) (sym (c .before .pair-at .ensures)) ∙ among (1 ∷ 3 ∷ []) _ (c .match .keys1))
-
-returns-2 : tie.Need-returns-2
-unfolding hasPair
-returns-2 c = sym (ap (hasKey (1 ∷ 3 ∷ [])) (sym (c .before .pair-at .ensures)) ∙ outside (1 ∷ 3 ∷ []) _ (c .match .rest .1))
-
 pub has-pair-spec : {M : Type 1} → statement M
-has-pair-spec = tie.close (tie.spec pair-at-requires returns returns-2)
+unfolding hasPair
+has-pair-spec =
+    tie.close (tie.spec (λ c κs. search needs)
+    (λ c. sym (ap (hasKey (1 ∷ 3 ∷ [])) (sym (c .before .pair-at .ensures)) ∙ among (1 ∷ 3 ∷ []) _ (c .match .keys1)))
+    (λ c. sym (ap (hasKey (1 ∷ 3 ∷ [])) (sym (c .before .pair-at .ensures)) ∙ outside (1 ∷ 3 ∷ []) _ (c .match .rest .1))))

@@ -7,6 +7,7 @@ use native.Mathlib.Omega.{arith}
 use lib.ListN.{length}
 use borrow.Author.Needs.{needs}
 use borrow.Author.Tests.{not-true, not-false}
+use Rattle.laws.proofs.Calls.{free}
 use Rattle.tree.specs.Sizes.{rowCells, scratchCells, mostNodes}
 use Rattle.tree_rules.proofs.Accepted.{count-bounds}
 use Rattle.token_writer.specs.Writes.{written}
@@ -20,16 +21,10 @@ use Rattle.token_writer.proofs.write.Tie as tie
 times : (k n : ℕ) → n ≤ mostNodes → k * n ≤ k * mostNodes
 times k n h = mul-le-mul-left k h
 
-check-requires : tie.Need-check-requires
-check-requires c κs = search needs
-
 returns : tie.Need-returns
 returns c =
     let a = c .before .before .before .before .args in
     refused (a .context) (a .count) (a .table .now) (a .tokens .now) _ (c .before .check .ensures) (c .if1 .taken)
-
-mul-if2 : tie.Need-mul-if2
-mul-if2 c = search needs
 
 returns-2 : tie.Need-returns-2
 returns-2 c =
@@ -41,19 +36,10 @@ returns-3 c =
     let a = c .before .before .before .before .before .before .args in
     in-context (a .context) (a .count) (a .table .now) (a .tokens .now) (sym (c .before .before .before .check .ensures) ∙ c .before .before .if1 .left) (c .before .if2 .left) (c .if3 .taken)
 
-is-plain-table-requires : tie.Need-is-plain-table-requires
-is-plain-table-requires c κs = search needs
-
 returns-4 : tie.Need-returns-4
 returns-4 c =
     let a = c .before .before .before .before .before .before .before .before .args in
     not-plain (a .context) (a .count) (a .table .now) (a .tokens .now) (sym (c .before .before .before .before .before .check .ensures) ∙ c .before .before .before .before .if1 .left) (c .before .before .before .if2 .left) (c .before .before .if3 .left) (not-true _ (ap not (sym (c .before .is-plain-table .ensures)) ∙ c .if4 .taken))
-
-mul-row-cells : tie.Need-mul-row-cells
-mul-row-cells c = search needs
-
-mul-scratch-cells : tie.Need-mul-scratch-cells
-mul-scratch-cells c = search needs
 
 array-borrow-prefix-rows : tie.Need-array-borrow-prefix-rows
 array-borrow-prefix-rows c =
@@ -96,9 +82,6 @@ cast-t22 c =
     let l = length-codes (written (a .count) (a .table .now)) in
     omega (arith, c .before .before .before .before .write-plain .ensures .ends)
 
-same-length : tie.Need-same-length
-same-length c = search needs
-
 returns-5 : tie.Need-returns-5
 returns-5 c =
     let a = c .before .before .before .before .before .before .before .before .before .before .before .before .before .before .before .before .args in
@@ -111,22 +94,6 @@ returns-5 c =
 
 pub write-spec : {M : Type 1} → statement M
 write-spec =
-    tie.close
-    (tie.spec
-    check-requires
-    returns
-    mul-if2
-    returns-2
-    returns-3
-    is-plain-table-requires
-    returns-4
-    mul-row-cells
-    mul-scratch-cells
-    array-borrow-prefix-rows
-    slice-aggregate-write-plain
-    array-borrow-prefix-scratch
-    slice-aggregate-write-plain-2
-    write-plain-requires
-    cast-t22
-    same-length
-    returns-5)
+    tie.close (tie.spec free returns (λ c. search needs) returns-2 returns-3 free returns-4 (λ c. search needs)
+    (λ c. search needs) array-borrow-prefix-rows slice-aggregate-write-plain array-borrow-prefix-scratch
+    slice-aggregate-write-plain-2 write-plain-requires cast-t22 (λ c. search needs) returns-5)

@@ -7,9 +7,6 @@ use Rattle.token_writer.specs.Writes.{written}
 use Rattle.token_writer.proofs.write_plain.Statement.{statement}
 use Rattle.token_writer.proofs.write_plain.Tie as tie
 
-decide-requires : tie.Need-decide-requires
-decide-requires c κs = search needs
-
 write-from-requires : tie.Need-write-from-requires
 write-from-requires c κs =
     let s = c .before .before .before .before .before .before .before .before .before .before .before .before .before in
@@ -18,15 +15,6 @@ write-from-requires c κs =
     let l = length-codes (written (a .count) (a .table .now)) in
     let r = s .pre .2 in
     rw e (omega arith)
-
-same-length : tie.Need-same-length
-same-length c = search needs
-
-same-length-2 : tie.Need-same-length-2
-same-length-2 c = search needs
-
-same-length-3 : tie.Need-same-length-3
-same-length-3 c = search needs
 
 returns : tie.Need-returns
 returns c =
@@ -37,5 +25,5 @@ returns c =
 
 pub write-plain-spec : {M : Type 1} → statement M
 write-plain-spec =
-    tie.close
-    (tie.spec decide-requires write-from-requires same-length same-length-2 same-length-3 returns)
+    tie.close (tie.spec (λ c κs. search needs) write-from-requires (λ c. search needs) (λ c. search needs)
+    (λ c. search needs) returns)

@@ -9,9 +9,6 @@ use borrow.Author.Needs.{needs}
 use Rattle.tokens.proofs.put_parted.Statement.{statement}
 use Rattle.tokens.proofs.put_parted.Tie as tie
 
-returns : tie.Need-returns
-returns c = rw (parted-none (c .before .before .before .args .numbers .now) (c .if1 .taken)) (grown-none _ _)
-
 returns-2 : tie.Need-returns-2
 returns-2 c =
     let numbers = c .before .before .before .before .before .before .before .before .before .before .before .before .before .args .numbers .now in
@@ -21,6 +18,7 @@ returns-2 c =
 
 pub put-parted-spec : {M : Type 1} → statement M
 put-parted-spec =
-    tie.close
-    (tie.spec returns (λ c. search needs) (λ c κs. search needs) (λ c. search needs) (λ c. search needs)
-    (λ c. search needs) (λ c κs. search needs) (λ c. search needs) returns-2)
+    tie.close (tie.spec
+    (λ c. rw (parted-none (c .before .before .before .args .numbers .now) (c .if1 .taken)) (grown-none _ _))
+    (λ c. search needs) (λ c κs. search needs) (λ c. search needs) (λ c. search needs) (λ c. search needs)
+    (λ c κs. search needs) (λ c. search needs) returns-2)

@@ -54,7 +54,6 @@ returns-2 c =
 
 pub put-table-spec : {M : Type 1} → statement M
 put-table-spec =
-    tie.close
-    (tie.spec (λ c. search needs) (λ c κs. search needs) (λ c. search needs) (λ c κs. search needs)
+    tie.close (tie.spec (λ c. search needs) (λ c κs. search needs) (λ c. search needs) (λ c κs. search needs)
     (λ c. search needs) (λ c. search needs) array-share-prefix-tokens slice-aggregate-put-tokens put-tokens-requires
     (λ c. search needs) returns (λ c. search needs) returns-2)

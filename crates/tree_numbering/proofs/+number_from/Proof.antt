@@ -1,12 +1,12 @@
 -- `numbering::number_from` meets its contract: with each call there are fewer numbers above the node, and none are counted where an operand is absent. Assumes nothing.
 use native.Mathlib.Omega.{arith}
 use borrow.Author.Needs.{needs}
+use Rattle.laws.proofs.Calls.{free, given-at, given-below}
 use Rattle.tree.proofs.Unfold.{left, left-falls, tree-zero, tree-past}
 use Rattle.tree_numbering.proofs.Sizes.{size-node}
 use Rattle.tree_numbering.proofs.Nodes.{written-none, written-by}
-use Prim.Native.Nat.{ℕ, _<_}
-use borrow.Fn.Kinds.{In}
-use borrow.Fn.PlainCycle.{Measures, is, falls, and}
+use Prim.Native.Nat.{ℕ}
+use borrow.Fn.PlainCycle.{Measures}
 use Rattle.tree_numbering.proofs.number_from.Reads as number-from
 use Rattle.tree_numbering.proofs.number_from.Kinds as number-from-kinds
 use Rattle.tree_numbering.proofs.+number_from.Lts-number_from as number-from-lts
@@ -19,40 +19,26 @@ use Rattle.tree_numbering.proofs.+number_from.Tie.{close}
 abbrev μ-number-from : Measures 2 number-from-kinds.ps ℕ
 μ-number-from κs a = left (a .1 .1 .0)
 
-abbrev number-from-at : ℕ → In 2 number-from-kinds.ps
-number-from-at t =
-    and 2 number-from-kinds.ps (is 2 number-from-kinds.ps μ-number-from t) number-from.Pre
-
-abbrev number-from-below : ℕ → In 2 number-from-kinds.ps
-number-from-below t =
-    and 2 number-from-kinds.ps (falls 2 number-from-kinds.ps _<_ μ-number-from t) number-from.Pre
-
 -- what the callees ask and ensure
 abbrev number-from-claims : ℕ → number-from-lts.Claims
-number-from-claims t = (operand-number-reads.Asked, operand-number-reads.Learnt, number-from-below t, number-from.Post, number-after-reads.Asked, number-after-reads.Learnt, store-reads.Asked, store-reads.Learnt)
+number-from-claims t = (operand-number-reads.Asked, operand-number-reads.Learnt, given-below 2 number-from-kinds.ps μ-number-from number-from.Pre t, number-from.Post, number-after-reads.Asked, number-after-reads.Learnt, store-reads.Asked, store-reads.Learnt)
 
-number-from-returns : (t : ℕ) → number-from-lts.Need-returns (number-from-claims t) (number-from-at t) number-from.Post
+number-from-returns : (t : ℕ) → number-from-lts.Need-returns (number-from-claims t) (given-at 2 number-from-kinds.ps μ-number-from number-from.Pre t) number-from.Post
 number-from-returns t c =
     let a = c .before .before .before .args in
     written-none (a .table .now) (a .count) (a .node) (a .done) (a .out .now) (rw (c .if1 .taken) (tree-zero _ _))
 
-number-from-returns-2 : (t : ℕ) → number-from-lts.Need-returns-2 (number-from-claims t) (number-from-at t) number-from.Post
+number-from-returns-2 : (t : ℕ) → number-from-lts.Need-returns-2 (number-from-claims t) (given-at 2 number-from-kinds.ps μ-number-from number-from.Pre t) number-from.Post
 number-from-returns-2 t c =
     let a = c .before .before .before .before .args in
     written-none (a .table .now) (a .count) (a .node) (a .done) (a .out .now) (tree-past _ _ _ (c .if2 .taken))
 
-number-from-operand-number-requires : (t : ℕ) → number-from-lts.Need-operand-number-requires (number-from-claims t) (number-from-at t) number-from.Post
-number-from-operand-number-requires t c κs = search needs
-
-number-from-operand-number-requires-2 : (t : ℕ) → number-from-lts.Need-operand-number-requires-2 (number-from-claims t) (number-from-at t) number-from.Post
-number-from-operand-number-requires-2 t c κs = search needs
-
-number-from-add-number-from : (t : ℕ) → number-from-lts.Need-add-number-from (number-from-claims t) (number-from-at t) number-from.Post
+number-from-add-number-from : (t : ℕ) → number-from-lts.Need-add-number-from (number-from-claims t) (given-at 2 number-from-kinds.ps μ-number-from number-from.Pre t) number-from.Post
 number-from-add-number-from t c =
     let p = c .before .before .before .before .before .before .pre .1 in
     omega arith
 
-number-from-number-from-requires : (t : ℕ) → number-from-lts.Need-number-from-requires (number-from-claims t) (number-from-at t) number-from.Post
+number-from-number-from-requires : (t : ℕ) → number-from-lts.Need-number-from-requires (number-from-claims t) (given-at 2 number-from-kinds.ps μ-number-from number-from.Pre t) number-from.Post
 number-from-number-from-requires t c κs =
     let a = c .before .before .before .before .before .before .before .args in
     let u = c .before .before .before .before .if1 .left in
@@ -63,17 +49,17 @@ number-from-number-from-requires t c κs =
     let f = left-falls (a .count) (a .node) _ (omega arith) (omega arith) (omega arith) in
     rw (← c .before .before .before .before .before .before .before .pre .0, c .before .before .operand-number .ensures) (f, (omega arith, omega arith))
 
-number-from-add-number-after : (t : ℕ) → number-from-lts.Need-add-number-after (number-from-claims t) (number-from-at t) number-from.Post
+number-from-add-number-after : (t : ℕ) → number-from-lts.Need-add-number-after (number-from-claims t) (given-at 2 number-from-kinds.ps μ-number-from number-from.Pre t) number-from.Post
 number-from-add-number-after t c =
     let p = c .before .before .before .before .before .before .before .before .before .before .pre .1 in
     omega arith
 
-number-from-number-after-requires : (t : ℕ) → number-from-lts.Need-number-after-requires (number-from-claims t) (number-from-at t) number-from.Post
+number-from-number-after-requires : (t : ℕ) → number-from-lts.Need-number-after-requires (number-from-claims t) (given-at 2 number-from-kinds.ps μ-number-from number-from.Pre t) number-from.Post
 number-from-number-after-requires t c κs =
     let p = c .before .before .before .before .before .before .before .before .before .before .pre .1 in
     omega arith
 
-number-from-number-after-requires-2 : (t : ℕ) → number-from-lts.Need-number-after-requires-2 (number-from-claims t) (number-from-at t) number-from.Post
+number-from-number-after-requires-2 : (t : ℕ) → number-from-lts.Need-number-after-requires-2 (number-from-claims t) (given-at 2 number-from-kinds.ps μ-number-from number-from.Pre t) number-from.Post
 number-from-number-after-requires-2 t c κs =
     let a = c .before .before .before .before .before .before .before .before .before .before .before .args in
     let u = c .before .before .before .before .before .before .before .before .if1 .left in
@@ -84,7 +70,7 @@ number-from-number-after-requires-2 t c κs =
     let e = rw (c .before .before .before .before .before .before .operand-number .ensures) at (c .before .before .before .number-from .ensures .0) in
     omega arith
 
-number-from-store-requires : (t : ℕ) → number-from-lts.Need-store-requires (number-from-claims t) (number-from-at t) number-from.Post
+number-from-store-requires : (t : ℕ) → number-from-lts.Need-store-requires (number-from-claims t) (given-at 2 number-from-kinds.ps μ-number-from number-from.Pre t) number-from.Post
 number-from-store-requires t c κs =
     let a = c .before .before .before .before .before .before .before .before .before .before .before .before .before .args in
     let u = c .before .before .before .before .before .before .before .before .before .before .if1 .left in
@@ -95,7 +81,7 @@ number-from-store-requires t c κs =
     let l = c .before .before .before .before .out .given in
     omega arith
 
-number-from-number-from-requires-2 : (t : ℕ) → number-from-lts.Need-number-from-requires-2 (number-from-claims t) (number-from-at t) number-from.Post
+number-from-number-from-requires-2 : (t : ℕ) → number-from-lts.Need-number-from-requires-2 (number-from-claims t) (given-at 2 number-from-kinds.ps μ-number-from number-from.Pre t) number-from.Post
 number-from-number-from-requires-2 t c κs =
     let a = c .before .before .before .before .before .before .before .before .before .before .before .before .before .before .before .before .before .args in
     let u = c .before .before .before .before .before .before .before .before .before .before .before .before .before .before .if1 .left in
@@ -109,10 +95,7 @@ number-from-number-from-requires-2 t c κs =
     let f = left-falls (a .count) (a .node) _ (omega arith) (omega arith) (omega arith) in
     rw (← c .before .before .before .before .before .before .before .before .before .before .before .before .before .before .before .before .before .pre .0, c .before .before .before .before .before .before .before .before .before .before .before .operand-number2 .ensures) (f, (omega arith, omega arith))
 
-number-from-same-length : (t : ℕ) → number-from-lts.Need-same-length (number-from-claims t) (number-from-at t) number-from.Post
-number-from-same-length t c = search needs
-
-number-from-returns-3 : (t : ℕ) → number-from-lts.Need-returns-3 (number-from-claims t) (number-from-at t) number-from.Post
+number-from-returns-3 : (t : ℕ) → number-from-lts.Need-returns-3 (number-from-claims t) (given-at 2 number-from-kinds.ps μ-number-from number-from.Pre t) number-from.Post
 number-from-returns-3 t c =
     let a = c .before .before .before .before .before .before .before .before .before .before .before .before .before .before .before .before .before .before .before .before .args in
     let u = c .before .before .before .before .before .before .before .before .before .before .before .before .before .before .before .before .before .if1 .left in
@@ -120,19 +103,10 @@ number-from-returns-3 t c =
     written-by (a .table .now) (a .count) (a .node) (a .done) (a .out .now) (omega arith) (omega arith) _ (c .before .before .before .before .before .before .before .before .before .before .before .before .before .before .before .operand-number .ensures) _ (c .before .before .before .before .before .before .before .before .before .before .before .before .before .before .operand-number2 .ensures) _ _ (c .before .before .before .before .before .before .before .before .before .before .before .before .number-from .ensures) _ (c .before .before .before .before .before .before .before .before .before .number-after .ensures) _ (c .before .before .before .before .before .before .before .before .number-after2 .ensures) _ (c .before .before .before .before .before .before .store .ensures) _ _ (c .before .before .number-from2 .ensures)
 
 pub +number-from-spec : {M : Type 1} → statement M
-+number-from-spec = close μ-number-from λ t. number-from-lts.spec (number-from-claims t)
-    (number-from-at t)
-    number-from.Post
-    (number-from-returns t)
-    (number-from-returns-2 t)
-    (number-from-operand-number-requires t)
-    (number-from-operand-number-requires-2 t)
-    (number-from-add-number-from t)
-    (number-from-number-from-requires t)
-    (number-from-add-number-after t)
-    (number-from-number-after-requires t)
-    (number-from-number-after-requires-2 t)
-    (number-from-store-requires t)
-    (number-from-number-from-requires-2 t)
-    (number-from-same-length t)
-    (number-from-returns-3 t)
++number-from-spec =
+    close μ-number-from
+    λ t. number-from-lts.spec (number-from-claims t) (given-at 2 number-from-kinds.ps μ-number-from number-from.Pre t)
+    number-from.Post (number-from-returns t) (number-from-returns-2 t) free free (number-from-add-number-from t)
+    (number-from-number-from-requires t) (number-from-add-number-after t) (number-from-number-after-requires t)
+    (number-from-number-after-requires-2 t) (number-from-store-requires t) (number-from-number-from-requires-2 t)
+    (λ c. search needs) (number-from-returns-3 t)

@@ -32,30 +32,6 @@ Inv-loop2 marks count done₀ done = (1 ≤ done) × (done ≤ mostNodes) × ((j
 abbrev μ-loop2 : tie.MeasureT-loop2
 μ-loop2 marks count done₀ done = count - done
 
-loop-holds : tie.Need-loop-holds Inv-loop μ-loop Inv-loop2 μ-loop2
-loop-holds c = (omega arith, omega arith, λ j h k. absurd (omega arith))
-
-add-loop : tie.Need-add-loop Inv-loop μ-loop Inv-loop2 μ-loop2
-add-loop c = let i = c .loop .inv .1 in search needs
-
-add-four-taken : tie.Need-add-four-taken Inv-loop μ-loop Inv-loop2 μ-loop2
-add-four-taken c = let i = c .before .loop .inv .1 in search needs
-
-cast-four-taken : tie.Need-cast-four-taken Inv-loop μ-loop Inv-loop2 μ-loop2
-cast-four-taken c = search needs
-
-four-taken-requires : tie.Need-four-taken-requires Inv-loop μ-loop Inv-loop2 μ-loop2
-four-taken-requires c κs = let p = c .before .before .before .pre in let t = c .loop-test in omega arith
-
-returns : tie.Need-returns Inv-loop μ-loop Inv-loop2 μ-loop2
-returns c = λ e. true-not-false (sym e)
-
-add-done : tie.Need-add-done Inv-loop μ-loop Inv-loop2 μ-loop2
-add-done c = let i = c .before .before .before .loop .inv .1 in search needs
-
-loop-less : tie.Need-loop-less Inv-loop μ-loop Inv-loop2 μ-loop2
-loop-less c = let t = c .before .before .loop-test in omega arith
-
 loop-again : tie.Need-loop-again Inv-loop μ-loop Inv-loop2 μ-loop2
 loop-again c =
     let a = c .before .before .before .before .before .args in
@@ -66,30 +42,6 @@ loop-again c =
     let f = c .before .four-taken .ensures (not-false _ (c .if1 .left)) in
     (omega arith, omega arith, none-more (a .marks .now) (l .done) (l .done + 4) (l .inv .2) (λ j h k. f j (omega arith) (omega arith)))
 
-loop2-holds : tie.Need-loop2-holds Inv-loop μ-loop Inv-loop2 μ-loop2
-loop2-holds c = c .before .loop .inv
-
-add-at : tie.Need-add-at Inv-loop μ-loop Inv-loop2 μ-loop2
-add-at c = let i = c .before .loop2 .inv .1 in search needs
-
-cast-at : tie.Need-cast-at Inv-loop μ-loop Inv-loop2 μ-loop2
-cast-at c = search needs
-
-mul-if2 : tie.Need-mul-if2 Inv-loop μ-loop Inv-loop2 μ-loop2
-mul-if2 c = search needs
-
-shared-slice-read-if2 : tie.Need-shared-slice-read-if2 Inv-loop μ-loop Inv-loop2 μ-loop2
-shared-slice-read-if2 c = let p = c .before .before .before .before .before .before .pre in let t = c .before .loop2-test in omega arith
-
-returns-2 : tie.Need-returns-2 Inv-loop μ-loop Inv-loop2 μ-loop2
-returns-2 c = λ e. true-not-false (sym e)
-
-add-done-2 : tie.Need-add-done-2 Inv-loop μ-loop Inv-loop2 μ-loop2
-add-done-2 c = let i = c .before .before .before .loop2 .inv .1 in search needs
-
-loop2-less : tie.Need-loop2-less Inv-loop μ-loop Inv-loop2 μ-loop2
-loop2-less c = let t = c .before .before .loop2-test in omega arith
-
 loop2-again : tie.Need-loop2-again Inv-loop μ-loop Inv-loop2 μ-loop2
 loop2-again c =
     let a = c .before .before .before .before .before .before .before .args in
@@ -99,33 +51,16 @@ loop2-again c =
     let t = c .before .before .loop2-test in
     (omega arith, omega arith, none-more (a .marks .now) (l .done) (l .done + 1) (l .inv .2) (λ j h k. let s : j ≡ l .done + 1 = omega arith in rw s (c .if2 .left)))
 
-returns-3 : tie.Need-returns-3 Inv-loop μ-loop Inv-loop2 μ-loop2
-returns-3 c = λ e j h k. let t = c .loop2-test in c .before .loop2 .inv .2 j h (omega arith)
-
 pub all-taken-spec : {M : Type 1} → statement M
 all-taken-spec =
-    tie.close
-    (tie.spec
-    Inv-loop
-    μ-loop
-    Inv-loop2
-    μ-loop2
-    loop-holds
-    add-loop
-    add-four-taken
-    cast-four-taken
-    four-taken-requires
-    returns
-    add-done
-    loop-less
-    loop-again
-    loop2-holds
-    add-at
-    cast-at
-    mul-if2
-    shared-slice-read-if2
-    returns-2
-    add-done-2
-    loop2-less
-    loop2-again
-    returns-3)
+    tie.close (tie.spec Inv-loop μ-loop Inv-loop2 μ-loop2
+    (λ c. (omega arith, omega arith, λ j h k. absurd (omega arith))) (λ c. let i = c .loop .inv .1 in search needs)
+    (λ c. let i = c .before .loop .inv .1 in search needs) (λ c. search needs)
+    (λ c κs. let p = c .before .before .before .pre in let t = c .loop-test in omega arith)
+    (λ c. λ e. true-not-false (sym e)) (λ c. let i = c .before .before .before .loop .inv .1 in search needs)
+    (λ c. let t = c .before .before .loop-test in omega arith) loop-again (λ c. c .before .loop .inv)
+    (λ c. let i = c .before .loop2 .inv .1 in search needs) (λ c. search needs) (λ c. search needs)
+    (λ c. let p = c .before .before .before .before .before .before .pre in let t = c .before .loop2-test in omega arith)
+    (λ c. λ e. true-not-false (sym e)) (λ c. let i = c .before .before .before .loop2 .inv .1 in search needs)
+    (λ c. let t = c .before .before .loop2-test in omega arith) loop2-again
+    (λ c. λ e j h k. let t = c .loop2-test in c .before .loop2 .inv .2 j h (omega arith)))

@@ -20,48 +20,6 @@ four xs n p q r s j h k = go (ℕ-discrete j n) (ℕ-discrete j (n + 1)) (ℕ-di
     go (no a) (no b) (yes e) = rw e r
     go (no a) (no b) (no c) = let e : j ≡ n + 3 = omega arith in rw e s
 
-mul-if1 : tie.Need-mul-if1
-mul-if1 c = search needs
-
-shared-slice-read-if1 : tie.Need-shared-slice-read-if1
-shared-slice-read-if1 c = search needs
-
-returns : tie.Need-returns
-returns c = λ e. true-not-false (sym e)
-
-add-if2 : tie.Need-add-if2
-add-if2 c = search needs
-
-mul-if2 : tie.Need-mul-if2
-mul-if2 c = search needs
-
-shared-slice-read-if2 : tie.Need-shared-slice-read-if2
-shared-slice-read-if2 c = search needs
-
-returns-2 : tie.Need-returns-2
-returns-2 c = λ e. true-not-false (sym e)
-
-add-if3 : tie.Need-add-if3
-add-if3 c = search needs
-
-mul-if3 : tie.Need-mul-if3
-mul-if3 c = search needs
-
-shared-slice-read-if3 : tie.Need-shared-slice-read-if3
-shared-slice-read-if3 c = search needs
-
-returns-3 : tie.Need-returns-3
-returns-3 c = λ e. true-not-false (sym e)
-
-add-result : tie.Need-add-result
-add-result c = search needs
-
-mul-result : tie.Need-mul-result
-mul-result c = search needs
-
-shared-slice-read-result : tie.Need-shared-slice-read-result
-shared-slice-read-result c = search needs
-
 returns-4 : tie.Need-returns-4
 returns-4 c =
     let a = c .before .before .before .before .before .before .before .args in
@@ -69,20 +27,7 @@ returns-4 c =
 
 pub four-taken-spec : {M : Type 1} → statement M
 four-taken-spec =
-    tie.close
-    (tie.spec
-    mul-if1
-    shared-slice-read-if1
-    returns
-    add-if2
-    mul-if2
-    shared-slice-read-if2
-    returns-2
-    add-if3
-    mul-if3
-    shared-slice-read-if3
-    returns-3
-    add-result
-    mul-result
-    shared-slice-read-result
+    tie.close (tie.spec (λ c. search needs) (λ c. search needs) (λ c. λ e. true-not-false (sym e)) (λ c. search needs)
+    (λ c. search needs) (λ c. search needs) (λ c. λ e. true-not-false (sym e)) (λ c. search needs) (λ c. search needs)
+    (λ c. search needs) (λ c. λ e. true-not-false (sym e)) (λ c. search needs) (λ c. search needs) (λ c. search needs)
     returns-4)

@@ -1,22 +1,13 @@
 -- `one_pass::is_accepted` meets its contract. Assumes nothing.
 use mathlib.Core.Path.{sym, _∙_}
 use borrow.Author.Tests.{le-ltb}
-use borrow.Author.Needs.{needs}
 use Rattle.laws.proofs.Choice.{true-not-false}
+use Rattle.laws.proofs.Calls.{free}
 use Rattle.tree_rules.specs.Refusals.{refusal3, refusal}
 use Rattle.tree_rules.proofs.Count.{count-fits}
 use Rattle.tree_rules.proofs.First.{skip}
 use Rattle.tree_one_pass.proofs.is_accepted.Statement.{statement}
 use Rattle.tree_one_pass.proofs.is_accepted.Tie as tie
-
-returns : tie.Need-returns
-returns c = λ e. true-not-false (sym e)
-
-is-bad-count-requires : tie.Need-is-bad-count-requires
-is-bad-count-requires c κs = search needs
-
-returns-2 : tie.Need-returns-2
-returns-2 c = λ e. true-not-false (sym e)
 
 is-small-fine-requires : tie.Need-is-small-fine-requires
 is-small-fine-requires c κs =
@@ -29,9 +20,6 @@ returns-3 c =
     let b = c .before .before .before in
     λ e. skip _ _ (le-ltb _ _ (b .before .if1 .left)) ∙ skip _ _ (sym (b .is-bad-count .ensures) ∙ c .before .before .if2 .left) ∙ c .is-small-fine .ensures e
 
-is-large-fine-requires : tie.Need-is-large-fine-requires
-is-large-fine-requires c κs = count-fits _ _ (sym (c .before .before .is-bad-count .ensures) ∙ c .before .if2 .left)
-
 returns-4 : tie.Need-returns-4
 unfolding refusal refusal3
 returns-4 c =
@@ -40,12 +28,6 @@ returns-4 c =
 
 pub is-accepted-spec : {M : Type 1} → statement M
 is-accepted-spec =
-    tie.close
-    (tie.spec
-    returns
-    is-bad-count-requires
-    returns-2
-    is-small-fine-requires
-    returns-3
-    is-large-fine-requires
-    returns-4)
+    tie.close (tie.spec (λ c. λ e. true-not-false (sym e)) free (λ c. λ e. true-not-false (sym e))
+    is-small-fine-requires returns-3
+    (λ c κs. count-fits _ _ (sym (c .before .before .is-bad-count .ensures) ∙ c .before .if2 .left)) returns-4)

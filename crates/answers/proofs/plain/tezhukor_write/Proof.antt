@@ -7,18 +7,7 @@ use borrow.Author.Needs.{needs}
 use Rattle.answers.proofs.plain.tezhukor_write.Statement.{statement}
 use Rattle.answers.proofs.plain.tezhukor_write.Tie as tie
 
-write-requires : tie.Need-write-requires
-write-requires c κs = search needs
-
-written-number-requires : tie.Need-written-number-requires
-written-number-requires c κs = search needs
-
-same-length : tie.Need-same-length
-same-length c = search needs
-
-returns : tie.Need-returns
-returns c = let w = c .before .before .before .write .ensures in (c .written-number .ensures ∙ ap (λ (x : Written). oneNumber (writtenInNumbers x)) (w .0), w .1)
-
 pub tezhukor-write-spec : {M : Type 1} → statement M
 tezhukor-write-spec =
-    tie.close (tie.spec write-requires written-number-requires same-length returns)
+    tie.close (tie.spec (λ c κs. search needs) (λ c κs. search needs) (λ c. search needs)
+    (λ c. let w = c .before .before .before .write .ensures in (c .written-number .ensures ∙ ap (λ (x : Written). oneNumber (writtenInNumbers x)) (w .0), w .1)))

@@ -7,14 +7,7 @@ use borrow.Author.Needs.{needs}
 use Rattle.answers_asked.proofs.handed.tezhukor_handed.Statement.{statement}
 use Rattle.answers_asked.proofs.handed.tezhukor_handed.Tie as tie
 
-context-of-requires : tie.Need-context-of-requires
-context-of-requires c κs = search needs
-
-handed-answer-requires : tie.Need-handed-answer-requires
-handed-answer-requires c κs = search needs
-
-returns : tie.Need-returns
-returns c = c .handed-answer .ensures ∙ ap (λ (x : FixupContext). handedAnswered (c .before .before .before .args .question) (c .before .before .before .args .cell) x (treeAt (c .before .before .before .args .table .now) (c .before .before .before .args .count) (c .before .before .before .args .node))) (c .before .context-of .ensures)
-
 pub tezhukor-handed-spec : {M : Type 1} → statement M
-tezhukor-handed-spec = tie.close (tie.spec context-of-requires handed-answer-requires returns)
+tezhukor-handed-spec =
+    tie.close (tie.spec (λ c κs. search needs) (λ c κs. search needs)
+    (λ c. c .handed-answer .ensures ∙ ap (λ (x : FixupContext). handedAnswered (c .before .before .before .args .question) (c .before .before .before .args .cell) x (treeAt (c .before .before .before .args .table .now) (c .before .before .before .args .count) (c .before .before .before .args .node))) (c .before .context-of .ensures)))

@@ -7,14 +7,7 @@ use borrow.Author.Needs.{needs}
 use Rattle.answers_asked.proofs.in_context.tezhukor_fixup_answer.Statement.{statement}
 use Rattle.answers_asked.proofs.in_context.tezhukor_fixup_answer.Tie as tie
 
-context-of-requires : tie.Need-context-of-requires
-context-of-requires c κs = search needs
-
-fixup-answer-requires : tie.Need-fixup-answer-requires
-fixup-answer-requires c κs = search needs
-
-returns : tie.Need-returns
-returns c = c .fixup-answer .ensures ∙ ap (λ (x : FixupContext). fixupAnswered (c .before .before .before .args .question) x (treeAt (c .before .before .before .args .table .now) (c .before .before .before .args .count) (c .before .before .before .args .node))) (c .before .context-of .ensures)
-
 pub tezhukor-fixup-answer-spec : {M : Type 1} → statement M
-tezhukor-fixup-answer-spec = tie.close (tie.spec context-of-requires fixup-answer-requires returns)
+tezhukor-fixup-answer-spec =
+    tie.close (tie.spec (λ c κs. search needs) (λ c κs. search needs)
+    (λ c. c .fixup-answer .ensures ∙ ap (λ (x : FixupContext). fixupAnswered (c .before .before .before .args .question) x (treeAt (c .before .before .before .args .table .now) (c .before .before .before .args .count) (c .before .before .before .args .node))) (c .before .context-of .ensures)))

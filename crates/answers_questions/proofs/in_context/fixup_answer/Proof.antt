@@ -8,33 +8,15 @@ use borrow.Author.Needs.{needs}
 use Rattle.answers_questions.proofs.in_context.fixup_answer.Statement.{statement}
 use Rattle.answers_questions.proofs.in_context.fixup_answer.Tie as tie
 
-returns : tie.Need-returns
-unfolding fixupAnswered fixupQuestions
-returns c = c .bit .ensures .0 ∙ ap bitOf (c .before .parenthesize .ensures) ∙ sym (arm (fixupQuestions _ _) 65535 _ 0 tt (c .before .before .match .keys1))
-
-returns-2 : tie.Need-returns-2
-unfolding fixupAnswered fixupQuestions
-returns-2 c = c .rank .ensures ∙ ap rankOf (c .before .precedence .ensures) ∙ sym (arm (fixupQuestions _ _) 65535 _ 1 tt (c .before .before .match .keys2))
-
-returns-3 : tie.Need-returns-3
-unfolding fixupAnswered fixupQuestions
-returns-3 c = c .bit2 .ensures .0 ∙ ap bitOf (c .before .scan-left .ensures) ∙ sym (arm (fixupQuestions _ _) 65535 _ 2 tt (c .before .before .match .keys3))
-
-returns-4 : tie.Need-returns-4
-unfolding fixupAnswered fixupQuestions
-returns-4 c = c .rank2 .ensures ∙ ap rankOf (c .before .leftmost-subexpression-precedence .ensures) ∙ sym (arm (fixupQuestions _ _) 65535 _ 3 tt (c .before .before .match .keys4))
-
-returns-5 : tie.Need-returns-5
-unfolding fixupAnswered fixupQuestions
-returns-5 c = c .rank3 .ensures ∙ ap rankOf (c .before .rightmost-subexpression-precedence .ensures) ∙ sym (arm (fixupQuestions _ _) 65535 _ 4 tt (c .before .before .match .keys5))
-
-returns-6 : tie.Need-returns-6
-unfolding fixupAnswered fixupQuestions
-returns-6 c = sym (rest (fixupQuestions _ _) 65535 _ (c .match .rest))
-
 pub fixup-answer-spec : {M : Type 1} → statement M
+unfolding fixupAnswered fixupQuestions
 fixup-answer-spec =
-    tie.close
-    (tie.spec (λ c κs. search needs) (λ c κs. search needs) (λ c κs. search needs) (λ c κs. search needs)
-    (λ c κs. search needs) (λ c κs. search needs) (λ c κs. search needs) (λ c κs. search needs)
-    (λ c κs. search needs) (λ c κs. search needs) returns returns-2 returns-3 returns-4 returns-5 returns-6)
+    tie.close (tie.spec (λ c κs. search needs) (λ c κs. search needs) (λ c κs. search needs) (λ c κs. search needs)
+    (λ c κs. search needs) (λ c κs. search needs) (λ c κs. search needs) (λ c κs. search needs) (λ c κs. search needs)
+    (λ c κs. search needs)
+    (λ c. c .bit .ensures .0 ∙ ap bitOf (c .before .parenthesize .ensures) ∙ sym (arm (fixupQuestions _ _) 65535 _ 0 tt (c .before .before .match .keys1)))
+    (λ c. c .rank .ensures ∙ ap rankOf (c .before .precedence .ensures) ∙ sym (arm (fixupQuestions _ _) 65535 _ 1 tt (c .before .before .match .keys2)))
+    (λ c. c .bit2 .ensures .0 ∙ ap bitOf (c .before .scan-left .ensures) ∙ sym (arm (fixupQuestions _ _) 65535 _ 2 tt (c .before .before .match .keys3)))
+    (λ c. c .rank2 .ensures ∙ ap rankOf (c .before .leftmost-subexpression-precedence .ensures) ∙ sym (arm (fixupQuestions _ _) 65535 _ 3 tt (c .before .before .match .keys4)))
+    (λ c. c .rank3 .ensures ∙ ap rankOf (c .before .rightmost-subexpression-precedence .ensures) ∙ sym (arm (fixupQuestions _ _) 65535 _ 4 tt (c .before .before .match .keys5)))
+    (λ c. sym (rest (fixupQuestions _ _) 65535 _ (c .match .rest))))

@@ -4,13 +4,7 @@ use Rattle.laws.specs.Choice.{pick}
 use Rattle.fixup_scan.proofs.arm.unattributed.Statement.{statement}
 use Rattle.fixup_scan.proofs.arm.unattributed.Tie as tie
 
-returns : tie.Need-returns
-unfolding pick
-returns c = rw (eq-eqb _ _ (c .if1 .taken))
-
-returns-2 : tie.Need-returns-2
-unfolding pick
-returns-2 c = rw (ne-eqb _ _ (c .if1 .left))
-
 pub unattributed-spec : {M : Type 1} → statement M
-unattributed-spec = tie.close (tie.spec returns returns-2)
+unfolding pick
+unattributed-spec =
+    tie.close (tie.spec (λ c. rw (eq-eqb _ _ (c .if1 .taken))) (λ c. rw (ne-eqb _ _ (c .if1 .left))))

@@ -3,13 +3,6 @@ use Rattle.laws.specs.Choice.{pick}
 use Rattle.fixup_scan.proofs.leave.choose.Statement.{statement}
 use Rattle.fixup_scan.proofs.leave.choose.Tie as tie
 
-returns : tie.Need-returns
-unfolding pick
-returns c = rw (c .if1 .taken)
-
-returns-2 : tie.Need-returns-2
-unfolding pick
-returns-2 c = rw (c .if1 .left)
-
 pub choose-spec : {M : Type 1} → statement M
-choose-spec = tie.close (tie.spec returns returns-2)
+unfolding pick
+choose-spec = tie.close (tie.spec (λ c. rw (c .if1 .taken)) (λ c. rw (c .if1 .left)))

@@ -1,139 +1,19 @@
 -- `scan::leave::settle_by` meets its contract. Assumes nothing.
 use mathlib.Core.Path.{refl, _∙_}
 use Rattle.laws.proofs.Choice.{pick-by}
+use Rattle.laws.proofs.Calls.{free}
 use borrow.Author.Needs.{needs}
 use Rattle.fixup_scan.proofs.leave.settle_by.Statement.{statement}
 use Rattle.fixup_scan.proofs.leave.settle_by.Tie as tie
 
-enum-told : tie.Need-enum-told
-enum-told c = search needs
-
-enum-known-arm : tie.Need-enum-known-arm
-enum-known-arm c = search needs
-
-is-at-most-requires : tie.Need-is-at-most-requires
-is-at-most-requires c κs = search needs
-
-consume-by-requires : tie.Need-consume-by-requires
-consume-by-requires c κs = search needs
-
-fail-or-requires : tie.Need-fail-or-requires
-fail-or-requires c κs = search needs
-
-choose-requires : tie.Need-choose-requires
-choose-requires c κs = search needs
-
-enum-told-2 : tie.Need-enum-told-2
-enum-told-2 c = search needs
-
-is-below-requires : tie.Need-is-below-requires
-is-below-requires c κs = search needs
-
-consume-by-requires-2 : tie.Need-consume-by-requires-2
-consume-by-requires-2 c κs = search needs
-
-fail-or-requires-2 : tie.Need-fail-or-requires-2
-fail-or-requires-2 c κs = search needs
-
-choose-requires-2 : tie.Need-choose-requires-2
-choose-requires-2 c κs = search needs
-
-enum-told-3 : tie.Need-enum-told-3
-enum-told-3 c = search needs
-
-is-at-most-requires-2 : tie.Need-is-at-most-requires-2
-is-at-most-requires-2 c κs = search needs
-
-choose-requires-3 : tie.Need-choose-requires-3
-choose-requires-3 c κs = search needs
-
-enum-told-4 : tie.Need-enum-told-4
-enum-told-4 c = search needs
-
-enum-told-5 : tie.Need-enum-told-5
-enum-told-5 c = search needs
-
-enum-told-6 : tie.Need-enum-told-6
-enum-told-6 c = search needs
-
-enum-told-7 : tie.Need-enum-told-7
-enum-told-7 c = search needs
-
-is-below-requires-2 : tie.Need-is-below-requires-2
-is-below-requires-2 c κs = search needs
-
-choose-requires-4 : tie.Need-choose-requires-4
-choose-requires-4 c κs = search needs
-
-enum-told-8 : tie.Need-enum-told-8
-enum-told-8 c = search needs
-
-enum-told-9 : tie.Need-enum-told-9
-enum-told-9 c = search needs
-
-returns : tie.Need-returns
-returns c = rw (c .enum-told .given .1)
-
-returns-2 : tie.Need-returns-2
-returns-2 c = rw (c .before .before .before .before .before .arm .given .1) (c .choose .ensures ∙ pick-by (c .before .before .before .is-at-most .ensures) (c .before .before .consume-by .ensures) (c .before .fail-or .ensures))
-
-returns-3 : tie.Need-returns-3
-returns-3 c = rw (c .before .before .before .before .enum-told2 .given .1) (c .choose2 .ensures ∙ pick-by (c .before .before .before .is-below .ensures) (c .before .before .consume-by2 .ensures) (c .before .fail-or2 .ensures))
-
-returns-4 : tie.Need-returns-4
-returns-4 c = rw (c .before .before .enum-told3 .given .1) (c .choose3 .ensures ∙ pick-by (c .before .is-at-most2 .ensures) refl refl)
-
-returns-5 : tie.Need-returns-5
-returns-5 c = rw (c .enum-told4 .given .1)
-
-returns-6 : tie.Need-returns-6
-returns-6 c = rw (c .enum-told5 .given .1)
-
-returns-7 : tie.Need-returns-7
-returns-7 c = rw (c .enum-told6 .given .1)
-
-returns-8 : tie.Need-returns-8
-returns-8 c = rw (c .before .before .enum-told7 .given .1) (c .choose4 .ensures ∙ pick-by (c .before .is-below2 .ensures) refl refl)
-
-returns-9 : tie.Need-returns-9
-returns-9 c = rw (c .enum-told8 .given .1)
-
-returns-10 : tie.Need-returns-10
-returns-10 c = rw (c .enum-told9 .given .1)
-
 pub settle-by-spec : {M : Type 1} → statement M
 settle-by-spec =
-    tie.close
-    (tie.spec
-    enum-told
-    enum-known-arm
-    is-at-most-requires
-    consume-by-requires
-    fail-or-requires
-    choose-requires
-    enum-told-2
-    is-below-requires
-    consume-by-requires-2
-    fail-or-requires-2
-    choose-requires-2
-    enum-told-3
-    is-at-most-requires-2
-    choose-requires-3
-    enum-told-4
-    enum-told-5
-    enum-told-6
-    enum-told-7
-    is-below-requires-2
-    choose-requires-4
-    enum-told-8
-    enum-told-9
-    returns
-    returns-2
-    returns-3
-    returns-4
-    returns-5
-    returns-6
-    returns-7
-    returns-8
-    returns-9
-    returns-10)
+    tie.close (tie.spec (λ c. search needs) (λ c. search needs) free free free free (λ c. search needs) free free free
+    free (λ c. search needs) free free (λ c. search needs) (λ c. search needs) (λ c. search needs) (λ c. search needs)
+    free free (λ c. search needs) (λ c. search needs) (λ c. rw (c .enum-told .given .1))
+    (λ c. rw (c .before .before .before .before .before .arm .given .1) (c .choose .ensures ∙ pick-by (c .before .before .before .is-at-most .ensures) (c .before .before .consume-by .ensures) (c .before .fail-or .ensures)))
+    (λ c. rw (c .before .before .before .before .enum-told2 .given .1) (c .choose2 .ensures ∙ pick-by (c .before .before .before .is-below .ensures) (c .before .before .consume-by2 .ensures) (c .before .fail-or2 .ensures)))
+    (λ c. rw (c .before .before .enum-told3 .given .1) (c .choose3 .ensures ∙ pick-by (c .before .is-at-most2 .ensures) refl refl))
+    (λ c. rw (c .enum-told4 .given .1)) (λ c. rw (c .enum-told5 .given .1)) (λ c. rw (c .enum-told6 .given .1))
+    (λ c. rw (c .before .before .enum-told7 .given .1) (c .choose4 .ensures ∙ pick-by (c .before .is-below2 .ensures) refl refl))
+    (λ c. rw (c .enum-told8 .given .1)) (λ c. rw (c .enum-told9 .given .1)))

@@ -3,6 +3,7 @@ use mathlib.Core.Path.{_≡_, refl, sym, ap, _∙_}
 use Prim.Native.Nat.{_-_}
 use native.Mathlib.Omega.{arith}
 use borrow.Author.Needs.{needs}
+use Rattle.laws.proofs.Calls.{free}
 use Rattle.tree.specs.Trees.{treeAt}
 use Rattle.precedence.specs.Precedences.{precedenceOf}
 use Rattle.precedence.proofs.Steps.{of-ends, of-goes}
@@ -15,40 +16,14 @@ Inv-loop table count node at₀ at = precedenceOf (treeAt table count at) ≡ pr
 abbrev μ-loop : tie.MeasureT-loop
 μ-loop table count node at₀ at = 65536 - at
 
-loop-holds : tie.Need-loop-holds Inv-loop μ-loop
-loop-holds c = refl
-
-level-at-requires : tie.Need-level-at-requires Inv-loop μ-loop
-level-at-requires c κs = search needs
-
-enum-known-level : tie.Need-enum-known-level Inv-loop μ-loop
-enum-known-level c = search needs
-
-enum-known-level-2 : tie.Need-enum-known-level-2 Inv-loop μ-loop
-enum-known-level-2 c = search needs
-
 loop-less : tie.Need-loop-less Inv-loop μ-loop
 loop-less c =
     let g = of-goes _ _ _ _ (sym (c .before .level2 .given .1) ∙ c .before .before .before .level-at .ensures) in
     let h = c .before .before .before .before .before .before .fits .count in
     omega arith
 
-loop-again : tie.Need-loop-again Inv-loop μ-loop
-loop-again c = of-goes _ _ _ _ (sym (c .before .level2 .given .1) ∙ c .before .before .before .level-at .ensures) .2 ∙ c .before .before .before .before .loop .inv
-
-returns : tie.Need-returns Inv-loop μ-loop
-returns c = sym (of-ends _ _ _ _ (sym (c .before .level .given .1) ∙ c .before .before .before .level-at .ensures)) ∙ c .before .before .before .before .loop .inv
-
 pub of-spec : {M : Type 1} → statement M
 of-spec =
-    tie.close
-    (tie.spec
-    Inv-loop
-    μ-loop
-    loop-holds
-    level-at-requires
-    enum-known-level
-    enum-known-level-2
-    loop-less
-    loop-again
-    returns)
+    tie.close (tie.spec Inv-loop μ-loop (λ c. refl) free (λ c. search needs) (λ c. search needs) loop-less
+    (λ c. of-goes _ _ _ _ (sym (c .before .level2 .given .1) ∙ c .before .before .before .level-at .ensures) .2 ∙ c .before .before .before .before .loop .inv)
+    (λ c. sym (of-ends _ _ _ _ (sym (c .before .level .given .1) ∙ c .before .before .before .level-at .ensures)) ∙ c .before .before .before .before .loop .inv))

@@ -11,64 +11,23 @@ use Rattle.precedence.proofs.Precedence.of_binop.Tie as tie
 shifts : (x : ℕ) → 5 ≤ x → (x ≡ 5 → ⊥) → (x ≡ 6 → ⊥) → (x ≡ 7 → ⊥) → (x ≡ 8 → ⊥) → (x ≡ 9 → ⊥) → 10 ≤ x
 shifts x h a b c d e = omega arith
 
-returns : tie.Need-returns
-unfolding ofBinop operators
-returns c = sym (in-row operators Jump _ 2 tt (c .match .keys1))
-
-returns-2 : tie.Need-returns-2
-unfolding ofBinop operators
-returns-2 c = sym (in-row operators Jump _ 3 tt (c .match .keys2))
-
-returns-3 : tie.Need-returns-3
-unfolding ofBinop operators
-returns-3 c = sym (in-row operators Jump _ 4 tt (c .match .keys3))
-
-returns-4 : tie.Need-returns-4
-unfolding ofBinop operators
-returns-4 c = sym (in-row operators Jump _ 5 tt (c .match .keys4))
-
-returns-5 : tie.Need-returns-5
-unfolding ofBinop operators
-returns-5 c = sym (in-row operators Jump _ 6 tt (c .match .keys5))
-
-returns-6 : tie.Need-returns-6
-unfolding ofBinop operators
-returns-6 c = sym (found operators Jump 0 (upTo 0 2) _ tt tt (in-range 0 2 _ (omega arith) (c .if1 .taken)))
-
-returns-7 : tie.Need-returns-7
-unfolding ofBinop operators
-returns-7 c = sym (found operators Jump 1 (upTo 2 3) _ tt tt (in-range 2 3 _ (c .before .if1 .left) (c .if2 .taken)))
-
 returns-8 : tie.Need-returns-8
 unfolding ofBinop operators
 returns-8 c =
     let r = c .before .before .before .match .rest in
     sym (found operators Jump 7 (upTo 10 2) _ tt tt (in-range 10 2 _ (shifts _ (c .before .if2 .left) (r .0 .0 .0 .0 .1) (r .0 .0 .0 .1) (r .0 .0 .1) (r .0 .1) (r .1)) (c .if3 .taken)))
 
-returns-9 : tie.Need-returns-9
-unfolding ofBinop operators
-returns-9 c = sym (found operators Jump 8 (upTo 12 6) _ tt tt (in-range 12 6 _ (c .before .if3 .left) (c .if4 .taken)))
-
-returns-10 : tie.Need-returns-10
-unfolding ofBinop operators
-returns-10 c = sym (found operators Jump 9 (upTo 18 10) _ tt tt (in-range 18 10 _ (c .before .if4 .left) (c .if5 .taken)))
-
-returns-11 : tie.Need-returns-11
-unfolding ofBinop operators
-returns-11 c = sym (past-rows operators Jump 28 _ tt (c .if5 .left))
-
 pub of-binop-spec : {M : Type 1} → statement M
+unfolding ofBinop operators
 of-binop-spec =
-    tie.close
-    (tie.spec
-    returns
-    returns-2
-    returns-3
-    returns-4
-    returns-5
-    returns-6
-    returns-7
+    tie.close (tie.spec (λ c. sym (in-row operators Jump _ 2 tt (c .match .keys1)))
+    (λ c. sym (in-row operators Jump _ 3 tt (c .match .keys2)))
+    (λ c. sym (in-row operators Jump _ 4 tt (c .match .keys3)))
+    (λ c. sym (in-row operators Jump _ 5 tt (c .match .keys4)))
+    (λ c. sym (in-row operators Jump _ 6 tt (c .match .keys5)))
+    (λ c. sym (found operators Jump 0 (upTo 0 2) _ tt tt (in-range 0 2 _ (omega arith) (c .if1 .taken))))
+    (λ c. sym (found operators Jump 1 (upTo 2 3) _ tt tt (in-range 2 3 _ (c .before .if1 .left) (c .if2 .taken))))
     returns-8
-    returns-9
-    returns-10
-    returns-11)
+    (λ c. sym (found operators Jump 8 (upTo 12 6) _ tt tt (in-range 12 6 _ (c .before .if3 .left) (c .if4 .taken))))
+    (λ c. sym (found operators Jump 9 (upTo 18 10) _ tt tt (in-range 18 10 _ (c .before .if4 .left) (c .if5 .taken))))
+    (λ c. sym (past-rows operators Jump 28 _ tt (c .if5 .left))))

@@ -12,6 +12,5 @@ abbrev μ-loop : tie.MeasureT-loop
 
 pub zeros-spec : {M : Type 1} → statement M
 zeros-spec =
-    tie.close
-    (tie.spec Inv-loop μ-loop (λ c. tt) (λ c. omega arith) (λ c. omega arith) (λ c. tt) (λ c. omega arith)
+    tie.close (tie.spec Inv-loop μ-loop (λ c. tt) (λ c. omega arith) (λ c. omega arith) (λ c. tt) (λ c. omega arith)
     (λ c. omega arith) (λ c. tt) (λ c. tt))

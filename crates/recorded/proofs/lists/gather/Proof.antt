@@ -13,12 +13,8 @@ Inv-loop file codes₀ n i₀ codes i = length codes ≡ length codes₀
 abbrev μ-loop : tie.MeasureT-loop
 μ-loop file codes₀ n i₀ codes i = n - i
 
-same-length : tie.Need-same-length Inv-loop μ-loop
-same-length c = c .before .loop .inv
-
 pub gather-spec : {M : Type 1} → statement M
 gather-spec =
-    tie.close
-    (tie.spec Inv-loop μ-loop (λ c. omega arith) (λ c. omega arith) (λ c. omega arith) (λ c. omega arith)
+    tie.close (tie.spec Inv-loop μ-loop (λ c. omega arith) (λ c. omega arith) (λ c. omega arith) (λ c. omega arith)
     (λ c. omega arith) (λ c. omega arith) (λ c κs. tt) (λ c. omega arith) (λ c. omega arith) (λ c. omega arith)
-    (λ c. omega arith) (λ c. search needs) same-length (λ c. tt))
+    (λ c. omega arith) (λ c. search needs) (λ c. c .before .loop .inv) (λ c. tt))

@@ -1,28 +1,11 @@
 -- `token_reader::expressions::attempt` meets its contract. Assumes nothing.
 use borrow.Author.Needs.{needs}
+use Rattle.laws.proofs.Calls.{free}
 use Rattle.token_reader.proofs.ExprEnds.{try-stored}
 use Rattle.token_reader.proofs.expressions.attempt.Statement.{statement}
 use Rattle.token_reader.proofs.expressions.attempt.Tie as tie
 
-add-strongest : tie.Need-add-strongest
-add-strongest c = search needs
-
-add-store : tie.Need-add-store
-add-store c = search needs
-
-store-requires : tie.Need-store-requires
-store-requires c κs = search needs
-
-strongest-requires : tie.Need-strongest-requires
-strongest-requires c κs = search needs
-
-same-length : tie.Need-same-length
-same-length c = search needs
-
-returns : tie.Need-returns
-returns c = try-stored _ (c .before .before .before .before .before .before .before .before .before .pre .0) (c .before .before .before .before .before .before .before .before .before .pre .1) (c .before .before .before .store .ensures) (c .strongest .ensures)
-
 pub attempt-spec : {M : Type 1} → statement M
 attempt-spec =
-    tie.close
-    (tie.spec add-strongest add-store store-requires strongest-requires same-length returns)
+    tie.close (tie.spec (λ c. search needs) (λ c. search needs) (λ c κs. search needs) free (λ c. search needs)
+    (λ c. try-stored _ (c .before .before .before .before .before .before .before .before .before .pre .0) (c .before .before .before .before .before .before .before .before .before .pre .1) (c .before .before .before .store .ensures) (c .strongest .ensures)))

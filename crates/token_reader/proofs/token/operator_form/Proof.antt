@@ -6,13 +6,8 @@ use Rattle.token_reader.specs.Tables.{operatorForm}
 use Rattle.token_reader.proofs.token.operator_form.Statement.{statement}
 use Rattle.token_reader.proofs.token.operator_form.Tie as tie
 
-returns : tie.Need-returns
-unfolding operatorForm
-returns c = sym (pick-true _ _ (eq-eqb _ _ (c .if1 .taken)))
-
-returns-2 : tie.Need-returns-2
-unfolding operatorForm
-returns-2 c = sym (pick-false _ _ (ne-eqb _ _ (c .if1 .left)))
-
 pub operator-form-spec : {M : Type 1} → statement M
-operator-form-spec = tie.close (tie.spec returns returns-2)
+unfolding operatorForm
+operator-form-spec =
+    tie.close (tie.spec (λ c. sym (pick-true _ _ (eq-eqb _ _ (c .if1 .taken))))
+    (λ c. sym (pick-false _ _ (ne-eqb _ _ (c .if1 .left)))))

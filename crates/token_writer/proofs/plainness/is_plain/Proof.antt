@@ -2,10 +2,10 @@
 use mathlib.Core.Path.{sym, _∙_}
 use mathlib.Core.List.{List, [], _∷_}
 use Prim.Native.Nat.{ℕ}
+use Rattle.laws.proofs.Calls.{free}
 use Rattle.tree.specs.Forms.{ExprAssign, ExprAwait, ExprBinary, ExprCall, ExprCast, ExprField, ExprIndex, ExprLit, ExprMethodCall, ExprParen, ExprPath, ExprReference, ExprTry, ExprUnary, TypeInfer, TypeNever, TypePtr, TypeReference, Link}
 use Rattle.tree.specs.Trees.{labelAt}
 use Rattle.token_writer.proofs.Plains.{with-attributes, plain-expression, plain-type, plain-path, not-plain}
-use borrow.Author.Needs.{needs}
 use Rattle.token_writer.proofs.plainness.is_plain.Statement.{statement}
 use Rattle.token_writer.proofs.plainness.is_plain.Tie as tie
 
@@ -22,22 +22,10 @@ types = TypeInfer ∷ TypeNever ∷ TypePtr ∷ Link ∷ []
 abbrev moreTypes : List ℕ
 moreTypes = TypeReference ∷ []
 
-cell-requires : tie.Need-cell-requires
-cell-requires c κs = search needs
-
 returns : tie.Need-returns
 unfolding labelAt
 returns c = let s = c .before .before .before in
     sym (with-attributes (labelAt (s .args .table .now) (s .args .node)) (λ e. c .if1 .taken (c .before .cell .ensures ∙ e)))
-
-cell-requires-2 : tie.Need-cell-requires-2
-cell-requires-2 c κs = search needs
-
-cell-requires-3 : tie.Need-cell-requires-3
-cell-requires-3 c κs = search needs
-
-is-plain-path-requires : tie.Need-is-plain-path-requires
-is-plain-path-requires c κs = search needs
 
 returns-2 : tie.Need-returns-2
 unfolding labelAt
@@ -84,16 +72,4 @@ returns-7 c = let s = c .before .before .before .before .before in
 
 pub is-plain-spec : {M : Type 1} → statement M
 is-plain-spec =
-    tie.close
-    (tie.spec
-    cell-requires
-    returns
-    cell-requires-2
-    cell-requires-3
-    is-plain-path-requires
-    returns-2
-    returns-3
-    returns-4
-    returns-5
-    returns-6
-    returns-7)
+    tie.close (tie.spec free returns free free free returns-2 returns-3 returns-4 returns-5 returns-6 returns-7)

@@ -6,11 +6,6 @@ use Rattle.token_writer.proofs.Plains.{path-two}
 use Rattle.token_writer.proofs.plainness.is_plain_path.Statement.{statement}
 use Rattle.token_writer.proofs.plainness.is_plain_path.Tie as tie
 
-returns : tie.Need-returns
-returns c = sym (or-here _ (eq-eqb 1 _ (sym (c .if1 .taken))))
-
-returns-2 : tie.Need-returns-2
-returns-2 c = path-two _ (c .if1 .left)
-
 pub is-plain-path-spec : {M : Type 1} → statement M
-is-plain-path-spec = tie.close (tie.spec returns returns-2)
+is-plain-path-spec =
+    tie.close (tie.spec (λ c. sym (or-here _ (eq-eqb 1 _ (sym (c .if1 .taken))))) (λ c. path-two _ (c .if1 .left)))

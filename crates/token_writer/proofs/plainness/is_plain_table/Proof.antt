@@ -3,9 +3,9 @@ use mathlib.Core.Path.{_≡_, refl, sym, ap, _∙_}
 use mathlib.Core.Bool.{false, not}
 use Prim.Native.Nat.{ℕ, _+_, _-_, _≤_}
 use native.Mathlib.Omega.{arith}
-use borrow.Author.Needs.{needs}
 use Rattle.laws.specs.Each.{some}
 use Rattle.laws.proofs.Each.{some-more, some-found}
+use Rattle.laws.proofs.Calls.{free}
 use Rattle.tree.specs.Trees.{labelAt}
 use Rattle.token_plain.specs.Plain.{isPlain, plainTable}
 use Rattle.token_writer.proofs.plainness.is_plain_table.Statement.{statement}
@@ -17,27 +17,11 @@ Inv-loop count table done₀ done = (done ≤ count) × (some (λ (i : ℕ). not
 abbrev μ-loop : tie.MeasureT-loop
 μ-loop count table done₀ done = count - done
 
-loop-holds : tie.Need-loop-holds Inv-loop μ-loop
-unfolding some
-loop-holds c = (omega arith, refl)
-
-add-is-plain : tie.Need-add-is-plain Inv-loop μ-loop
-add-is-plain c = omega arith
-
-is-plain-requires : tie.Need-is-plain-requires Inv-loop μ-loop
-is-plain-requires c κs = search needs
-
 returns : tie.Need-returns Inv-loop μ-loop
 unfolding plainTable
 returns c =
     let l = c .before .before .before .loop in
     sym (ap not (some-found _ _ (l .done + 1) (omega arith) (omega arith) (ap not (sym (c .before .is-plain .ensures)) ∙ c .if1 .taken)))
-
-add-done : tie.Need-add-done Inv-loop μ-loop
-add-done c = omega arith
-
-loop-less : tie.Need-loop-less Inv-loop μ-loop
-loop-less c = omega arith
 
 loop-again : tie.Need-loop-again Inv-loop μ-loop
 loop-again c =
@@ -52,16 +36,7 @@ returns-2 c =
     sym (ap not (rw e at (l .inv .1)))
 
 pub is-plain-table-spec : {M : Type 1} → statement M
+unfolding some
 is-plain-table-spec =
-    tie.close
-    (tie.spec
-    Inv-loop
-    μ-loop
-    loop-holds
-    add-is-plain
-    is-plain-requires
-    returns
-    add-done
-    loop-less
-    loop-again
-    returns-2)
+    tie.close (tie.spec Inv-loop μ-loop (λ c. (omega arith, refl)) (λ c. omega arith) free returns (λ c. omega arith)
+    (λ c. omega arith) loop-again returns-2)

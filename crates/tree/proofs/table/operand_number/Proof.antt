@@ -2,9 +2,9 @@
 use mathlib.Core.Path.{_≡_, refl, sym, ap, _∙_}
 use mathlib.Core.Bool.{true, false}
 use Prim.Native.Nat.{ℕ, _≤_, _<_}
-use borrow.Author.Needs.{needs}
 use borrow.Author.Tests.{lt-ltb, le-ltb, le-leb, lt-leb}
 use Rattle.laws.specs.Choice.{pick}
+use Rattle.laws.proofs.Calls.{free}
 use Rattle.tree.specs.Trees.{operandOf}
 use Rattle.tree.proofs.table.operand_number.Statement.{statement}
 use Rattle.tree.proofs.table.operand_number.Tie as tie
@@ -23,17 +23,8 @@ module _ (count i o : ℕ) where
   unfolding operandOf pick
   present h k = rw (lt-ltb i o h, le-leb o count k)
 
-cell-requires : tie.Need-cell-requires
-cell-requires c κs = search needs
-
-returns : tie.Need-returns
-returns c = rw (← c .before .cell .ensures) (not-above _ _ _ (c .if1 .taken))
-
-returns-2 : tie.Need-returns-2
-returns-2 c = rw (← c .before .before .cell .ensures) (present _ _ _ (c .before .if1 .left) (c .if2 .taken))
-
-returns-3 : tie.Need-returns-3
-returns-3 c = rw (← c .before .before .cell .ensures) (past-count _ _ _ (c .before .if1 .left) (c .if2 .left))
-
 pub operand-number-spec : {M : Type 1} → statement M
-operand-number-spec = tie.close (tie.spec cell-requires returns returns-2 returns-3)
+operand-number-spec =
+    tie.close (tie.spec free (λ c. rw (← c .before .cell .ensures) (not-above _ _ _ (c .if1 .taken)))
+    (λ c. rw (← c .before .before .cell .ensures) (present _ _ _ (c .before .if1 .left) (c .if2 .taken)))
+    (λ c. rw (← c .before .before .cell .ensures) (past-count _ _ _ (c .before .if1 .left) (c .if2 .left))))

@@ -13,9 +13,6 @@ use Rattle.tree_one_pass.proofs.rows.path_row.Tie as tie
 pub path-row-spec : {M : Type 1} → statement M
 unfolding suits codeIs firstPlace firstPlaces secondPlace secondPlaces lookup pick classOf highestAttributes highestDetail details
 path-row-spec =
-    tie.close
-    (tie.spec
-    (λ c. λ h. each (λ (d : ℕ). suits 49 d 3074) (1 ∷ []) _ tt (c .match .keys1))
+    tie.close (tie.spec (λ c. λ h. each (λ (d : ℕ). suits 49 d 3074) (1 ∷ []) _ tt (c .match .keys1))
     (λ c. λ h. each (λ (d : ℕ). suits 49 d 3842) (2 ∷ []) _ tt (c .match .keys2))
-    (λ c. λ h. each (λ (d : ℕ). suits 49 d 3138) (3 ∷ []) _ tt (c .match .keys3))
-    (λ c. λ h. absurd (h refl)))
+    (λ c. λ h. each (λ (d : ℕ). suits 49 d 3138) (3 ∷ []) _ tt (c .match .keys3)) (λ c. λ h. absurd (h refl)))

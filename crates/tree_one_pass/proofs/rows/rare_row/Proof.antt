@@ -5,10 +5,10 @@ use mathlib.Core.List.{[], _∷_}
 use Prim.Native.Nat.{ℕ}
 use lib.Dec.{eqb}
 use borrow.Author.Tests.{not-true}
-use borrow.Author.Needs.{needs}
 use types.Run.{OneOf}
 use Rattle.laws.specs.Choice.{pick, lookup}
 use Rattle.laws.proofs.Choice.{and-true}
+use Rattle.laws.proofs.Calls.{free}
 use Rattle.tree.specs.Forms.{classOf, highestAttributes, details, highestDetail}
 use Rattle.tree_places.specs.Places.{firstPlaces, firstPlace, secondPlaces, secondPlace}
 use Rattle.tree_one_pass.specs.Rows.{codeIs, suits}
@@ -29,15 +29,6 @@ closure-suits : (form detail : ℕ) → OneOf (10 ∷ []) form → suits form de
 unfolding suits codeIs firstPlace firstPlaces secondPlace secondPlaces lookup pick classOf highestAttributes highestDetail details
 closure-suits form detail k = each (λ (f : ℕ). suits f detail 1049) (10 ∷ []) form tt k
 
-path-row-requires : tie.Need-path-row-requires
-path-row-requires c κs = search needs
-
-bounds-row-requires : tie.Need-bounds-row-requires
-bounds-row-requires c κs = search needs
-
-has-bad-output-requires : tie.Need-has-bad-output-requires
-has-bad-output-requires c κs = search needs
-
 returns : tie.Need-returns
 returns c =
     let p = c .before .before .before .pre in
@@ -50,26 +41,12 @@ returns-2 c =
     let k = c .before .match .keys2 in
     λ h. row-by _ _ _ _ _ (p .0) (p .1) (bounds-suit _ _ _ k (c .bounds-row .ensures h)) (not-true _ (each (λ (f : ℕ). not (eqb f 10)) (44 ∷ 53 ∷ []) _ tt k))
 
-returns-3 : tie.Need-returns-3
-returns-3 c = λ h. absurd (h refl)
-
 returns-4 : tie.Need-returns-4
 returns-4 c =
     let p = c .before .before .before .before .pre in
     λ h. (rw (← p .0, ← p .1) (closure-suits _ _ (c .before .before .match .keys3)), sym (c .before .has-bad-output .ensures) ∙ c .if1 .left)
 
-returns-5 : tie.Need-returns-5
-returns-5 c = λ h. absurd (h refl)
-
 pub rare-row-spec : {M : Type 1} → statement M
 rare-row-spec =
-    tie.close
-    (tie.spec
-    path-row-requires
-    bounds-row-requires
-    has-bad-output-requires
-    returns
-    returns-2
-    returns-3
-    returns-4
-    returns-5)
+    tie.close (tie.spec free free free returns returns-2 (λ c. λ h. absurd (h refl)) returns-4
+    (λ c. λ h. absurd (h refl)))

@@ -15,8 +15,7 @@ use Rattle.tree_one_pass.proofs.rows.row_of.Tie as tie
 pub row-of-spec : {M : Type 1} → statement M
 unfolding suits codeIs firstPlace firstPlaces secondPlace secondPlaces lookup pick classOf highestAttributes highestDetail details
 row-of-spec =
-    tie.close
-    (tie.spec
+    tie.close (tie.spec
     (λ c. λ h d. each (λ (f : ℕ). suits f d 9 && not (eqb f 10)) (1 ∷ 3 ∷ 11 ∷ 16 ∷ 18 ∷ 20 ∷ 23 ∷ 26 ∷ 30 ∷ 32 ∷ 34 ∷ 37 ∷ []) _ tt (c .match .keys1))
     (λ c. λ h d. each (λ (f : ℕ). suits f d 9 && not (eqb f 10)) (12 ∷ 35 ∷ []) _ tt (c .match .keys2))
     (λ c. λ h d. each (λ (f : ℕ). suits f d 1033 && not (eqb f 10)) (6 ∷ 14 ∷ 21 ∷ 39 ∷ []) _ tt (c .match .keys3))

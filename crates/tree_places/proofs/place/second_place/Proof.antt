@@ -9,13 +9,8 @@ use Rattle.tree_places.proofs.place.second_place.Tie as tie
 pub second-place-spec : {M : Type 1} → statement M
 unfolding secondPlace secondPlaces
 second-place-spec =
-    tie.close
-    (tie.spec
-    (λ c κs. search needs)
-    (λ c. sym (arm _ _ _ 0 tt (c .match .keys1)))
-    (λ c. sym (arm _ _ _ 1 tt (c .match .keys2)))
-    (λ c. sym (arm _ _ _ 2 tt (c .match .keys3)))
+    tie.close (tie.spec (λ c κs. search needs) (λ c. sym (arm _ _ _ 0 tt (c .match .keys1)))
+    (λ c. sym (arm _ _ _ 1 tt (c .match .keys2))) (λ c. sym (arm _ _ _ 2 tt (c .match .keys3)))
     (λ c. sym (arm _ _ _ 3 tt (c .match .keys4)))
     (λ c. c .arguments-place .ensures ∙ sym (arm _ _ _ 4 tt (c .before .match .keys5)))
-    (λ c. sym (arm _ _ _ 5 tt (c .match .keys6)))
-    (λ c. sym (rest _ _ _ (c .match .rest))))
+    (λ c. sym (arm _ _ _ 5 tt (c .match .keys6))) (λ c. sym (rest _ _ _ (c .match .rest))))

@@ -1,5 +1,6 @@
 -- `rules::refusal::find_refusal` meets its contract. Assumes nothing.
 use mathlib.Core.Path.{_≡_, sym, _∙_}
+use Rattle.laws.proofs.Calls.{free}
 use Rattle.tree_rules.specs.Refusals.{nodeRefusals, refusal6, refusal9, refusal10}
 use Rattle.tree_rules.specs.Passes.{breaks}
 use Rattle.tree_rules.proofs.First.{stop, skip, no-more}
@@ -7,17 +8,11 @@ use borrow.Author.Needs.{needs}
 use Rattle.tree_rules.proofs.refusal.find_refusal.Statement.{statement}
 use Rattle.tree_rules.proofs.refusal.find_refusal.Tie as tie
 
-some-breaks-requires : tie.Need-some-breaks-requires
-some-breaks-requires c κs = search needs
-
 returns : tie.Need-returns
 unfolding nodeRefusals refusal6 refusal9 refusal10 breaks
 returns c =
     sym
     (stop _ _ (sym (c .before .some-breaks .ensures) ∙ c .if1 .taken))
-
-has-wrong-operands-requires : tie.Need-has-wrong-operands-requires
-has-wrong-operands-requires c κs = search needs
 
 returns-2 : tie.Need-returns-2
 unfolding nodeRefusals refusal6 refusal9 refusal10 breaks
@@ -26,9 +21,6 @@ returns-2 c =
     (skip _ _ (sym (c .before .before .before .some-breaks .ensures) ∙ c .before .before .if1 .left)
     ∙ stop _ _ (sym (c .before .has-wrong-operands .ensures) ∙ c .if2 .taken))
 
-has-wrong-owners-requires : tie.Need-has-wrong-owners-requires
-has-wrong-owners-requires c κs = search needs
-
 returns-3 : tie.Need-returns-3
 unfolding nodeRefusals refusal6 refusal9 refusal10 breaks
 returns-3 c =
@@ -36,9 +28,6 @@ returns-3 c =
     (skip _ _ (sym (c .before .before .before .before .before .some-breaks .ensures) ∙ c .before .before .before .before .if1 .left)
     ∙ skip _ _ (sym (c .before .before .before .has-wrong-operands .ensures) ∙ c .before .before .if2 .left)
     ∙ stop _ _ (sym (c .before .has-wrong-owners .ensures) ∙ c .if3 .taken))
-
-some-breaks-requires-2 : tie.Need-some-breaks-requires-2
-some-breaks-requires-2 c κs = search needs
 
 returns-4 : tie.Need-returns-4
 unfolding nodeRefusals refusal6 refusal9 refusal10 breaks
@@ -49,9 +38,6 @@ returns-4 c =
     ∙ skip _ _ (sym (c .before .before .before .has-wrong-owners .ensures) ∙ c .before .before .if3 .left)
     ∙ stop _ _ (sym (c .before .some-breaks2 .ensures) ∙ c .if4 .taken))
 
-some-breaks-requires-3 : tie.Need-some-breaks-requires-3
-some-breaks-requires-3 c κs = search needs
-
 returns-5 : tie.Need-returns-5
 unfolding nodeRefusals refusal6 refusal9 refusal10 breaks
 returns-5 c =
@@ -61,9 +47,6 @@ returns-5 c =
     ∙ skip _ _ (sym (c .before .before .before .before .before .has-wrong-owners .ensures) ∙ c .before .before .before .before .if3 .left)
     ∙ skip _ _ (sym (c .before .before .before .some-breaks2 .ensures) ∙ c .before .before .if4 .left)
     ∙ stop _ _ (sym (c .before .some-breaks3 .ensures) ∙ c .if5 .taken))
-
-is-too-deep-requires : tie.Need-is-too-deep-requires
-is-too-deep-requires c κs = search needs
 
 returns-6 : tie.Need-returns-6
 unfolding nodeRefusals refusal6 refusal9 refusal10 breaks
@@ -90,18 +73,5 @@ returns-7 c =
 
 pub find-refusal-spec : {M : Type 1} → statement M
 find-refusal-spec =
-    tie.close
-    (tie.spec
-    some-breaks-requires
-    returns
-    has-wrong-operands-requires
-    returns-2
-    has-wrong-owners-requires
-    returns-3
-    some-breaks-requires-2
-    returns-4
-    some-breaks-requires-3
-    returns-5
-    is-too-deep-requires
-    returns-6
-    returns-7)
+    tie.close (tie.spec free returns free returns-2 (λ c κs. search needs) returns-3 free returns-4 free returns-5
+    (λ c κs. search needs) returns-6 returns-7)

@@ -18,37 +18,12 @@ Inv-loop table count owners done₀ done = (done ≤ count) × Counted table cou
 abbrev μ-loop : tie.MeasureT-loop
 μ-loop table count owners done₀ done = count - done
 
-slice-aggregate-count-owners : tie.Need-slice-aggregate-count-owners Inv-loop μ-loop
-slice-aggregate-count-owners c = search needs
-
-count-owners-requires : tie.Need-count-owners-requires Inv-loop μ-loop
-count-owners-requires c κs = (c .before .before .pre, counted-none _)
-
-loop-holds : tie.Need-loop-holds Inv-loop μ-loop
-unfolding some
-loop-holds c = (omega arith, c .before .count-owners .ensures, refl)
-
-slice-aggregate-is-badly-owned : tie.Need-slice-aggregate-is-badly-owned Inv-loop μ-loop
-slice-aggregate-is-badly-owned c = sym (c .before .before .loop .inv .1 .size)
-
-add-is-badly-owned : tie.Need-add-is-badly-owned Inv-loop μ-loop
-add-is-badly-owned c = omega arith
-
-is-badly-owned-requires : tie.Need-is-badly-owned-requires Inv-loop μ-loop
-is-badly-owned-requires c κs = (c .before .before .loop .inv .1 .size, omega arith)
-
 returns : tie.Need-returns Inv-loop μ-loop
 returns c =
     let l = c .before .before .before .before .loop in
     sym
     (some-found _ _ (l .done + 1) (omega arith) (omega arith)
     (sym (owned-badly _ _ _ (l .inv .1) (l .done + 1) (omega arith)) ∙ sym (c .before .is-badly-owned .ensures) ∙ c .if1 .taken))
-
-add-done : tie.Need-add-done Inv-loop μ-loop
-add-done c = omega arith
-
-loop-less : tie.Need-loop-less Inv-loop μ-loop
-loop-less c = omega arith
 
 loop-again : tie.Need-loop-again Inv-loop μ-loop
 loop-again c =
@@ -66,19 +41,9 @@ returns-2 c =
     sym (rw e at (l .inv .2))
 
 pub has-bad-owner-spec : {M : Type 1} → statement M
+unfolding some
 has-bad-owner-spec =
-    tie.close
-    (tie.spec
-    Inv-loop
-    μ-loop
-    slice-aggregate-count-owners
-    count-owners-requires
-    loop-holds
-    slice-aggregate-is-badly-owned
-    add-is-badly-owned
-    is-badly-owned-requires
-    returns
-    add-done
-    loop-less
-    loop-again
-    returns-2)
+    tie.close (tie.spec Inv-loop μ-loop (λ c. search needs) (λ c κs. (c .before .before .pre, counted-none _))
+    (λ c. (omega arith, c .before .count-owners .ensures, refl)) (λ c. sym (c .before .before .loop .inv .1 .size))
+    (λ c. omega arith) (λ c κs. (c .before .before .loop .inv .1 .size, omega arith)) returns (λ c. omega arith)
+    (λ c. omega arith) loop-again returns-2)

@@ -1,31 +1,14 @@
 -- `rules::refusal::is_plain_block` meets its contract. Assumes nothing.
 use borrow.Author.Tests.{eq-eqb, ne-eqb}
+use Rattle.laws.proofs.Calls.{free}
 use Rattle.tree_rules.specs.Refusals.{plainBlock}
-use borrow.Author.Needs.{needs}
 use Rattle.tree_rules.proofs.refusal.is_plain_block.Statement.{statement}
 use Rattle.tree_rules.proofs.refusal.is_plain_block.Tie as tie
 
-cell-requires : tie.Need-cell-requires
-cell-requires c κs = search needs
-
-returns : tie.Need-returns
-unfolding plainBlock
-returns c = rw (← c .before .cell .ensures, ne-eqb _ _ (c .if1 .taken))
-
-cell-requires-2 : tie.Need-cell-requires-2
-cell-requires-2 c κs = search needs
-
-returns-2 : tie.Need-returns-2
-unfolding plainBlock
-returns-2 c = rw (← c .before .before .before .cell .ensures, eq-eqb _ _ (c .before .before .if1 .left), ← c .before .cell2 .ensures, ne-eqb _ _ (c .if2 .taken))
-
-cell-requires-3 : tie.Need-cell-requires-3
-cell-requires-3 c κs = search needs
-
-returns-3 : tie.Need-returns-3
-unfolding plainBlock
-returns-3 c = rw (← c .before .before .before .before .cell .ensures, eq-eqb _ _ (c .before .before .before .if1 .left), ← c .before .before .cell2 .ensures, eq-eqb _ _ (c .before .if2 .left), ← c .cell3 .ensures)
-
 pub is-plain-block-spec : {M : Type 1} → statement M
+unfolding plainBlock
 is-plain-block-spec =
-    tie.close (tie.spec cell-requires returns cell-requires-2 returns-2 cell-requires-3 returns-3)
+    tie.close (tie.spec free (λ c. rw (← c .before .cell .ensures, ne-eqb _ _ (c .if1 .taken))) free
+    (λ c. rw (← c .before .before .before .cell .ensures, eq-eqb _ _ (c .before .before .if1 .left), ← c .before .cell2 .ensures, ne-eqb _ _ (c .if2 .taken)))
+    free
+    (λ c. rw (← c .before .before .before .before .cell .ensures, eq-eqb _ _ (c .before .before .before .if1 .left), ← c .before .before .cell2 .ensures, eq-eqb _ _ (c .before .if2 .left), ← c .cell3 .ensures)))

@@ -2,6 +2,7 @@
 use mathlib.Core.Path.{_≡_, sym, _∙_}
 use mathlib.Core.Bool.{false, _||_}
 use Rattle.laws.proofs.Choice.{or-false}
+use Rattle.laws.proofs.Calls.{free}
 use Rattle.tree.specs.Trees.{Tree}
 use Rattle.fixup.specs.declared.context.FixupContext.{FixupContext}
 use Rattle.fixup.specs.Fixup.{parenthesize}
@@ -21,18 +22,7 @@ silent x t e =
     let u = or-false (x .condition) (x .«rightmost_subexpression_in_condition») (r .0) in
     rw (s .0, s .1, q .1, u .0, u .1, r .1)
 
-asks-requires : tie.Need-asks-requires
-asks-requires c κs = search needs
-
-parenthesize-asked-requires : tie.Need-parenthesize-asked-requires
-parenthesize-asked-requires c κs = search needs
-
-returns : tie.Need-returns
-returns c = search needs
-
-returns-2 : tie.Need-returns-2
-returns-2 c = sym (silent _ _ (sym (c .before .asks .ensures) ∙ c .if1 .left))
-
 pub parenthesize-spec : {M : Type 1} → statement M
 parenthesize-spec =
-    tie.close (tie.spec asks-requires parenthesize-asked-requires returns returns-2)
+    tie.close (tie.spec free free (λ c. search needs)
+    (λ c. sym (silent _ _ (sym (c .before .asks .ensures) ∙ c .if1 .left))))

@@ -2,15 +2,12 @@
 use mathlib.Core.Path.{sym, ap, _∙_}
 use mathlib.Core.Bool.{Bool, _&&_}
 use Rattle.laws.proofs.Choice.{or-here, or-next}
+use Rattle.laws.proofs.Calls.{free}
 use Rattle.tree.specs.Trees.{treeAt}
 use Rattle.fixup_look.specs.Looks.{isLet, isOpenEnded}
 use Rattle.fixup.specs.Fixup.{parenthesize}
-use borrow.Author.Needs.{needs}
 use Rattle.fixup.proofs.context.FixupContext.parenthesize_asked.Statement.{statement}
 use Rattle.fixup.proofs.context.FixupContext.parenthesize_asked.Tie as tie
-
-flagged-requires : tie.Need-flagged-requires
-flagged-requires c κs = search needs
 
 returns : tie.Need-returns
 unfolding parenthesize
@@ -18,21 +15,12 @@ returns c =
     sym
     (or-here _ (sym (c .before .flagged .ensures) ∙ c .if1 .taken))
 
-either-requires : tie.Need-either-requires
-either-requires c κs = search needs
-
-flagged-requires-2 : tie.Need-flagged-requires-2
-flagged-requires-2 c κs = search needs
-
 returns-2 : tie.Need-returns-2
 unfolding parenthesize
 returns-2 c =
     sym
     (or-next _ (sym (c .before .before .before .before .flagged .ensures) ∙ c .before .before .before .if1 .left)
     ∙ or-here _ (ap (λ (f : Bool). f && isLet (treeAt (c .before .before .before .before .before .before .args .table .now) (c .before .before .before .before .before .before .args .count) (c .before .before .before .before .before .before .args .node))) (sym (c .before .before .either .ensures)) ∙ sym (c .before .flagged2 .ensures) ∙ c .if2 .taken))
-
-flagged-requires-3 : tie.Need-flagged-requires-3
-flagged-requires-3 c κs = search needs
 
 returns-3 : tie.Need-returns-3
 unfolding parenthesize
@@ -42,9 +30,6 @@ returns-3 c =
     ∙ or-next _ (ap (λ (f : Bool). f && isLet (treeAt (c .before .before .before .before .before .before .before .before .args .table .now) (c .before .before .before .before .before .before .before .before .args .count) (c .before .before .before .before .before .before .before .before .args .node))) (sym (c .before .before .before .before .either .ensures)) ∙ sym (c .before .before .before .flagged2 .ensures) ∙ c .before .before .if2 .left)
     ∙ or-here _ (sym (c .before .flagged3 .ensures) ∙ c .if3 .taken))
 
-flagged-requires-4 : tie.Need-flagged-requires-4
-flagged-requires-4 c κs = search needs
-
 returns-4 : tie.Need-returns-4
 unfolding parenthesize
 returns-4 c =
@@ -53,9 +38,6 @@ returns-4 c =
     ∙ or-next _ (ap (λ (f : Bool). f && isLet (treeAt (c .before .before .before .before .before .before .before .before .before .before .args .table .now) (c .before .before .before .before .before .before .before .before .before .before .args .count) (c .before .before .before .before .before .before .before .before .before .before .args .node))) (sym (c .before .before .before .before .before .before .either .ensures)) ∙ sym (c .before .before .before .before .before .flagged2 .ensures) ∙ c .before .before .before .before .if2 .left)
     ∙ or-next _ (sym (c .before .before .before .flagged3 .ensures) ∙ c .before .before .if3 .left)
     ∙ or-here _ (sym (c .before .flagged4 .ensures) ∙ c .if4 .taken))
-
-flagged-requires-5 : tie.Need-flagged-requires-5
-flagged-requires-5 c κs = search needs
 
 returns-5 : tie.Need-returns-5
 unfolding parenthesize
@@ -67,12 +49,6 @@ returns-5 c =
     ∙ or-next _ (sym (c .before .before .before .flagged4 .ensures) ∙ c .before .before .if4 .left)
     ∙ or-here _ (sym (c .before .flagged5 .ensures) ∙ c .if5 .taken))
 
-and-not-requires : tie.Need-and-not-requires
-and-not-requires c κs = search needs
-
-flagged-requires-6 : tie.Need-flagged-requires-6
-flagged-requires-6 c κs = search needs
-
 returns-6 : tie.Need-returns-6
 unfolding parenthesize
 returns-6 c =
@@ -83,9 +59,6 @@ returns-6 c =
     ∙ or-next _ (sym (c .before .before .before .before .before .before .flagged4 .ensures) ∙ c .before .before .before .before .before .if4 .left)
     ∙ or-next _ (sym (c .before .before .before .before .flagged5 .ensures) ∙ c .before .before .before .if5 .left)
     ∙ or-here _ (ap (λ (f : Bool). f && isOpenEnded (treeAt (c .before .before .before .before .before .before .before .before .before .before .before .before .before .before .before .args .table .now) (c .before .before .before .before .before .before .before .before .before .before .before .before .before .before .before .args .count) (c .before .before .before .before .before .before .before .before .before .before .before .before .before .before .before .args .node))) (sym (c .before .before .and-not .ensures)) ∙ sym (c .before .flagged6 .ensures) ∙ c .if6 .taken))
-
-flagged-requires-7 : tie.Need-flagged-requires-7
-flagged-requires-7 c κs = search needs
 
 returns-7 : tie.Need-returns-7
 unfolding parenthesize
@@ -101,21 +74,5 @@ returns-7 c =
 
 pub parenthesize-asked-spec : {M : Type 1} → statement M
 parenthesize-asked-spec =
-    tie.close
-    (tie.spec
-    flagged-requires
-    returns
-    either-requires
-    flagged-requires-2
-    returns-2
-    flagged-requires-3
-    returns-3
-    flagged-requires-4
-    returns-4
-    flagged-requires-5
-    returns-5
-    and-not-requires
-    flagged-requires-6
-    returns-6
-    flagged-requires-7
-    returns-7)
+    tie.close (tie.spec free returns free free returns-2 free returns-3 free returns-4 free returns-5 free free
+    returns-6 free returns-7)

@@ -2,10 +2,10 @@
 use mathlib.Core.Path.{_≡_, refl, sym, _∙_}
 use mathlib.Core.Bool.{Bool, true, false, not, _&&_}
 use Rattle.laws.proofs.Choice.{pick-true, pick-false, true-not-false}
+use Rattle.laws.proofs.Calls.{free}
 use Rattle.tree.specs.Trees.{treeAt}
 use Rattle.fixup_look.specs.Looks.{isCastToPath}
 use Rattle.fixup.specs.Fixup.{effective}
-use borrow.Author.Needs.{needs}
 use Rattle.fixup.proofs.context.FixupContext.precedence.Statement.{statement}
 use Rattle.fixup.proofs.context.FixupContext.precedence.Tie as tie
 
@@ -18,23 +18,6 @@ set : (f : Bool) {b r v : Bool} → not f ≡ false → r ≡ b → r ≡ v → 
 set true e p q = sym p ∙ q
 set false e p q = true-not-false e
 
-flagged-requires : tie.Need-flagged-requires
-flagged-requires c κs = search needs
-
-returns : tie.Need-returns
-unfolding effective
-returns c = sym (pick-true _ _ (sym (c .before .flagged .ensures) ∙ c .if1 .taken))
-
-flagged-requires-2 : tie.Need-flagged-requires-2
-flagged-requires-2 c κs = search needs
-
-returns-2 : tie.Need-returns-2
-unfolding effective
-returns-2 c = sym (pick-false _ _ (sym (c .before .before .before .before .flagged .ensures) ∙ c .before .before .before .if1 .left) ∙ pick-true _ _ (sym (c .before .flagged2 .ensures) ∙ c .if2 .taken))
-
-of-requires : tie.Need-of-requires
-of-requires c κs = search needs
-
 returns-3 : tie.Need-returns-3
 unfolding effective
 returns-3 c =
@@ -44,9 +27,6 @@ returns-3 c =
     ∙ pick-false _ _ (sym (c .before .before .before .before .flagged2 .ensures) ∙ c .before .before .before .if2 .left)
     ∙ pick-false _ _ (unset (a .self .«next_operator_can_begin_generics») (isCastToPath (treeAt (a .table .now) (a .count) (a .node))) (c .before .if3 .taken)))
 
-looks-requires : tie.Need-looks-requires
-looks-requires c κs = search needs
-
 returns-4 : tie.Need-returns-4
 unfolding effective
 returns-4 c =
@@ -54,9 +34,6 @@ returns-4 c =
     sym (pick-false _ _ (sym (c .before .before .before .before .before .before .before .before .flagged .ensures) ∙ c .before .before .before .before .before .before .before .if1 .left)
     ∙ pick-false _ _ (sym (c .before .before .before .before .before .flagged2 .ensures) ∙ c .before .before .before .before .if2 .left)
     ∙ pick-true _ _ (set (a .self .«next_operator_can_begin_generics») (c .before .before .if3 .left) (c .before .looks .ensures) (c .if4 .taken)))
-
-of-requires-2 : tie.Need-of-requires-2
-of-requires-2 c κs = search needs
 
 returns-5 : tie.Need-returns-5
 unfolding effective
@@ -68,16 +45,8 @@ returns-5 c =
     ∙ pick-false _ _ (set (a .self .«next_operator_can_begin_generics») (c .before .before .before .if3 .left) (c .before .before .looks .ensures) (c .before .if4 .left)))
 
 pub precedence-spec : {M : Type 1} → statement M
+unfolding effective
 precedence-spec =
-    tie.close
-    (tie.spec
-    flagged-requires
-    returns
-    flagged-requires-2
-    returns-2
-    of-requires
-    returns-3
-    looks-requires
-    returns-4
-    of-requires-2
-    returns-5)
+    tie.close (tie.spec free (λ c. sym (pick-true _ _ (sym (c .before .flagged .ensures) ∙ c .if1 .taken))) free
+    (λ c. sym (pick-false _ _ (sym (c .before .before .before .before .flagged .ensures) ∙ c .before .before .before .if1 .left) ∙ pick-true _ _ (sym (c .before .flagged2 .ensures) ∙ c .if2 .taken)))
+    free returns-3 free returns-4 free returns-5)
