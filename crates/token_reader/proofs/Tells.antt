@@ -2,7 +2,7 @@
 use mathlib.Core.Path.{_≡_, sym, subst, _∙_}
 use mathlib.Core.Bool.{false}
 use mathlib.Core.List.{List}
-use Prim.Native.Nat.{ℕ, _*_, _≤_, _<_}
+use Prim.Native.Nat.{ℕ, _+_, _*_, _≤_, _<_}
 use native.Mathlib.Omega.{arith}
 use lib.ListN.{length}
 use Rattle.tree.specs.Sizes.{nodeCells, mostTokens, lastCode}
@@ -51,8 +51,8 @@ ready-grew to₂ h k r g =
 
 -- ---- a node for what was read: one is left where a token was passed before it, or stands behind it
 
-pub stores : {codes own now : List ℕ} {at free begun to left : ℕ} → Ready codes own at free → Grew own now begun free to left → at + to < begun + length codes → (1 ≤ left) × (5 * left ≤ length now)
+pub stores : {codes own now : List ℕ} {at free begun to left : ℕ} → Ready codes own at free → Grew own now begun free to left → at + to < begun + length codes → (1 ≤ left) × (nodeCells * left ≤ length now)
 stores r w h = (omega (arith, r .room, r .short, w .room), omega (arith, r .cells, r .most, w .less, w .same))
 
-pub stores-more : {codes own now now₂ : List ℕ} {at free to left to₂ left₂ : ℕ} → Ready codes own at free → Grew own now at free to left → to < length codes → Grew now now₂ (to + 1) left to₂ left₂ → to₂ ≤ length codes → (1 ≤ left₂) × (5 * left₂ ≤ length now₂)
+pub stores-more : {codes own now now₂ : List ℕ} {at free to left to₂ left₂ : ℕ} → Ready codes own at free → Grew own now at free to left → to < length codes → Grew now now₂ (to + 1) left to₂ left₂ → to₂ ≤ length codes → (1 ≤ left₂) × (nodeCells * left₂ ≤ length now₂)
 stores-more {codes} {own} {now} {now₂} {at} {free} {to} r w h v k = stores (ready-grew to (omega arith) (omega arith) r w) v (omega arith)
