@@ -5,6 +5,7 @@ use lib.ListN.{length}
 use native.Mathlib.Omega.{arith}
 use borrow.Author.Needs.{needs}
 use Rattle.laws.proofs.Calls.{free, given-at, given-below}
+use Rattle.tree.specs.Sizes.{rowCells}
 use Rattle.tree.specs.Table.{cellAt, firstColumn, secondColumn}
 use Rattle.tree.specs.Trees.{operandAt, treeAt}
 use Rattle.tree.proofs.Unfold.{tree-past, left, left-falls}
@@ -211,7 +212,7 @@ pub +walk-alone+walk-first+walk-from+walk-operands-spec : {M : Type 1} → state
     (walk-alone-returns-2 t) free
     (λ c κs. omega (arith, c .before .before .before .before .before .before .before .loop .inv .1, c .before .before .before .before .before .before .loop-test, c .before .before .before .before .before .if1 .left, c .before .before .before .before .before .before .before .before .before .before .pre .1))
     free (walk-alone-walk-alone-requires t) free
-    (λ c. let a = c .before .before .before .before .before .before .before .before .before .before .before .before .before .before .before .before .before .before .before .args in let l = c .before .before .before .before .before .before .before .before .before .before .before .before .before .before .before .before .loop in let w = c .before .before .before .before .before .before .before .before .before .before .before .before .before .before .before .before .before .before .before .fits in rw (c .operand-number2 .ensures) (left-falls (a .count) (l .at) (cellAt (a .table .now) (l .at) 4) (omega (arith, c .before .before .before .before .before .before .before .before .before .before .before .before .before .before .before .loop-test)) (omega (arith, c .before .before .before .before .before .before .before .before .before .before .before .before .before .before .if1 .left)) (omega arith)))
+    (λ c. let a = c .before .before .before .before .before .before .before .before .before .before .before .before .before .before .before .before .before .before .before .args in let l = c .before .before .before .before .before .before .before .before .before .before .before .before .before .before .before .before .loop in let w = c .before .before .before .before .before .before .before .before .before .before .before .before .before .before .before .before .before .before .before .fits in rw (c .operand-number2 .ensures) (left-falls (a .count) (l .at) (cellAt (a .table .now) (l .at) secondColumn) (omega (arith, c .before .before .before .before .before .before .before .before .before .before .before .before .before .before .before .loop-test)) (omega (arith, c .before .before .before .before .before .before .before .before .before .before .before .before .before .before .if1 .left)) (omega arith)))
     (walk-alone-loop-again t) (λ c. c .before .loop .inv .1)
     (λ c. let a = c .before .before .before .before .args in sym (placed-absent (a .table .now) (a .count) (c .before .loop .at) alone _ (omega (arith, c .loop-test))) ∙ c .before .loop .inv .2))
     (λ t. walk-first-lts.spec (walk-first-claims t) (given-at 2 walk-first-kinds.ps μ-walk-first walk-first.Pre t)
@@ -223,9 +224,9 @@ pub +walk-alone+walk-first+walk-from+walk-operands-spec : {M : Type 1} → state
     (λ c. search needs) (walk-from-returns t) free
     (λ c κs. let a = c .before .before .before .before .before .before .before .before .args in let r = there (a .table .now) (a .count) (a .node) (is-expression (a .table .now) (a .count) (a .node) (c .before .before .before .before .before .form-at .ensures) (c .before .before .before .before .class-of .ensures) (c .before .before .before .if1 .left)) in omega (arith, c .before .before .before .before .before .before .before .before .pre .1))
     free
-    (λ c κs. let a = c .before .before .before .before .before .before .before .before .before .before .before .before .before .before .args in let r = there (a .table .now) (a .count) (a .node) (is-expression (a .table .now) (a .count) (a .node) (c .before .before .before .before .before .before .before .before .before .before .before .form-at .ensures) (c .before .before .before .before .before .before .before .before .before .before .class-of .ensures) (c .before .before .before .before .before .before .before .before .before .if1 .left)) in (omega (arith, c .before .before .before .before .before .before .before .before .before .before .before .before .before .before .pre .0), (r .0, r .1, subst (λ n. 5 * a .count ≤ n) (sym (ap length (c .before .before .before .before .before .store .ensures) ∙ length-stored _ _ _)) (c .before .before .before .before .before .before .before .before .before .before .before .before .before .before .pre .1))))
+    (λ c κs. let a = c .before .before .before .before .before .before .before .before .before .before .before .before .before .before .args in let r = there (a .table .now) (a .count) (a .node) (is-expression (a .table .now) (a .count) (a .node) (c .before .before .before .before .before .before .before .before .before .before .before .form-at .ensures) (c .before .before .before .before .before .before .before .before .before .before .class-of .ensures) (c .before .before .before .before .before .before .before .before .before .if1 .left)) in (omega (arith, c .before .before .before .before .before .before .before .before .before .before .before .before .before .before .pre .0), (r .0, r .1, subst (λ n. rowCells * a .count ≤ n) (sym (ap length (c .before .before .before .before .before .store .ensures) ∙ length-stored _ _ _)) (c .before .before .before .before .before .before .before .before .before .before .before .before .before .before .pre .1))))
     (λ c. search needs) (walk-from-returns-2 t)
-    (λ c κs. let a = c .before .before .before .before .before .before .before .before .before .before .before .before .before .before .args in let r = there (a .table .now) (a .count) (a .node) (is-expression (a .table .now) (a .count) (a .node) (c .before .before .before .before .before .before .before .before .before .before .before .form-at .ensures) (c .before .before .before .before .before .before .before .before .before .before .class-of .ensures) (c .before .before .before .before .before .before .before .before .before .if1 .left)) in (omega (arith, c .before .before .before .before .before .before .before .before .before .before .before .before .before .before .pre .0), (r .0, r .1, subst (λ n. 5 * a .count ≤ n) (sym (ap length (c .before .before .before .before .before .store .ensures) ∙ length-stored _ _ _)) (c .before .before .before .before .before .before .before .before .before .before .before .before .before .before .pre .1))))
+    (λ c κs. let a = c .before .before .before .before .before .before .before .before .before .before .before .before .before .before .args in let r = there (a .table .now) (a .count) (a .node) (is-expression (a .table .now) (a .count) (a .node) (c .before .before .before .before .before .before .before .before .before .before .before .form-at .ensures) (c .before .before .before .before .before .before .before .before .before .before .class-of .ensures) (c .before .before .before .before .before .before .before .before .before .if1 .left)) in (omega (arith, c .before .before .before .before .before .before .before .before .before .before .before .before .before .before .pre .0), (r .0, r .1, subst (λ n. rowCells * a .count ≤ n) (sym (ap length (c .before .before .before .before .before .store .ensures) ∙ length-stored _ _ _)) (c .before .before .before .before .before .before .before .before .before .before .before .before .before .before .pre .1))))
     (λ c. search needs) (walk-from-returns-3 t))
     λ t. walk-operands-lts.spec (walk-operands-claims t)
     (given-at 2 walk-operands-kinds.ps μ-walk-operands walk-operands.Pre t) walk-operands.Post
