@@ -65,7 +65,7 @@ addPairs (call a l) g = call (withPair (tooWeakToCall a) false (addPairs a)) (ad
 addPairs (method a l) g = method (withPair (tooWeak (before postfixes) false a) false (addPairs a)) (addPairs l false)
 addPairs noArguments g = noArguments
 addPairs (arguments l) g = arguments (addPairs l false)
-addPairs (lastArgument a) g = lastArgument (addPairs a false)
+addPairs (lastArgument comma a) g = lastArgument comma (addPairs a false)
 addPairs (moreArguments a l) g = moreArguments (addPairs a false) (addPairs l false)
 
 -- ---- one of the pairs left out
@@ -88,7 +88,7 @@ Pair (call a l) g = PairAt (tooWeakToCall a) false (Pair a) ⊎ Pair l false
 Pair (method a l) g = PairAt (tooWeak (before postfixes) false a) false (Pair a) ⊎ Pair l false
 Pair noArguments g = ⊥
 Pair (arguments l) g = Pair l false
-Pair (lastArgument a) g = Pair a false
+Pair (lastArgument comma a) g = Pair a false
 Pair (moreArguments a l) g = Pair a false ⊎ Pair l false
 
 -- `addPairs` without the pair q
@@ -114,6 +114,6 @@ dropPair (method a l) g (inl q) = method (dropAt (tooWeak (before postfixes) fal
 dropPair (method a l) g (inr q) = method (withPair (tooWeak (before postfixes) false a) false (addPairs a)) (dropPair l false q)
 dropPair noArguments g q = absurd q
 dropPair (arguments l) g q = arguments (dropPair l false q)
-dropPair (lastArgument a) g q = lastArgument (dropPair a false q)
+dropPair (lastArgument comma a) g q = lastArgument comma (dropPair a false q)
 dropPair (moreArguments a l) g (inl q) = moreArguments (dropPair a false q) (addPairs l false)
 dropPair (moreArguments a l) g (inr q) = moreArguments (addPairs a false) (dropPair l false q)

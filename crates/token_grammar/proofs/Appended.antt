@@ -1,9 +1,14 @@
 -- A tree's tokens do not depend on what follows. Assumes nothing.
 use mathlib.Core.Path.{_≡_, refl, ap, _∙_}
+use mathlib.Core.Bool.{Bool, true, false}
 use mathlib.Core.List.{List, _∷_, _++_}
 use Rattle.token_grammar.specs.Tokens.{Lt, Gt, Token, operator, As, Name, Dot, LeftParen, RightParen, LeftBracket, RightBracket, Comma, Question}
-use Rattle.token_grammar.specs.Types.{Sort, Ty, named, applied, pointing, sign, noTypes, types, lastType, moreTypes, typePrefixToken, writeType}
+use Rattle.token_grammar.specs.Types.{Sort, Ty, named, applied, pointing, sign, noTypes, types, lastType, moreTypes, typePrefixToken, closing, writeType}
 use Rattle.token_grammar.specs.Expressions.{Expr, atom, paren, prefix, binary, cast, member, try, index, call, method, noArguments, arguments, lastArgument, moreArguments, prefixToken, memberToken, write}
+
+closing-append : (comma : Bool) (close : Token) (r q : List Token) → closing comma close (r ++ q) ≡ closing comma close r ++ q
+closing-append true close r q = refl
+closing-append false close r q = refl
 
 type-append : {s : Sort} (t : Ty s) (r q : List Token) → writeType t (r ++ q) ≡ writeType t r ++ q
 type-append named r q = refl
@@ -12,7 +17,7 @@ type-append (pointing p t) r q = ap (λ z. typePrefixToken p ∷ z) (type-append
 type-append (sign x) r q = refl
 type-append noTypes r q = refl
 type-append (types l) r q = type-append l r q
-type-append (lastType t) r q = type-append t (operator Gt ∷ r) q
+type-append (lastType comma t) r q = ap (writeType t) (closing-append comma (operator Gt) r q) ∙ type-append t (closing comma (operator Gt) r) q
 type-append (moreTypes t l) r q = ap (λ z. writeType t (Comma ∷ z)) (type-append l r q) ∙ type-append t (Comma ∷ writeType l r) q
 
 pub write-append : {s : Sort} (e : Expr s) (r q : List Token) → write e (r ++ q) ≡ write e r ++ q
@@ -30,5 +35,5 @@ write-append (method a l) r q =
     ap (λ z. write a (Dot ∷ Name ∷ LeftParen ∷ z)) (write-append l r q) ∙ write-append a (Dot ∷ Name ∷ LeftParen ∷ write l r) q
 write-append noArguments r q = refl
 write-append (arguments l) r q = write-append l r q
-write-append (lastArgument a) r q = write-append a (RightParen ∷ r) q
+write-append (lastArgument comma a) r q = ap (write a) (closing-append comma RightParen r q) ∙ write-append a (closing comma RightParen r) q
 write-append (moreArguments a l) r q = ap (λ z. write a (Comma ∷ z)) (write-append l r q) ∙ write-append a (Comma ∷ write l r) q

@@ -1,5 +1,5 @@
 -- The parser reads back what a fitting tree writes, whatever stands after it that may follow it. Assumes nothing.
-use mathlib.Core.Path.{_≡_, refl, sym, subst, _∙_}
+use mathlib.Core.Path.{_≡_, refl, sym, subst, ap, _∙_}
 use mathlib.Core.Bool.{Bool, true, false, _&&_}
 use mathlib.Core.List.{List, _∷_}
 use Prim.Native.Nat.{ℕ, zero, suc, _+_, _-_, _*_, _≤_, _<_}
@@ -9,12 +9,12 @@ use Rattle.laws.specs.Choice.{pick, lookup}
 use Rattle.token_grammar.specs.Tokens.{Lt, Token, operator, As, Name, Dot, LeftParen, RightParen, LeftBracket, RightBracket, Comma, Question}
 use Rattle.token_grammar.specs.Levels.{prefixes, kind, level, after}
 use Rattle.token_grammar.specs.Bounds.{loosest}
-use Rattle.token_grammar.specs.Types.{Sort, one, list, items, Ty, writeType}
+use Rattle.token_grammar.specs.Types.{Sort, one, list, items, Ty, closing, writeType}
 use Rattle.token_grammar.specs.Expressions.{Atom, path, literal, Prefix, neg, deref, invert, ref, refMut, Member, byName, byNumber, awaited, Expr, atom, paren, prefix, binary, cast, member, try, index, call, method, noArguments, arguments, lastArgument, moreArguments, atomToken, prefixToken, memberToken, write, kindOf}
 use Rattle.token_grammar.specs.Grammar.{Context, NONE, opensArguments, fits}
-use Rattle.token_grammar.specs.Parser.{Out, fail, ok, then, tail, isFirst, startOf, anAtom, aPrefix, AfterDot, noMember, aMember, afterDotOf, afterDot, isByName, next, goesOn, typeBy, exprBy, onBy, argumentsBy, someArgumentsBy}
+use Rattle.token_grammar.specs.Parser.{Out, fail, ok, then, tail, isFirst, startOf, anAtom, aPrefix, AfterDot, noMember, aMember, afterDotOf, afterDot, isByName, next, AfterItem, closes, another, noItem, afterItem, behind, goesOn, typeBy, exprBy, onBy, argumentsBy, someArgumentsBy}
 use Rattle.token_grammar.specs.Next.{Next, stops, operates, castsTo, dots, calls, indexes, tries, levelAt}
-use Rattle.token_grammar.proofs.FirstTokens.{first-is}
+use Rattle.token_grammar.proofs.FirstTokens.{first-is, item-more, isStart, begins}
 use Rattle.token_grammar.proofs.Levels.{level-before, operator-low, operator-high, after-low}
 use Rattle.token_grammar.proofs.Types.{typeSize, reads-type, slack, type-bound, TypeMayEnd}
 use Rattle.token_grammar.proofs.Follows.{Follows, goes-on, goes-not, at-end, not-taken}
@@ -34,7 +34,7 @@ cost (call a l) = suc (cost a)
 cost (method a l) = suc (cost a)
 cost noArguments = 0
 cost (arguments l) = 0
-cost (lastArgument a) = 0
+cost (lastArgument comma a) = 0
 cost (moreArguments a l) = 0
 
 abbrev pub room : {s : Sort} → Expr s → ℕ
@@ -50,7 +50,7 @@ room (call a l) = room a + room l
 room (method a l) = room a + room l
 room noArguments = 1
 room (arguments l) = suc (room l)
-room (lastArgument a) = suc (suc (cost a + room a))
+room (lastArgument comma a) = suc (suc (cost a + room a))
 room (moreArguments a l) = suc (suc (cost a + room a) + room l)
 
 -- twice the tokens are enough
@@ -67,7 +67,8 @@ bound s (call a l) r = omega (arith, bound one a (LeftParen ∷ write l r), boun
 bound s (method a l) r = omega (arith, bound one a (Dot ∷ Name ∷ LeftParen ∷ write l r), bound list l r)
 bound s noArguments r = omega arith
 bound s (arguments l) r = omega (arith, bound items l r)
-bound s (lastArgument a) r = omega (arith, bound one a (RightParen ∷ r))
+bound s (lastArgument true a) r = omega (arith, bound one a (Comma ∷ RightParen ∷ r))
+bound s (lastArgument false a) r = omega (arith, bound one a (RightParen ∷ r))
 bound s (moreArguments a l) r = omega (arith, bound one a (Comma ∷ write l r), bound items l r)
 
 -- n + f, by steps that leave f as it stands
@@ -84,12 +85,12 @@ split n k f h = (f - suc n, omega (arith, up-add n (suc (f - suc n))), omega ari
 
 -- ---- first tokens
 
-start-atom : (x : Atom) → startOf (atomToken x) ≡ anAtom x
+pub start-atom : (x : Atom) → startOf (atomToken x) ≡ anAtom x
 unfolding startOf lookup pick
 start-atom path = refl
 start-atom literal = refl
 
-start-prefix : (p : Prefix) → startOf (prefixToken p) ≡ aPrefix p
+pub start-prefix : (p : Prefix) → startOf (prefixToken p) ≡ aPrefix p
 unfolding startOf lookup pick
 start-prefix neg = refl
 start-prefix deref = refl
@@ -103,33 +104,23 @@ after-member byName = refl
 after-member byNumber = refl
 after-member awaited = refl
 
--- no expression begins with the sign that closes an argument list
-atom-first : (x : Atom) (r : List Token) → isFirst RightParen (atomToken x ∷ r) ≡ false
-atom-first path r = refl
-atom-first literal r = refl
+-- a token that begins no expression does not stand first
+expr-first : (u : Token) → isStart (startOf u) ≡ false → (e : Expr one) (r : List Token) → isFirst u (write e r) ≡ false
+unfolding startOf lookup pick
+expr-first u n (atom x) r = begins u (atomToken x) r n (ap isStart (start-atom x))
+expr-first u n (paren a) r = begins u LeftParen (write a (RightParen ∷ r)) n refl
+expr-first u n (prefix p a) r = begins u (prefixToken p) (write a r) n (ap isStart (start-prefix p))
+expr-first u n (binary o a b) r = expr-first u n a (operator o ∷ write b r)
+expr-first u n (cast a t) r = expr-first u n a (As ∷ writeType t r)
+expr-first u n (member m a) r = expr-first u n a (Dot ∷ memberToken m ∷ r)
+expr-first u n (try a) r = expr-first u n a (Question ∷ r)
+expr-first u n (index a b) r = expr-first u n a (LeftBracket ∷ write b (RightBracket ∷ r))
+expr-first u n (call a l) r = expr-first u n a (LeftParen ∷ write l r)
+expr-first u n (method a l) r = expr-first u n a (Dot ∷ Name ∷ LeftParen ∷ write l r)
 
-prefix-first : (p : Prefix) (r : List Token) → isFirst RightParen (prefixToken p ∷ r) ≡ false
-prefix-first neg r = refl
-prefix-first deref r = refl
-prefix-first invert r = refl
-prefix-first ref r = refl
-prefix-first refMut r = refl
-
-expr-first : (e : Expr one) (r : List Token) → isFirst RightParen (write e r) ≡ false
-expr-first (atom x) r = atom-first x r
-expr-first (paren a) r = refl
-expr-first (prefix p a) r = prefix-first p (write a r)
-expr-first (binary o a b) r = expr-first a (operator o ∷ write b r)
-expr-first (cast a t) r = expr-first a (As ∷ writeType t r)
-expr-first (member m a) r = expr-first a (Dot ∷ memberToken m ∷ r)
-expr-first (try a) r = expr-first a (Question ∷ r)
-expr-first (index a b) r = expr-first a (LeftBracket ∷ write b (RightBracket ∷ r))
-expr-first (call a l) r = expr-first a (LeftParen ∷ write l r)
-expr-first (method a l) r = expr-first a (Dot ∷ Name ∷ LeftParen ∷ write l r)
-
-items-first : (l : Expr items) (r : List Token) → isFirst RightParen (write l r) ≡ false
-items-first (lastArgument a) r = expr-first a (RightParen ∷ r)
-items-first (moreArguments a l) r = expr-first a (Comma ∷ write l r)
+pub items-first : (u : Token) → isStart (startOf u) ≡ false → (l : Expr items) (r : List Token) → isFirst u (write l r) ≡ false
+items-first u n (lastArgument comma a) r = expr-first u n a (closing comma RightParen r)
+items-first u n (moreArguments a l) r = expr-first u n a (Comma ∷ write l r)
 
 -- ---- one step of a parser whose tests are answered
 
@@ -178,6 +169,18 @@ dot-member f c n e m r h = rw (after-member m, dotStep) (rw h)
 by-items : (f : ℕ) (ts : List Token) → isFirst RightParen ts ≡ false → argumentsBy (suc f) ts ≡ then (someArgumentsBy f ts) (λ l r. ok (arguments l) r)
 unfolding argumentsBy
 by-items f ts e = rw (e, argumentsBy)
+
+abbrev pub someStep : ℕ → Expr one → List Token → AfterItem → Out (Expr items)
+someStep f a r x =
+    elim x [
+      | closes comma ↦ ok (lastArgument comma a) (behind comma r)
+      | another ↦ then (someArgumentsBy f (tail r)) (λ l q. ok (moreArguments a l) q)
+      | noItem ↦ fail
+    ]
+
+by-item : (f : ℕ) (a : Expr one) (ts r : List Token) (x : AfterItem) → exprBy f NONE loosest ts ≡ ok a r → afterItem RightParen r ≡ x → someArgumentsBy (suc f) ts ≡ someStep f a r x
+unfolding someArgumentsBy
+by-item f a ts r x e q = ap (λ o. then o (λ a r. someStep f a r (afterItem RightParen r))) e ∙ ap (someStep f a r) q
 
 -- ---- what may follow
 
@@ -234,7 +237,7 @@ reads-whole c e ih n f r h k p q =
     (ih n (suc (s .0)) r (s .2) k p ∙ on-stop (s .0) c n e r (goes-not n e (next r) q))
 
 pub reads : (s : Sort) (c : Context) (e : Expr s) → fits c e → Reads s c e
-unfolding exprBy onBy argumentsBy someArgumentsBy startOf afterDotOf lookup pick
+unfolding exprBy onBy argumentsBy someArgumentsBy afterItem startOf afterDotOf lookup pick
 reads s c (atom x) k = λ n f r h l p. by-atom f c n x r
 reads s c (paren a) k =
     λ n f r h l p. rw (reads-whole NONE a (reads one NONE a k) 1 f (RightParen ∷ r) h (low a) tt (omega arith))
@@ -273,13 +276,19 @@ reads s c (method a ls) k = λ n f r h l q.
 reads s c noArguments k = λ f. elim f [ zero ↦ λ r h. absurd (omega arith) | suc g ↦ λ r h. refl ]
 reads s c (arguments l) k = λ f. elim f [
   | zero ↦ λ r h. absurd (omega arith)
-  | suc g ↦ λ r h. by-items g (write l r) (items-first l r) ∙ rw (reads items c l k g r (omega arith))
+  | suc g ↦ λ r h. by-items g (write l r) (items-first RightParen refl l r) ∙ rw (reads items c l k g r (omega arith))
 ]
-reads s c (lastArgument a) k = λ f. elim f [
+reads s c (lastArgument true a) k = λ f. elim f [
   | zero ↦ λ r h. absurd (omega arith)
-  | suc g ↦ λ r h. rw (reads-whole NONE a (reads one NONE a k) 1 g (RightParen ∷ r) (omega arith) (low a) tt (omega arith))
+  | suc g ↦ λ r h. by-item g a _ _ (closes true) (reads-whole NONE a (reads one NONE a k) loosest g (Comma ∷ RightParen ∷ r) (omega arith) (low a) tt (omega arith)) refl
+]
+reads s c (lastArgument false a) k = λ f. elim f [
+  | zero ↦ λ r h. absurd (omega arith)
+  | suc g ↦ λ r h. by-item g a _ _ (closes false) (reads-whole NONE a (reads one NONE a k) loosest g (RightParen ∷ r) (omega arith) (low a) tt (omega arith)) refl
 ]
 reads s c (moreArguments a l) k = λ f. elim f [
   | zero ↦ λ r h. absurd (omega arith)
-  | suc g ↦ λ r h. rw (reads-whole NONE a (reads one NONE a (k .0)) 1 g (Comma ∷ write l r) (omega arith) (low a) tt (omega arith), reads items c l (k .1) g r (omega arith))
+  | suc g ↦ λ r h.
+      by-item g a _ _ another (reads-whole NONE a (reads one NONE a (k .0)) loosest g (Comma ∷ write l r) (omega arith) (low a) tt (omega arith)) (item-more RightParen (write l r) refl (items-first RightParen refl l r))
+      ∙ rw (reads items c l (k .1) g r (omega arith))
 ]

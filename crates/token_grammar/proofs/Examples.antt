@@ -1,17 +1,17 @@
 -- Document 01's P2 to P7 on parse trees, and token lists with what the parser gives for them: one table, computed. Assumes nothing.
 use mathlib.Core.Path.{_≡_, refl}
-use mathlib.Core.Bool.{false}
+use mathlib.Core.Bool.{true, false}
 use mathlib.Core.List.{List, [], _∷_}
 use Prim.Native.Nat.{ℕ}
 use Rattle.laws.specs.Choice.{pick, lookup}
 use Rattle.token_grammar.specs.Tokens.{Operator, Add, Sub, Mul, And, Or, BitXor, BitAnd, BitOr, Shl, Eq, Lt, Le, Assign}
 use Rattle.token_grammar.specs.Codes.{tokenOf, tokensOf}
 use Rattle.token_grammar.specs.Levels.{kind}
-use Rattle.token_grammar.specs.Types.{one, named, applied, types, lastType}
-use Rattle.token_grammar.specs.Expressions.{path, neg, byName, byNumber, Expr, atom, paren, prefix, binary, cast, member, try, call, method, noArguments, arguments, lastArgument}
+use Rattle.token_grammar.specs.Types.{one, named, applied, types, lastType, moreTypes}
+use Rattle.token_grammar.specs.Expressions.{path, neg, byName, byNumber, Expr, atom, paren, prefix, binary, cast, member, try, call, method, noArguments, arguments, lastArgument, moreArguments}
 use Rattle.token_grammar.specs.Grammar.{NONE, opensArguments}
 use Rattle.token_grammar.proofs.Added.{strength, addPairs}
-use Rattle.token_grammar.specs.Parser.{Out, fail, ok, startOf, typeStartOf, afterDotOf, goesOn, typeBy, exprBy, parse}
+use Rattle.token_grammar.specs.Parser.{Out, fail, ok, startOf, typeStartOf, afterDotOf, afterItem, goesOn, typeBy, exprBy, parse}
 
 record Example : Type 0 where
   given : Out (Expr one)
@@ -40,7 +40,7 @@ abbrev bareCast : Expr one
 bareCast = cast a named
 
 abbrev castWithArguments : Expr one
-castWithArguments = cast a (applied (types (lastType named)))
+castWithArguments = cast a (applied (types (lastType false named)))
 
 abbrev examples : List Example
 examples =
@@ -78,7 +78,7 @@ examples =
     reads (35 ∷ 32 ∷ 0 ∷ 32 ∷ 36 ∷ []) (paren (binary Add a a)) ∷
     -- - a . f ( ); a . f ( b ) ?
     reads (1 ∷ 32 ∷ 34 ∷ 32 ∷ 35 ∷ 36 ∷ []) (prefix neg (method a noArguments)) ∷
-    reads (32 ∷ 34 ∷ 32 ∷ 35 ∷ 32 ∷ 36 ∷ 40 ∷ []) (try (method a (arguments (lastArgument a)))) ∷
+    reads (32 ∷ 34 ∷ 32 ∷ 35 ∷ 32 ∷ 36 ∷ 40 ∷ []) (try (method a (arguments (lastArgument false a)))) ∷
     -- a as T < A >; a as T < A > < b
     reads (32 ∷ 31 ∷ 32 ∷ 13 ∷ 32 ∷ 17 ∷ []) castWithArguments ∷
     reads (32 ∷ 31 ∷ 32 ∷ 13 ∷ 32 ∷ 17 ∷ 13 ∷ 32 ∷ []) (binary Lt castWithArguments a) ∷
@@ -86,8 +86,19 @@ examples =
     stops (32 ∷ 12 ∷ 32 ∷ 12 ∷ 32 ∷ []) (ok (binary Eq a a) (tokensOf (12 ∷ 32 ∷ []))) ∷
     -- a as T << b: the `<<` is left
     stops (32 ∷ 31 ∷ 32 ∷ 10 ∷ 32 ∷ []) (ok bareCast (tokensOf (10 ∷ 32 ∷ []))) ∷
-    -- f(a,): no comma after the last item
-    stops (32 ∷ 35 ∷ 32 ∷ 39 ∷ 36 ∷ []) fail ∷
+    -- one comma after the last item: f ( a , ); f ( a , b , ); a . f ( b , ); a as T < A , >; f ( a as T < A , B , > , )
+    reads (32 ∷ 35 ∷ 32 ∷ 39 ∷ 36 ∷ []) (call a (arguments (lastArgument true a))) ∷
+    reads (32 ∷ 35 ∷ 32 ∷ 39 ∷ 32 ∷ 39 ∷ 36 ∷ []) (call a (arguments (moreArguments a (lastArgument true a)))) ∷
+    reads (32 ∷ 34 ∷ 32 ∷ 35 ∷ 32 ∷ 39 ∷ 36 ∷ []) (method a (arguments (lastArgument true a))) ∷
+    reads (32 ∷ 31 ∷ 32 ∷ 13 ∷ 32 ∷ 39 ∷ 17 ∷ []) (cast a (applied (types (lastType true named)))) ∷
+    reads (32 ∷ 35 ∷ 32 ∷ 31 ∷ 32 ∷ 13 ∷ 32 ∷ 39 ∷ 32 ∷ 39 ∷ 17 ∷ 39 ∷ 36 ∷ [])
+    (call a (arguments (lastArgument true (cast a (applied (types (moreTypes named (lastType true named)))))))) ∷
+    -- none in an empty list, no second one, none in parentheses or brackets: f ( , ); f ( a , , ); ( a , ); a [ b , ]; a as T < , >
+    stops (32 ∷ 35 ∷ 39 ∷ 36 ∷ []) fail ∷
+    stops (32 ∷ 35 ∷ 32 ∷ 39 ∷ 39 ∷ 36 ∷ []) fail ∷
+    stops (35 ∷ 32 ∷ 39 ∷ 36 ∷ []) fail ∷
+    stops (32 ∷ 37 ∷ 32 ∷ 39 ∷ 38 ∷ []) fail ∷
+    stops (32 ∷ 31 ∷ 32 ∷ 13 ∷ 39 ∷ 17 ∷ []) fail ∷
     -- "The empty token list gives 15."
     stops [] fail ∷
     []
@@ -97,5 +108,5 @@ all f [] = []
 all f (k ∷ ks) = f k ∷ all f ks
 
 pub examples-hold : all (λ k. k .given) examples ≡ all (λ k. k .expected) examples
-unfolding pick lookup kind tokenOf opensArguments strength startOf typeStartOf afterDotOf goesOn typeBy exprBy parse
+unfolding pick lookup kind tokenOf opensArguments strength startOf typeStartOf afterDotOf afterItem goesOn typeBy exprBy parse
 examples-hold = refl

@@ -1,15 +1,15 @@
 -- What the parser's tests say of a token list: its first token is the one that the test stands for. Assumes nothing.
-use mathlib.Core.Path.{_≡_, refl, sym, subst, ap}
-use mathlib.Core.Bool.{Bool, true}
+use mathlib.Core.Path.{_≡_, refl, sym, subst, ap, _∙_}
+use mathlib.Core.Bool.{Bool, true, false}
 use mathlib.Core.List.{List, [], _∷_}
 use lib.Dec.{T, eqb, eqb→eq}
 use borrow.Author.Tests.{eqb-true}
 use Rattle.laws.specs.Choice.{pick, lookup}
 use Rattle.laws.proofs.Choice.{true-not-false}
-use Rattle.token_grammar.specs.Tokens.{Token, operator, code, As, Name, Dot, LeftParen, LeftBracket, Question}
-use Rattle.token_grammar.specs.Types.{typePrefixToken, typeSignToken}
+use Rattle.token_grammar.specs.Tokens.{Token, operator, code, As, Name, Dot, LeftParen, LeftBracket, Comma, Question}
+use Rattle.token_grammar.specs.Types.{typePrefixToken, typeSignToken, closing}
 use Rattle.token_grammar.specs.Expressions.{atomToken, prefixToken, memberToken}
-use Rattle.token_grammar.specs.Parser.{tail, isFirst, firstBy, Start, noStart, anAtom, aPrefix, aGroup, startOf, start, TypeStart, noType, aName, aTypePrefix, aSign, typeStartOf, typeStart, AfterDot, noMember, aMember, afterDotOf, afterDot, next}
+use Rattle.token_grammar.specs.Parser.{tail, isFirst, firstBy, Start, noStart, anAtom, aPrefix, aGroup, startOf, start, TypeStart, noType, aName, aTypePrefix, aSign, typeStartOf, typeStart, AfterDot, noMember, aMember, afterDotOf, afterDot, next, AfterItem, closes, another, noItem, afterItem, behind}
 use Rattle.token_grammar.specs.Next.{Next, stops, operates, castsTo, dots, calls, indexes, tries, nextOf}
 use Rattle.token_grammar.proofs.Tokens.{code-same, ofTokens, each-token}
 
@@ -76,3 +76,54 @@ nextToken tries = Question ∷ []
 
 pub next-is : (ts : List Token) (x : Next) → next ts ≡ x → begun (nextToken x) ts ≡ ts
 next-is = first-of stops nextOf nextToken refl tt
+
+-- ---- after an item of a list
+
+abbrev itemTokens : Token → AfterItem → List Token → List Token
+itemTokens close (closes comma) r = closing comma close (behind comma r)
+itemTokens close another r = Comma ∷ tail r
+itemTokens close noItem r = r
+
+pub after-item-is : (close : Token) (r : List Token) (x : AfterItem) → afterItem close r ≡ x → itemTokens close x r ≡ r
+unfolding afterItem
+after-item-is close r x e = subst (λ y. itemTokens close y r ≡ r) e (go (isFirst close r) (isFirst Comma r) (isFirst close (tail r)) refl refl refl)
+  where
+    go : (b c d : Bool) → isFirst close r ≡ b → isFirst Comma r ≡ c → isFirst close (tail r) ≡ d →
+        itemTokens close (elim b [ true ↦ closes false | false ↦ elim c [ false ↦ noItem | true ↦ elim d [ true ↦ closes true | false ↦ another ] ] ]) r ≡ r
+    go true c d p q s = first-is close r p
+    go false false d p q s = refl
+    go false true true p q s = ap (λ z. Comma ∷ z) (first-is close (tail r) s) ∙ first-is Comma r q
+    go false true false p q s = first-is Comma r q
+
+-- a comma before what does not close the list
+pub item-more : (close : Token) (r : List Token) → isFirst close (Comma ∷ r) ≡ false → isFirst close r ≡ false → afterItem close (Comma ∷ r) ≡ another
+unfolding afterItem
+item-more close r e h = rw (e, h, afterItem)
+
+-- ---- what begins no expression, or no type, is not the first token of one
+
+abbrev pub isStart : Start → Bool
+isStart noStart = false
+isStart (anAtom x) = true
+isStart (aPrefix p) = true
+isStart aGroup = true
+
+abbrev pub isTypeStart : TypeStart → Bool
+isTypeStart noType = false
+isTypeStart aName = true
+isTypeStart (aTypePrefix p) = true
+isTypeStart (aSign x) = true
+
+-- a test tells two tokens apart
+told : (p : Token → Bool) (t u : Token) (r : List Token) → p t ≡ false → p u ≡ true → isFirst t (u ∷ r) ≡ false
+told p t u r n h = go (eqb (code u) (code t)) refl
+  where
+    go : (b : Bool) → eqb (code u) (code t) ≡ b → b ≡ false
+    go true e = true-not-false (sym h ∙ ap p (code-same u t (eqb-true (code u) (code t) e)) ∙ n)
+    go false e = refl
+
+pub begins : (t u : Token) (r : List Token) → isStart (startOf t) ≡ false → isStart (startOf u) ≡ true → isFirst t (u ∷ r) ≡ false
+begins = told (λ t. isStart (startOf t))
+
+pub type-begins : (t u : Token) (r : List Token) → isTypeStart (typeStartOf t) ≡ false → isTypeStart (typeStartOf u) ≡ true → isFirst t (u ∷ r) ≡ false
+type-begins = told (λ t. isTypeStart (typeStartOf t))

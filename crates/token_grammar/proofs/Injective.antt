@@ -1,6 +1,6 @@
--- Two parse trees that are one tree but for parentheses, and write the same tokens, are equal. No level is needed for this. Assumes nothing.
+-- Two parse trees that are one tree but for parentheses and commas after last items, and write the same tokens, are equal. No level is needed for this. Assumes nothing.
 use mathlib.Core.Path.{_≡_, refl, sym, subst, ap, ap₂, _∙_}
-use mathlib.Core.Bool.{false}
+use mathlib.Core.Bool.{Bool, true, false}
 use mathlib.Core.List.{List, [], _∷_}
 use mathlib.Core.Logic.{_⊎_, inl, inr}
 use Prim.Native.Nat.{ℕ, zero, suc, _+_}
@@ -10,8 +10,9 @@ use lib.Dec.{eqb}
 use borrow.Author.Tests.{eq-eqb, ne-eqb}
 use Rattle.laws.proofs.Choice.{true-not-false}
 use Rattle.token_grammar.specs.Tokens.{Operator, Sub, Mul, BitAnd, Gt, number, Token, operator, code, Bang, AndMut, As, Name, Literal, Dot, LeftParen, RightParen, LeftBracket, RightBracket, Comma, Question}
-use Rattle.token_grammar.specs.Types.{Sort, one, list, items, Ty, named, applied, pointing, sign, noTypes, types, lastType, moreTypes, writeType}
+use Rattle.token_grammar.specs.Types.{Sort, one, list, items, Ty, named, applied, pointing, sign, noTypes, types, lastType, moreTypes, closing, writeType}
 use Rattle.token_grammar.specs.Expressions.{Atom, path, literal, Prefix, neg, deref, invert, ref, refMut, Expr, atom, paren, prefix, binary, cast, member, try, index, call, method, noArguments, arguments, lastArgument, moreArguments, atomToken, prefixToken, memberToken, write}
+use Rattle.token_grammar.specs.Commas.{withoutTypeCommas, withoutCommas}
 use Rattle.token_grammar.specs.Bare.{bare}
 use Rattle.token_grammar.proofs.Tokens.{number-below}
 
@@ -62,14 +63,46 @@ meet (suc n) (suc j) a b h = shift (meet n j a b (cc))
     shift (inl w) = inl (w .0, omega arith, w .2)
     shift (inr w) = inr w
 
--- ---- a parse tree as its bare tree with a count of parentheses at each operand
+-- ---- types, with a choice of commas at each list
+
+abbrev TypeCommas : {s : Sort} → Ty s → Type 0
+TypeCommas named = Unit {0}
+TypeCommas (applied l) = TypeCommas l
+TypeCommas (pointing p t) = TypeCommas t
+TypeCommas (sign x) = Unit {0}
+TypeCommas noTypes = Unit {0}
+TypeCommas (types l) = TypeCommas l
+TypeCommas (lastType c t) = Bool × TypeCommas t
+TypeCommas (moreTypes t l) = TypeCommas t × TypeCommas l
+
+abbrev putType : {s : Sort} (t : Ty s) → TypeCommas t → Ty s
+putType named d = named
+putType (applied l) d = applied (putType l d)
+putType (pointing p t) d = pointing p (putType t d)
+putType (sign x) d = sign x
+putType noTypes d = noTypes
+putType (types l) d = types (putType l d)
+putType (lastType c t) d = lastType (d .0) (putType t (d .1))
+putType (moreTypes t l) d = moreTypes (putType t (d .0)) (putType l (d .1))
+
+chosen : {s : Sort} (t : Ty s) → (d : TypeCommas (withoutTypeCommas t)) × (putType (withoutTypeCommas t) d ≡ t)
+chosen named = (tt, refl)
+chosen (applied l) = let p = chosen l in (p .0, ap applied (p .1))
+chosen (pointing x t) = let p = chosen t in (p .0, ap (pointing x) (p .1))
+chosen (sign x) = (tt, refl)
+chosen noTypes = (tt, refl)
+chosen (types l) = let p = chosen l in (p .0, ap types (p .1))
+chosen (lastType c t) = let p = chosen t in ((c, p .0), ap (lastType c) (p .1))
+chosen (moreTypes t l) = let p = chosen t in let q = chosen l in ((p .0, q .0), ap₂ moreTypes (p .1) (q .1))
+
+-- ---- a parse tree as its bare tree with a count of parentheses at each operand, and a choice of commas at each list
 
 abbrev Counts : {s : Sort} → Expr s → Type 0
 Counts (atom x) = Unit {0}
 Counts (paren a) = Unit {0}
 Counts (prefix p a) = ℕ × Counts a
 Counts (binary o a b) = ℕ × Counts a × ℕ × Counts b
-Counts (cast a t) = ℕ × Counts a
+Counts (cast a t) = ℕ × Counts a × TypeCommas t
 Counts (member m a) = ℕ × Counts a
 Counts (try a) = ℕ × Counts a
 Counts (index a b) = ℕ × Counts a × ℕ × Counts b
@@ -77,7 +110,7 @@ Counts (call a l) = ℕ × Counts a × Counts l
 Counts (method a l) = ℕ × Counts a × Counts l
 Counts noArguments = Unit {0}
 Counts (arguments l) = Counts l
-Counts (lastArgument a) = ℕ × Counts a
+Counts (lastArgument c a) = ℕ × Counts a × Bool
 Counts (moreArguments a l) = ℕ × Counts a × Counts l
 
 abbrev put : {s : Sort} (e : Expr s) → Counts e → Expr s
@@ -85,7 +118,7 @@ put (atom x) d = atom x
 put (paren a) d = paren a
 put (prefix p a) d = prefix p (parens (d .0) (put a (d .1)))
 put (binary o a b) d = binary o (parens (d .0) (put a (d .1))) (parens (d .2) (put b (d .3)))
-put (cast a t) d = cast (parens (d .0) (put a (d .1))) t
+put (cast a t) d = cast (parens (d .0) (put a (d .1))) (putType t (d .2))
 put (member m a) d = member m (parens (d .0) (put a (d .1)))
 put (try a) d = try (parens (d .0) (put a (d .1)))
 put (index a b) d = index (parens (d .0) (put a (d .1))) (parens (d .2) (put b (d .3)))
@@ -93,20 +126,23 @@ put (call a l) d = call (parens (d .0) (put a (d .1))) (put l (d .2))
 put (method a l) d = method (parens (d .0) (put a (d .1))) (put l (d .2))
 put noArguments d = noArguments
 put (arguments l) d = arguments (put l d)
-put (lastArgument a) d = lastArgument (parens (d .0) (put a (d .1)))
+put (lastArgument c a) d = lastArgument (d .2) (parens (d .0) (put a (d .1)))
 put (moreArguments a l) d = moreArguments (parens (d .0) (put a (d .1))) (put l (d .2))
 
+abbrev pub core : {s : Sort} → Expr s → Expr s
+core e = withoutCommas (bare e)
+
 abbrev Counted : (s : Sort) → Expr s → Type 0
-Counted one e = (k : ℕ) × (d : Counts (bare e)) × (parens k (put (bare e) d) ≡ e)
-Counted list l = (d : Counts (bare l)) × (put (bare l) d ≡ l)
-Counted items l = (d : Counts (bare l)) × (put (bare l) d ≡ l)
+Counted one e = (k : ℕ) × (d : Counts (core e)) × (parens k (put (core e) d) ≡ e)
+Counted list l = (d : Counts (core l)) × (put (core l) d ≡ l)
+Counted items l = (d : Counts (core l)) × (put (core l) d ≡ l)
 
 counted : (s : Sort) (e : Expr s) → Counted s e
 counted s (atom x) = (0, tt, refl)
 counted s (paren a) = let p = counted one a in (suc (p .0), p .1, ap paren (p .2))
 counted s (prefix x a) = let p = counted one a in (0, (p .0, p .1), ap (prefix x) (p .2))
 counted s (binary o a b) = let p = counted one a in let q = counted one b in (0, (p .0, p .1, q .0, q .1), ap₂ (binary o) (p .2) (q .2))
-counted s (cast a t) = let p = counted one a in (0, (p .0, p .1), ap (λ x. cast x t) (p .2))
+counted s (cast a t) = let p = counted one a in let q = chosen t in (0, (p .0, p .1, q .0), ap₂ cast (p .2) (q .1))
 counted s (member m a) = let p = counted one a in (0, (p .0, p .1), ap (member m) (p .2))
 counted s (try a) = let p = counted one a in (0, (p .0, p .1), ap try (p .2))
 counted s (index a b) = let p = counted one a in let q = counted one b in (0, (p .0, p .1, q .0, q .1), ap₂ index (p .2) (q .2))
@@ -114,7 +150,7 @@ counted s (call a l) = let p = counted one a in let q = counted list l in (0, (p
 counted s (method a l) = let p = counted one a in let q = counted list l in (0, (p .0, p .1, q .0), ap₂ method (p .2) (q .1))
 counted s noArguments = (tt, refl)
 counted s (arguments l) = let q = counted items l in (q .0, ap arguments (q .1))
-counted s (lastArgument a) = let p = counted one a in ((p .0, p .1), ap lastArgument (p .2))
+counted s (lastArgument c a) = let p = counted one a in ((p .0, p .1, c), ap (lastArgument c) (p .2))
 counted s (moreArguments a l) = let p = counted one a in let q = counted items l in ((p .0, p .1, q .0), ap₂ moreArguments (p .2) (q .1))
 
 -- ---- the statement, on a tree without parentheses
@@ -132,24 +168,24 @@ NoParens (call a l) = NoParens a × NoParens l
 NoParens (method a l) = NoParens a × NoParens l
 NoParens noArguments = Unit {0}
 NoParens (arguments l) = NoParens l
-NoParens (lastArgument a) = NoParens a
+NoParens (lastArgument c a) = NoParens a
 NoParens (moreArguments a l) = NoParens a × NoParens l
 
-bare-none : {s : Sort} (e : Expr s) → NoParens (bare e)
-bare-none (atom x) = tt
-bare-none (paren a) = bare-none a
-bare-none (prefix p a) = bare-none a
-bare-none (binary o a b) = (bare-none a, bare-none b)
-bare-none (cast a t) = bare-none a
-bare-none (member m a) = bare-none a
-bare-none (try a) = bare-none a
-bare-none (index a b) = (bare-none a, bare-none b)
-bare-none (call a l) = (bare-none a, bare-none l)
-bare-none (method a l) = (bare-none a, bare-none l)
-bare-none noArguments = tt
-bare-none (arguments l) = bare-none l
-bare-none (lastArgument a) = bare-none a
-bare-none (moreArguments a l) = (bare-none a, bare-none l)
+core-none : {s : Sort} (e : Expr s) → NoParens (core e)
+core-none (atom x) = tt
+core-none (paren a) = core-none a
+core-none (prefix p a) = core-none a
+core-none (binary o a b) = (core-none a, core-none b)
+core-none (cast a t) = core-none a
+core-none (member m a) = core-none a
+core-none (try a) = core-none a
+core-none (index a b) = (core-none a, core-none b)
+core-none (call a l) = (core-none a, core-none l)
+core-none (method a l) = (core-none a, core-none l)
+core-none noArguments = tt
+core-none (arguments l) = core-none l
+core-none (lastArgument c a) = core-none a
+core-none (moreArguments a l) = (core-none a, core-none l)
 
 abbrev Same : (s : Sort) → Expr s → Type 0
 Same one t = (x y : Counts t) (e : ℕ) (u v : List Token) → opened e (write (put t x) u) ≡ write (put t y) v → (e ≡ 0) × (put t x ≡ put t y) × (u ≡ v)
@@ -192,25 +228,36 @@ module _ (t : Expr one) (same : Same one t) (x y : Counts t) (i j : ℕ) where
       let q : i ≡ j = omega (arith, r .0) in
       (ap₂ parens q (r .1), r .2)
 
-type-same : {s : Sort} (t : Ty s) (u v : List Token) → writeType t u ≡ writeType t v → u ≡ v
-type-same named u v h = cc
-type-same (applied l) u v h = type-same l u v (cc)
-type-same (pointing p t) u v h = type-same t u v (cc)
-type-same (sign x) u v h = cc
-type-same noTypes u v h = cc
-type-same (types l) u v h = type-same l u v h
-type-same (lastType t) u v h = let q : _≡_ {A = List Token} (operator Gt ∷ u) (operator Gt ∷ v) = type-same t (operator Gt ∷ u) (operator Gt ∷ v) h in cc
-type-same (moreTypes t l) u v h =
-    let q : _≡_ {A = List Token} (Comma ∷ writeType l u) (Comma ∷ writeType l v) = type-same t (Comma ∷ writeType l u) (Comma ∷ writeType l v) h in
-    type-same l u v (cc)
+distinct : (t u : Token) → eqb (code t) (code u) ≡ false → t ≡ u → ⊥
+distinct t u h e = true-not-false (sym (eq-eqb (code t) (code u) (ap code e)) ∙ h)
+
+-- what closes a list says whether a comma stands there
+closing-same : (b c : Bool) (close : Token) (u v : List Token) → (Comma ≡ close → ⊥) → closing b close u ≡ closing c close v → (b ≡ c) × (u ≡ v)
+closing-same true true close u v n h = (refl, cc)
+closing-same true false close u v n h = absurd (n (cc))
+closing-same false true close u v n h = absurd (n (cc))
+closing-same false false close u v n h = (refl, cc)
+
+type-same : {s : Sort} (t : Ty s) (x y : TypeCommas t) (u v : List Token) → writeType (putType t x) u ≡ writeType (putType t y) v → (putType t x ≡ putType t y) × (u ≡ v)
+type-same named x y u v h = (refl, cc)
+type-same (applied l) x y u v h = let q = type-same l x y u v (cc) in (ap applied (q .0), q .1)
+type-same (pointing p t) x y u v h = let q = type-same t x y u v (cc) in (ap (pointing p) (q .0), q .1)
+type-same (sign z) x y u v h = (refl, cc)
+type-same noTypes x y u v h = (refl, cc)
+type-same (types l) x y u v h = let q = type-same l x y u v h in (ap types (q .0), q .1)
+type-same (lastType c t) x y u v h =
+    let q = type-same t (x .1) (y .1) (closing (x .0) (operator Gt) u) (closing (y .0) (operator Gt) v) h in
+    let r = closing-same (x .0) (y .0) (operator Gt) u v (distinct Comma (operator Gt) refl) (q .1) in
+    (ap₂ lastType (r .0) (q .0), r .1)
+type-same (moreTypes t l) x y u v h =
+    let q = type-same t (x .0) (y .0) (Comma ∷ writeType (putType l (x .1)) u) (Comma ∷ writeType (putType l (y .1)) v) h in
+    let r = type-same l (x .1) (y .1) u v (cc (q .1)) in
+    (ap₂ moreTypes (q .0) (r .0), r .1)
 
 -- a token that is no `(` stands first
 fresh : (e : ℕ) (c : Token) (u v : List Token) → (c ≡ LeftParen → ⊥) → opened e (c ∷ u) ≡ c ∷ v → (e ≡ 0) × (u ≡ v)
 fresh zero c u v n h = (refl, cc)
 fresh (suc e) c u v n h = absurd (n (cc))
-
-distinct : (t u : Token) → eqb (code t) (code u) ≡ false → t ≡ u → ⊥
-distinct t u h e = true-not-false (sym (eq-eqb (code t) (code u) (ap code e)) ∙ h)
 
 operator-open : (o : Operator) → operator o ≡ RightParen → ⊥
 operator-open o = distinct (operator o) RightParen (ne-eqb (number o) 36 (λ e. omega (arith, number-below o)))
@@ -238,8 +285,9 @@ same s (binary o a b) k = λ x y e u v h.
     let q = inner b (same one b (k .1)) (x .3) (y .3) (x .2) (y .2) u v (r .2) in
     (r .0, ap₂ (binary o) (r .1) (q .0), q .1)
 same s (cast a t) k = λ x y e u v h.
-    let r = before a (same one a k) (x .1) (y .1) (x .0) (y .0) e As (writeType t u) (writeType t v) (distinct As RightParen refl) h in
-    (r .0, ap (λ z. cast z t) (r .1), type-same t u v (r .2))
+    let r = before a (same one a k) (x .1) (y .1) (x .0) (y .0) e As (writeType (putType t (x .2)) u) (writeType (putType t (y .2)) v) (distinct As RightParen refl) h in
+    let q = type-same t (x .2) (y .2) u v (r .2) in
+    (r .0, ap₂ cast (r .1) (q .0), q .1)
 same s (member m a) k = λ x y e u v h.
     let r = before a (same one a k) (x .1) (y .1) (x .0) (y .0) e Dot (memberToken m ∷ u) (memberToken m ∷ v) (distinct Dot RightParen refl) h in
     (r .0, ap (member m) (r .1), cc (r .2))
@@ -260,20 +308,21 @@ same s (method a l) k = λ x y e u v h.
     (r .0, ap₂ method (r .1) (q .0), q .1)
 same s noArguments k = λ x y u v h. (refl, cc)
 same s (arguments l) k = λ x y u v h. let q = same items l k x y u v h in (ap arguments (q .0), q .1)
-same s (lastArgument a) k = λ x y u v h.
-    let q = inner a (same one a k) (x .1) (y .1) (x .0) (y .0) (RightParen ∷ u) (RightParen ∷ v) h in
-    (ap lastArgument (q .0), cc (q .1))
+same s (lastArgument c a) k = λ x y u v h.
+    let q = inner a (same one a k) (x .1) (y .1) (x .0) (y .0) (closing (x .2) RightParen u) (closing (y .2) RightParen v) h in
+    let r = closing-same (x .2) (y .2) RightParen u v (distinct Comma RightParen refl) (q .1) in
+    (ap₂ lastArgument (r .0) (q .0), r .1)
 same s (moreArguments a l) k = λ x y u v h.
     let r = inner a (same one a (k .0)) (x .1) (y .1) (x .0) (y .0) (Comma ∷ write (put l (x .2)) u) (Comma ∷ write (put l (y .2)) v) h in
     let q = same items l (k .1) (x .2) (y .2) u v (cc (r .1)) in
     (ap₂ moreArguments (r .0) (q .0), q .1)
 
--- Trees that write the same tokens and are e but for parentheses are equal.
-pub injective : (e c d : Expr one) → bare c ≡ bare e → bare d ≡ bare e → write c [] ≡ write d [] → c ≡ d
+-- Trees that write the same tokens and are e but for parentheses and commas are equal.
+pub injective : (e c d : Expr one) → core c ≡ core e → core d ≡ core e → write c [] ≡ write d [] → c ≡ d
 injective e c d p q h =
-    let x : (n : ℕ) × (x : Counts (bare e)) × (parens n (put (bare e) x) ≡ c) = subst (λ t. (n : ℕ) × (x : Counts t) × (parens n (put t x) ≡ c)) p (counted one c) in
-    let y : (n : ℕ) × (x : Counts (bare e)) × (parens n (put (bare e) x) ≡ d) = subst (λ t. (n : ℕ) × (x : Counts t) × (parens n (put t x) ≡ d)) q (counted one d) in
+    let x : (n : ℕ) × (x : Counts (core e)) × (parens n (put (core e) x) ≡ c) = subst (λ t. (n : ℕ) × (x : Counts t) × (parens n (put t x) ≡ c)) p (counted one c) in
+    let y : (n : ℕ) × (x : Counts (core e)) × (parens n (put (core e) x) ≡ d) = subst (λ t. (n : ℕ) × (x : Counts t) × (parens n (put t x) ≡ d)) q (counted one d) in
     let r =
-    inner (bare e) (same one (bare e) (bare-none e)) (x .1) (y .1) (x .0) (y .0) [] []
+    inner (core e) (same one (core e) (core-none e)) (x .1) (y .1) (x .0) (y .0) [] []
     (ap (λ z. write z []) (x .2) ∙ h ∙ sym (ap (λ z. write z []) (y .2))) in
     sym (x .2) ∙ r .0 ∙ y .2

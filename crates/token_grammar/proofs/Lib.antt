@@ -5,6 +5,7 @@ pub mod Added
 pub mod Pairs
 pub mod Needed
 pub mod Injective
+pub mod Commas
 pub mod Appended
 pub mod Ends
 pub mod Follows

@@ -44,7 +44,7 @@ bare-drop (method a l) g (inl q) = ap₂ method (at-bare (tooWeak (before postfi
 bare-drop (method a l) g (inr q) = ap₂ method (with-bare (tooWeak (before postfixes) false a) false a (bare-pairs a)) (bare-drop l false q)
 bare-drop noArguments g q = absurd q
 bare-drop (arguments l) g q = ap arguments (bare-drop l false q)
-bare-drop (lastArgument a) g q = ap lastArgument (bare-drop a false q)
+bare-drop (lastArgument comma a) g q = ap (lastArgument comma) (bare-drop a false q)
 bare-drop (moreArguments a l) g (inl q) = ap₂ moreArguments (bare-drop a false q) (bare-pairs l false)
 bare-drop (moreArguments a l) g (inr q) = ap₂ moreArguments (bare-pairs a false) (bare-drop l false q)
 
@@ -130,7 +130,7 @@ needed s (method a l) c g (inl q) k = no (needed-at c (tooWeak (before postfixes
 needed s (method a l) c g (inr q) k = absurd (needed list l c false q (k .2))
 needed s noArguments c g q k = absurd q
 needed s (arguments l) c g q k = needed items l c false q k
-needed s (lastArgument a) c g q k = no (needed one a NONE false q k .0)
+needed s (lastArgument comma a) c g q k = no (needed one a NONE false q k .0)
 needed s (moreArguments a l) c g (inl q) k = no (needed one a NONE false q (k .0) .0)
 needed s (moreArguments a l) c g (inr q) k = needed items l c false q (k .1)
 

@@ -38,7 +38,7 @@ bare-pairs (call a l) g = ap₂ call (with-bare (tooWeakToCall a) false a (bare-
 bare-pairs (method a l) g = ap₂ method (with-bare (tooWeak (before postfixes) false a) false a (bare-pairs a)) (bare-pairs l false)
 bare-pairs noArguments g = refl
 bare-pairs (arguments l) g = ap arguments (bare-pairs l false)
-bare-pairs (lastArgument a) g = ap lastArgument (bare-pairs a false)
+bare-pairs (lastArgument comma a) g = ap (lastArgument comma) (bare-pairs a false)
 bare-pairs (moreArguments a l) g = ap₂ moreArguments (bare-pairs a false) (bare-pairs l false)
 
 -- ---- a node keeps its kind, and where it is strong enough to be called, its end
@@ -195,5 +195,5 @@ fits-pairs (method a l) c g = (
 )
 fits-pairs noArguments c g = tt
 fits-pairs (arguments l) c g = fits-pairs l c false
-fits-pairs (lastArgument a) c g = fits-pairs a NONE false
+fits-pairs (lastArgument comma a) c g = fits-pairs a NONE false
 fits-pairs (moreArguments a l) c g = (fits-pairs a NONE false, fits-pairs l c false)

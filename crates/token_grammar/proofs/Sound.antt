@@ -1,5 +1,5 @@
 -- What the parser gives fits, has the level asked for, and writes the tokens that were read. Assumes nothing.
-use mathlib.Core.Path.{_≡_, refl, sym, subst}
+use mathlib.Core.Path.{_≡_, refl, sym, subst, ap, _∙_}
 use mathlib.Core.Bool.{Bool, true, false, _&&_}
 use mathlib.Core.List.{List, _∷_}
 use Prim.Native.Nat.{ℕ, zero, suc, _≤_}
@@ -11,14 +11,14 @@ use Rattle.token_grammar.specs.Bounds.{loosest}
 use Rattle.token_grammar.specs.Types.{Sort, one, list, items}
 use Rattle.token_grammar.specs.Expressions.{Member, byName, byNumber, awaited, Expr, atom, paren, prefix, binary, cast, member, try, index, call, method, noArguments, arguments, lastArgument, moreArguments, prefixToken, memberToken, write}
 use Rattle.token_grammar.specs.Grammar.{Context, NONE, AtLeast, fits}
-use Rattle.token_grammar.specs.Parser.{Out, fail, ok, then, tail, isFirst, Start, noStart, anAtom, aPrefix, aGroup, start, AfterDot, noMember, aMember, afterDot, isByName, next, goesOn, typeBy, exprBy, onBy, argumentsBy, someArgumentsBy}
+use Rattle.token_grammar.specs.Parser.{Out, fail, ok, then, tail, isFirst, Start, noStart, anAtom, aPrefix, aGroup, start, AfterDot, noMember, aMember, afterDot, isByName, next, AfterItem, closes, another, noItem, afterItem, behind, goesOn, typeBy, exprBy, onBy, argumentsBy, someArgumentsBy}
 use Rattle.token_grammar.specs.Next.{Next, stops, operates, castsTo, dots, calls, indexes, tries, levelAt}
-use Rattle.token_grammar.proofs.FirstTokens.{first-is, start-is, after-dot-is, next-is}
+use Rattle.token_grammar.proofs.FirstTokens.{first-is, start-is, after-dot-is, next-is, after-item-is}
 use Rattle.token_grammar.proofs.Levels.{after-high}
 use Rattle.token_grammar.proofs.Answers.{Good, good-then}
 use Rattle.token_grammar.proofs.Types.{TypeSound, type-sound}
 use Rattle.token_grammar.proofs.Follows.{Follows, goes-level, goes-follows}
-use Rattle.token_grammar.proofs.Complete.{dotStep, onStep}
+use Rattle.token_grammar.proofs.Complete.{dotStep, onStep, someStep}
 
 abbrev pub Sound : Context → ℕ → List Token → Expr one → List Token → Type 0
 Sound c n ts e r = fits c e × AtLeast n e × (write e r ≡ ts)
@@ -55,13 +55,6 @@ memberStep f c n e m us y =
 
 abbrev argumentsStep : ℕ → List Token → Bool → Out (Expr list)
 argumentsStep f ts y = elim y [ true ↦ ok noArguments (tail ts) | false ↦ then (someArgumentsBy f ts) (λ l r. ok (arguments l) r) ]
-
-abbrev someStep : ℕ → Expr one → List Token → Bool → Bool → Out (Expr items)
-someStep f a r x y =
-    elim x [
-      | true ↦ ok (lastArgument a) (tail r)
-      | false ↦ elim y [ true ↦ then (someArgumentsBy f (tail r)) (λ l q. ok (moreArguments a l) q) | false ↦ fail ]
-    ]
 
 is-name : (m : Member) → isByName m ≡ true → memberToken m ≡ Name
 is-name byName e = refl
@@ -149,13 +142,13 @@ module _ (f : ℕ) (ih : Sounds f) (ts : List Token) where
   sound-arguments false q =
       good-then (ListSound {s = items} ts) (ListSound {s = list} ts) (someArgumentsBy f ts) (λ l r. ok (arguments l) r) (ih .3 ts) (λ l r h. h)
 
-  sound-some : (a : Expr one) (r : List Token) → fits NONE a → write a r ≡ ts → (x y : Bool) → isFirst RightParen r ≡ x → isFirst Comma r ≡ y → Good (ListSound {s = items} ts) (someStep f a r x y)
-  sound-some a r k h true y p q = let v = first-is RightParen r p in (λ c. k, cc)
-  sound-some a r k h false true p q =
-      let v = first-is Comma r q in
+  sound-some : (a : Expr one) (r : List Token) → fits NONE a → write a r ≡ ts → (x : AfterItem) → afterItem RightParen r ≡ x → Good (ListSound {s = items} ts) (someStep f a r x)
+  sound-some a r k h (closes comma) p = (λ c. k, ap (write a) (after-item-is RightParen r (closes comma) p) ∙ h)
+  sound-some a r k h another p =
+      let v = after-item-is RightParen r another p in
       good-then (ListSound {s = items} (tail r)) (ListSound {s = items} ts) (someArgumentsBy f (tail r)) (λ l w. ok (moreArguments a l) w) (ih .3 (tail r))
       (λ l w g. (λ c. (k, g .0 c), cc))
-  sound-some a r k h false false p q = tt
+  sound-some a r k h noItem p = tt
 
 pub sound : (f : ℕ) → Sounds f
 unfolding exprBy onBy argumentsBy someArgumentsBy
@@ -165,6 +158,6 @@ sound (suc f) =
       λ c n ts h. sound-expr f ih c n ts h (start ts) refl,
       λ c n e ts h k. sound-on f ih c n e ts h k (goesOn n e (next ts)) refl,
       λ ts. sound-arguments f ih ts (isFirst RightParen ts) refl,
-      λ ts. good-then (Sound NONE loosest ts) (ListSound {s = items} ts) (exprBy f NONE loosest ts) (λ a r. someStep f a r (isFirst RightParen r) (isFirst Comma r)) (ih .0 NONE loosest ts (omega arith))
-          (λ a r h. sound-some f ih ts a r (h .0) (h .2) (isFirst RightParen r) (isFirst Comma r) refl refl),
+      λ ts. good-then (Sound NONE loosest ts) (ListSound {s = items} ts) (exprBy f NONE loosest ts) (λ a r. someStep f a r (afterItem RightParen r)) (ih .0 NONE loosest ts (omega arith))
+          (λ a r h. sound-some f ih ts a r (h .0) (h .2) (afterItem RightParen r) refl),
     )

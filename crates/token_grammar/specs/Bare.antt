@@ -15,5 +15,5 @@ bare (call a l) = call (bare a) (bare l)
 bare (method a l) = method (bare a) (bare l)
 bare noArguments = noArguments
 bare (arguments l) = arguments (bare l)
-bare (lastArgument a) = lastArgument (bare a)
+bare (lastArgument comma a) = lastArgument comma (bare a)
 bare (moreArguments a l) = moreArguments (bare a) (bare l)

@@ -4,7 +4,7 @@ use mathlib.Core.Bool.{Bool, true, false}
 use mathlib.Core.List.{List, _∷_}
 use Rattle.token_grammar.specs.Tokens.{Operator, Sub, Mul, BitAnd, Token, operator, Bang, AndMut, As, Name, Literal, Dot, LeftParen, RightParen, LeftBracket, RightBracket, Comma, Question, NumberedMember, Await}
 use Rattle.token_grammar.specs.Levels.{Kind, casts, prefixes, postfixes, kind}
-use Rattle.token_grammar.specs.Types.{Sort, one, list, items, Ty, writeType, typeEndsInName}
+use Rattle.token_grammar.specs.Types.{Sort, one, list, items, Ty, closing, writeType, typeEndsInName}
 
 -- Path and Lit
 pub data Atom : Type 0 where
@@ -33,7 +33,8 @@ pub data Expr : Sort → Type 0 where
   method : Expr one → Expr list → Expr one
   noArguments : Expr list
   arguments : Expr items → Expr list
-  lastArgument : Expr one → Expr items
+  -- with a comma after it, or without
+  lastArgument : Bool → Expr one → Expr items
   moreArguments : Expr one → Expr items → Expr items
 
 -- "32 name, 33 literal"
@@ -55,7 +56,7 @@ memberToken byName = Name
 memberToken byNumber = NumberedMember
 memberToken awaited = Await
 
--- A parse tree's tokens, and then `rest`. "Lists may be empty and have commas between items only."
+-- A parse tree's tokens, and then `rest`. "Lists may be empty and have commas between items"; `closing` has the comma after a last item.
 abbrev pub write : {s : Sort} → Expr s → List Token → List Token
 write (atom x) rest = atomToken x ∷ rest
 write (paren a) rest = LeftParen ∷ write a (RightParen ∷ rest)
@@ -69,7 +70,7 @@ write (call a l) rest = write a (LeftParen ∷ write l rest)
 write (method a l) rest = write a (Dot ∷ Name ∷ LeftParen ∷ write l rest)
 write noArguments rest = RightParen ∷ rest
 write (arguments l) rest = write l rest
-write (lastArgument a) rest = write a (RightParen ∷ rest)
+write (lastArgument comma a) rest = write a (closing comma RightParen rest)
 write (moreArguments a l) rest = write a (Comma ∷ write l rest)
 
 -- what an expression counts as where it is an operand: names, literals and what stands in parentheses are as strong as the postfix forms

@@ -44,5 +44,5 @@ fits c (call a l) = AtLeast (before postfixes) a × CallMayFollow a × fits c a 
 fits c (method a l) = AtLeast (before postfixes) a × fits c a × fits c l
 fits c noArguments = Unit {0}
 fits c (arguments l) = fits c l
-fits c (lastArgument a) = fits NONE a
+fits c (lastArgument comma a) = fits NONE a
 fits c (moreArguments a l) = fits NONE a × fits c l

@@ -5,6 +5,7 @@ pub mod Bounds
 pub mod Types
 pub mod Expressions
 pub mod Grammar
+pub mod Commas
 pub mod Bare
 pub mod Next
 pub mod Parser

@@ -121,6 +121,23 @@ isByName awaited = false
 abbrev pub next : List Token → Next
 next ts = firstBy stops nextOf ts
 
+-- after an item of a list: the sign that closes the list, perhaps behind one comma; a comma before another item; neither
+pub data AfterItem : Type 0 where
+  closes : Bool → AfterItem
+  another noItem : AfterItem
+
+unfoldable pub afterItem : Token → List Token → AfterItem
+afterItem close r =
+    elim (isFirst close r) [
+      | true ↦ closes false
+      | false ↦ elim (isFirst Comma r) [ false ↦ noItem | true ↦ elim (isFirst close (tail r)) [ true ↦ closes true | false ↦ another ] ]
+    ]
+
+-- the tokens behind the sign that closes the list
+abbrev pub behind : Bool → List Token → List Token
+behind true r = tail (tail r)
+behind false r = tail r
+
 -- whether it may follow an expression
 abbrev pub follows : Expr one → Next → Bool
 follows e stops = true
@@ -156,9 +173,10 @@ unfoldable mutual
   someTypesBy zero ts = fail
   someTypesBy (suc f) ts =
       then (typeBy f ts) (λ t r.
-      elim (isFirst (operator Gt) r) [
-        | true ↦ ok (lastType t) (tail r)
-        | false ↦ elim (isFirst Comma r) [ true ↦ then (someTypesBy f (tail r)) (λ l q. ok (moreTypes t l) q) | false ↦ fail ]
+      elim (afterItem (operator Gt) r) [
+        | closes comma ↦ ok (lastType comma t) (behind comma r)
+        | another ↦ then (someTypesBy f (tail r)) (λ l q. ok (moreTypes t l) q)
+        | noItem ↦ fail
       ])
 
 unfoldable mutual
@@ -204,9 +222,10 @@ unfoldable mutual
   someArgumentsBy zero ts = fail
   someArgumentsBy (suc f) ts =
       then (exprBy f NONE loosest ts) (λ a r.
-      elim (isFirst RightParen r) [
-        | true ↦ ok (lastArgument a) (tail r)
-        | false ↦ elim (isFirst Comma r) [ true ↦ then (someArgumentsBy f (tail r)) (λ l q. ok (moreArguments a l) q) | false ↦ fail ]
+      elim (afterItem RightParen r) [
+        | closes comma ↦ ok (lastArgument comma a) (behind comma r)
+        | another ↦ then (someArgumentsBy f (tail r)) (λ l q. ok (moreArguments a l) q)
+        | noItem ↦ fail
       ])
 
 -- twice the tokens are fuel enough

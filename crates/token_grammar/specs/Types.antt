@@ -24,7 +24,8 @@ pub data Ty : Sort → Type 0 where
   sign : TypeSign → Ty one
   noTypes : Ty list
   types : Ty items → Ty list
-  lastType : Ty one → Ty items
+  -- with a comma after it, or without
+  lastType : Bool → Ty one → Ty items
   moreTypes : Ty one → Ty items → Ty items
 
 -- "41 `*const`, 42 `*mut`"; "Neg, Deref and shared reference use 1, 2 and 8."; "30 `&mut`"
@@ -39,8 +40,12 @@ abbrev pub typeSignToken : TypeSign → Token
 typeSignToken infer = Underscore
 typeSignToken never = Bang
 
--- A type's tokens, and then `rest`.
--- "`<` there opens type arguments, closed by 17." "Lists may be empty and have commas between items only."
+-- What closes a list behind its last item. Document 02, Paper 1: "one comma after the last item of an argument list or a type list that has at least one item"
+abbrev pub closing : Bool → Token → List Token → List Token
+closing true close rest = Comma ∷ close ∷ rest
+closing false close rest = close ∷ rest
+
+-- A type's tokens, and then `rest`. "`<` there opens type arguments, closed by 17." "Lists may be empty and have commas between items"
 abbrev pub writeType : {s : Sort} → Ty s → List Token → List Token
 writeType named rest = Name ∷ rest
 writeType (applied l) rest = Name ∷ operator Lt ∷ writeType l rest
@@ -48,7 +53,7 @@ writeType (pointing p t) rest = typePrefixToken p ∷ writeType t rest
 writeType (sign x) rest = typeSignToken x ∷ rest
 writeType noTypes rest = operator Gt ∷ rest
 writeType (types l) rest = writeType l rest
-writeType (lastType t) rest = writeType t (operator Gt ∷ rest)
+writeType (lastType comma t) rest = writeType t (closing comma (operator Gt) rest)
 writeType (moreTypes t l) rest = writeType t (Comma ∷ writeType l rest)
 
 -- whether its last token is a type name

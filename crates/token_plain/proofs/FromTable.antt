@@ -271,12 +271,12 @@ module _ (cells : List ℕ) (count : ℕ) where
 
       is-link : (l : Expr one) → treeOf l ≡ treeAt cells count p → d ≤ 0
           → ((q ≡ 0) ⊎ ((more : Expr items) × (treeOf more ≡ treeAt cells count q))) → (m : Expr items) × (treeOf m ≡ here Link)
-      is-link a e h (inl z) = (lastArgument a, ap₂ (node (label Link 0)) e (none-at q z) ∙ bare-node Link h)
+      is-link a e h (inl z) = (lastArgument false a, ap₂ (node (label Link 0)) e (none-at q z) ∙ bare-node Link h)
       is-link a e h (inr l) = (moreArguments a (l .0), ap₂ (node (label Link 0)) e (l .1) ∙ bare-node Link h)
 
       is-type-link : (t : Ty one) → treeOfType t ≡ treeAt cells count p → d ≤ 0
           → ((q ≡ 0) ⊎ ((more : Ty items) × (treeOfType more ≡ treeAt cells count q))) → (m : Ty items) × (treeOfType m ≡ here Link)
-      is-type-link a e h (inl z) = (lastType a, ap₂ (node (label Link 0)) e (none-at q z) ∙ bare-node Link h)
+      is-type-link a e h (inl z) = (lastType false a, ap₂ (node (label Link 0)) e (none-at q z) ∙ bare-node Link h)
       is-type-link a e h (inr l) = (moreTypes a (l .0), ap₂ (node (label Link 0)) e (l .1) ∙ bare-node Link h)
 
 -- ---- the forms of plain nodes, by class

@@ -1,4 +1,4 @@
--- Expressions are told apart by their trees: the way back from a tree. Assumes nothing.
+-- Expressions are told apart by their trees, but for commas after last items: the way back from a tree. Assumes nothing.
 use mathlib.Core.Path.{_≡_, refl, sym, ap, ap₂, _∙_}
 use mathlib.Core.Bool.{Bool, true, false}
 use mathlib.Core.List.{List, [], _∷_}
@@ -11,6 +11,7 @@ use Rattle.tree.specs.Trees.{Label, Tree, none, node}
 use Rattle.token_grammar.specs.Tokens.{Operator, number, Assign, operatorOf}
 use Rattle.token_grammar.specs.Types.{Sort, one, list, items, TypePrefix, constPtr, mutPtr, sharedRef, mutRef, TypeSign, infer, never, Ty, named, applied, pointing, sign, noTypes, types, lastType, moreTypes}
 use Rattle.token_grammar.specs.Expressions.{Atom, path, literal, Prefix, neg, deref, invert, ref, refMut, Member, byName, byNumber, awaited, Expr, atom, paren, prefix, binary, cast, member, try, index, call, method, noArguments, arguments, lastArgument, moreArguments}
+use Rattle.token_grammar.specs.Commas.{withoutTypeCommas, withoutCommas}
 use Rattle.token_grammar.proofs.Tokens.{operator-number}
 use Rattle.token_plain.specs.Trees.{label, operatorLabel, treeOf, treeOfType}
 
@@ -60,22 +61,22 @@ typeBy l a b =
     (l .form)
 
 partsOf : Tree → Parts
-partsOf none = record { expr = atom path; exprs = lastArgument (atom path); type = named; typed = lastType named; there = false }
+partsOf none = record { expr = atom path; exprs = lastArgument false (atom path); type = named; typed = lastType false named; there = false }
 partsOf (node l a b) =
     record {
       expr = exprBy l (partsOf a) (partsOf b);
-      exprs = pick (partsOf b .there) (moreArguments (partsOf a .expr) (partsOf b .exprs)) (lastArgument (partsOf a .expr));
+      exprs = pick (partsOf b .there) (moreArguments (partsOf a .expr) (partsOf b .exprs)) (lastArgument false (partsOf a .expr));
       type = typeBy l (partsOf a) (partsOf b);
-      typed = pick (partsOf b .there) (moreTypes (partsOf a .type) (partsOf b .typed)) (lastType (partsOf a .type));
+      typed = pick (partsOf b .there) (moreTypes (partsOf a .type) (partsOf b .typed)) (lastType false (partsOf a .type));
       there = true;
     }
 
 -- ---- back again
 
 abbrev BackType : (s : Sort) → Ty s → Type 0
-BackType one t = partsOf (treeOfType t) .type ≡ t
-BackType list l = typesOf (partsOf (treeOfType l)) ≡ l
-BackType items l = (partsOf (treeOfType l) .typed ≡ l) × (partsOf (treeOfType l) .there ≡ true)
+BackType one t = partsOf (treeOfType t) .type ≡ withoutTypeCommas t
+BackType list l = typesOf (partsOf (treeOfType l)) ≡ withoutTypeCommas l
+BackType items l = (partsOf (treeOfType l) .typed ≡ withoutTypeCommas l) × (partsOf (treeOfType l) .there ≡ true)
 
 back-type : (s : Sort) (t : Ty s) → BackType s t
 unfolding partsOf typeBy lookup pick
@@ -89,13 +90,13 @@ back-type s (sign infer) = refl
 back-type s (sign never) = refl
 back-type s noTypes = refl
 back-type s (types l) = let h = back-type items l in rw (h .1, h .0)
-back-type s (lastType t) = (ap lastType (back-type one t), refl)
+back-type s (lastType comma t) = (ap (lastType false) (back-type one t), refl)
 back-type s (moreTypes t l) = let h = back-type items l in (rw (h .1, h .0, back-type one t), refl)
 
 abbrev Back : (s : Sort) → Expr s → Type 0
-Back one e = partsOf (treeOf e) .expr ≡ e
-Back list l = listOf (partsOf (treeOf l)) ≡ l
-Back items l = (partsOf (treeOf l) .exprs ≡ l) × (partsOf (treeOf l) .there ≡ true)
+Back one e = partsOf (treeOf e) .expr ≡ withoutCommas e
+Back list l = listOf (partsOf (treeOf l)) ≡ withoutCommas l
+Back items l = (partsOf (treeOf l) .exprs ≡ withoutCommas l) × (partsOf (treeOf l) .there ≡ true)
 
 -- an operator's node has its number, but for `=`
 back-operator : (o : Operator) (a b : Parts) → exprBy (operatorLabel o) a b ≡ binary o (a .expr) (b .expr)
@@ -127,9 +128,9 @@ back s (call a l) = ap₂ call (back one a) (back list l)
 back s (method a l) = ap₂ method (back one a) (back list l)
 back s noArguments = refl
 back s (arguments l) = let h = back items l in rw (h .1, h .0)
-back s (lastArgument a) = (ap lastArgument (back one a), refl)
+back s (lastArgument comma a) = (ap (lastArgument false) (back one a), refl)
 back s (moreArguments a l) = let h = back items l in (rw (h .1, h .0, back one a), refl)
 
--- Expressions with one tree are one.
-pub tree-same : (d e : Expr one) → treeOf d ≡ treeOf e → d ≡ e
+-- Expressions with one tree are one but for commas.
+pub tree-same : (d e : Expr one) → treeOf d ≡ treeOf e → withoutCommas d ≡ withoutCommas e
 tree-same d e q = sym (back one d) ∙ ap (λ t. partsOf t .expr) q ∙ back one e

@@ -1,4 +1,5 @@
 pub mod Parens
 pub mod FromTable
 pub mod Injective
+pub mod Commas
 pub mod Readings

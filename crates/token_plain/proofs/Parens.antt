@@ -62,7 +62,7 @@ without-types (pointing p t) = keeps _ _ _ (type-keeps p) (without-types t) noth
 without-types (sign x) = keeps _ _ _ (sign-keeps x) nothing nothing
 without-types noTypes = nothing
 without-types (types l) = without-types l
-without-types (lastType t) = keeps _ _ _ refl (without-types t) nothing
+without-types (lastType comma t) = keeps _ _ _ refl (without-types t) nothing
 without-types (moreTypes t l) = keeps _ _ _ refl (without-types t) (without-types l)
 
 -- a Paren goes
@@ -83,5 +83,5 @@ without-bare (call a l) = keeps _ _ _ refl (without-bare a) (without-bare l)
 without-bare (method a l) = keeps _ _ _ refl (without-bare a) (without-bare l)
 without-bare noArguments = nothing
 without-bare (arguments l) = without-bare l
-without-bare (lastArgument a) = keeps _ _ _ refl (without-bare a) nothing
+without-bare (lastArgument comma a) = keeps _ _ _ refl (without-bare a) nothing
 without-bare (moreArguments a l) = keeps _ _ _ refl (without-bare a) (without-bare l)

@@ -15,17 +15,22 @@ use Rattle.token_grammar.specs.Codes.{tokensOf}
 use Rattle.token_grammar.specs.Types.{one}
 use Rattle.token_grammar.specs.Expressions.{Expr, write}
 use Rattle.token_grammar.specs.Grammar.{NONE, fits}
+use Rattle.token_grammar.specs.Commas.{withoutCommas, ended}
+use Rattle.token_grammar.specs.Bare.{bare}
 use Rattle.token_grammar.specs.Parser.{Out, fail, ok, parse}
 use Rattle.token_grammar.proofs.Added.{addPairs, Pair, dropPair}
 use Rattle.token_grammar.proofs.Tokens.{tokens-codes, codes-tokens, codes-below}
 use Rattle.token_grammar.proofs.Readings.{complete, correct, one-parse}
 use Rattle.token_grammar.proofs.Pairs.{bare-pairs, fits-pairs}
 use Rattle.token_grammar.proofs.Needed.{bare-drop, drop-unfit}
-use Rattle.token_grammar.proofs.Injective.{injective}
+use Rattle.token_grammar.proofs.Injective.{core, injective}
+use Rattle.token_grammar.proofs.Commas.{fits-without, fits-with, puts}
 use Rattle.token_plain.specs.Trees.{treeOf, withoutParens}
 use Rattle.token_plain.specs.Reads.{Reads}
+use Rattle.token_plain.specs.Commas.{SameReadings, OnlyCommas}
 use Rattle.token_plain.proofs.Parens.{without-bare}
 use Rattle.token_plain.proofs.Injective.{tree-same}
+use Rattle.token_plain.proofs.Commas.{tree-without}
 
 -- a list of codes that tokens have spells no other tokens
 spelled-once : (ts us : List Token) → codesOf ts ≡ codesOf us → ts ≡ us
@@ -56,18 +61,41 @@ read-or-not codes = go (allBelow listEnd codes) refl (parse NONE (tokensOf codes
     go true e (ok x []) q = inl (_, subst (λ ns. Reads ns (withoutParens (treeOf x))) (codes-tokens codes (of-true e)) (found (tokensOf codes) x q))
     go true e (ok x (y ∷ rest)) q = inr (λ t r. let k = finds r in let z : _≡_ {A = ℕ} 0 1 = cc in omega arith)
 
--- What is written with the pairs that levels ask for reads as the tree without its own parentheses;
-pub reads-back : (e : Expr one) → Reads (codesOf (write (addPairs e false) [])) (withoutParens (treeOf e))
+-- What is written with the pairs that levels ask for, and with no comma after a last item, reads as the tree without its own parentheses;
+pub reads-back : (e : Expr one) → Reads (codesOf (write (withoutCommas (addPairs e false)) [])) (withoutParens (treeOf e))
 reads-back e =
     record {
-      parsed = addPairs e false;
-      fit = fits-pairs e NONE false;
+      parsed = withoutCommas (addPairs e false);
+      fit = fits-without NONE (addPairs e false) (fits-pairs e NONE false);
       whole = refl;
-      same = without-bare (addPairs e false) ∙ ap treeOf (bare-pairs e false) ∙ sym (without-bare e);
+      same = ap withoutParens (tree-without (addPairs e false)) ∙ without-bare (addPairs e false) ∙ ap treeOf (bare-pairs e false) ∙ sym (without-bare e);
     }
 
+-- trees that are one without their own parentheses have one core
+core-same : (d e : Expr one) → withoutParens (treeOf d) ≡ withoutParens (treeOf e) → core d ≡ core e
+core-same d e q = tree-same (bare d) (bare e) (sym (without-bare d) ∙ q ∙ without-bare e)
+
 -- without one of them it reads as another tree or not at all.
-pub needed : (e : Expr one) (q : Pair e false) → Reads (codesOf (write (dropPair e false q) [])) (withoutParens (treeOf e)) → ⊥
+pub needed : (e : Expr one) (q : Pair e false) → Reads (codesOf (write (withoutCommas (dropPair e false q)) [])) (withoutParens (treeOf e)) → ⊥
 needed e q r =
-    let same = tree-same _ _ (sym (without-bare (r .parsed)) ∙ r .same ∙ without-bare e) in
-    drop-unfit NONE e q (subst (fits NONE) (injective e (r .parsed) (dropPair e false q) same (bare-drop e false q) (spelled-once _ _ (r .whole))) (r .fit))
+    let d = dropPair e false q in
+    let k = core-same (withoutCommas d) e (ap withoutParens (tree-without d) ∙ without-bare d ∙ ap treeOf (bare-drop e false q) ∙ sym (without-bare e)) in
+    let same = injective e (r .parsed) (withoutCommas d) (core-same (r .parsed) e (r .same)) k (spelled-once _ _ (r .whole)) in
+    drop-unfit NONE e q (fits-with NONE d (subst (fits NONE) same (r .fit)))
+
+-- ---- commas after last items
+
+pub same-readings : SameReadings
+same-readings d e h q t r =
+    record {
+      parsed = e;
+      fit = fits-with NONE e (subst (fits NONE) q (fits-without NONE d h));
+      whole = refl;
+      same =
+          ap withoutParens (sym (tree-without e) ∙ ap treeOf (sym q) ∙ tree-without d)
+          ∙ ap (λ p. withoutParens (treeOf p)) (sym (one-parse NONE (r .parsed) d (r .fit) h (spelled-once _ _ (r .whole))))
+          ∙ r .same;
+    }
+
+pub only-commas : OnlyCommas
+only-commas e = puts e [] [] ended

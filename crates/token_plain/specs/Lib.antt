@@ -2,3 +2,4 @@ pub mod Plain
 pub mod Trees
 pub mod Written
 pub mod Reads
+pub mod Commas

@@ -54,7 +54,7 @@ treeOfType (pointing p t) = node (typePrefixLabel p) (treeOfType t) none
 treeOfType (sign x) = node (typeSignLabel x) none none
 treeOfType noTypes = none
 treeOfType (types l) = treeOfType l
-treeOfType (lastType t) = node (label Link 0) (treeOfType t) none
+treeOfType (lastType comma t) = node (label Link 0) (treeOfType t) none
 treeOfType (moreTypes t l) = node (label Link 0) (treeOfType t) (treeOfType l)
 
 -- document 01, 'Operands'
@@ -71,7 +71,7 @@ treeOf (call a l) = node (label ExprCall 0) (treeOf a) (treeOf l)
 treeOf (method a l) = node (label ExprMethodCall 0) (treeOf a) (treeOf l)
 treeOf noArguments = none
 treeOf (arguments l) = treeOf l
-treeOf (lastArgument a) = node (label Link 0) (treeOf a) none
+treeOf (lastArgument comma a) = node (label Link 0) (treeOf a) none
 treeOf (moreArguments a l) = node (label Link 0) (treeOf a) (treeOf l)
 
 -- "T without its own parentheses has in place of each Paren, root included, the first node below it that is no Paren."

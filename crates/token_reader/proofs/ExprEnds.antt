@@ -18,17 +18,18 @@ use Rattle.token_grammar.specs.Types.{one, list, items}
 use Rattle.token_grammar.specs.Expressions.{Atom, Prefix, Member, byName, byNumber, awaited, Expr, atom, paren, prefix, binary, cast, member, try, index, call, method, noArguments, arguments, lastArgument, moreArguments, kindOf, endsInTypeName, endsInDotName}
 use Rattle.token_grammar.specs.Grammar.{NONE}
 use Rattle.token_grammar.specs.Bare.{bare}
-use Rattle.token_grammar.specs.Parser.{Out, fail, ok, then, tail, isFirst, Start, noStart, anAtom, aPrefix, aGroup, start, startBy, AfterDot, noMember, aMember, afterDot, afterDotBy, isByName, next, goesOn, typeBy, exprBy, onBy, argumentsBy, someArgumentsBy}
+use Rattle.token_grammar.specs.Parser.{Out, fail, ok, then, tail, isFirst, Start, noStart, anAtom, aPrefix, aGroup, start, startBy, AfterDot, noMember, aMember, afterDot, afterDotBy, isByName, next, AfterItem, closes, another, noItem, afterItem, behind, goesOn, typeBy, exprBy, onBy, argumentsBy, someArgumentsBy}
 use Rattle.token_grammar.specs.Next.{Next, stops, operates, castsTo, dots, calls, indexes, tries, nextOf}
 use Rattle.token_grammar.proofs.Complete.{on-stop}
 use Rattle.token_plain.specs.Trees.{label, treeOf, treeOfType, atomLabel, prefixLabel, operatorLabel, memberLabel}
 use Rattle.token_reader.specs.declared.piece.Piece.{Piece}
 use Rattle.token_reader.specs.declared.piece.Parsed.{Parsed}
 use Rattle.token_reader.specs.Reading.{anyAbove}
-use Rattle.token_reader.specs.Tables.{levelOf, afterOf, goesOnWith, operatorForm, operatorDetail}
+use Rattle.token_reader.specs.Tables.{pastComma, levelOf, afterOf, goesOnWith, operatorForm, operatorDetail}
 use Rattle.token_reader.specs.Pieces.{Placed, Stored, Ready, Grew, Tells, from, Enough, IsType, TypeAt, IsExpr, IsArguments, Postfix, ExprAt, ArgumentsAt, AtomAt, PrefixedAt, closeBy, GroupAt, operandBy, OperandAt, callBy, memberBy, dotBy, stepBy, StepAt, BinaryAt, CastAt, IndexAt, TryAt, MemberAt, DotAt, NamedAt, Called, CallAt}
 use Rattle.token_reader.proofs.Cells.{past-list}
 use Rattle.token_reader.proofs.First.{there, code-most, tail-from, tail-from-next, first-there, first-other, start-at, after-dot-at, next-at}
+use Rattle.token_reader.proofs.Lists.{comma-there, closed-past, closed-at, more-at, none-at}
 use Rattle.token_reader.proofs.Nodes.{carried, lower, placed, grew-none, grew-wider, grew-on, grew-node}
 use Rattle.token_reader.proofs.Tables.{operator-token, operator-level, operator-after, operator-labelled, goes-on-at, past-goes, formCodes, others-stop}
 use Rattle.token_reader.proofs.Tells.{tells-none, tells-some, tells-then, ready-grew}
@@ -63,23 +64,23 @@ kept-operand {own} {now} {at} {free} {to} {left} a g p = lower now free left (fr
 
 -- ---- the sign that closes
 
-closes : (close : Token) (whole : Expr one → Expr one) (a : Expr one) (r : List Token) → isFirst close r ≡ true → closeBy close whole a r ≡ ok (whole a) (tail r)
-closes close whole a r e = rw (e, closeBy)
+closed-by : (close : Token) (whole : Expr one → Expr one) (a : Expr one) (r : List Token) → isFirst close r ≡ true → closeBy close whole a r ≡ ok (whole a) (tail r)
+closed-by close whole a r e = rw (e, closeBy)
 
-closes-not : (close : Token) (whole : Expr one → Expr one) (a : Expr one) (r : List Token) → isFirst close r ≡ false → closeBy close whole a r ≡ fail
-closes-not close whole a r e = rw (e, closeBy)
+closed-not : (close : Token) (whole : Expr one → Expr one) (a : Expr one) (r : List Token) → isFirst close r ≡ false → closeBy close whole a r ≡ fail
+closed-not close whole a r e = rw (e, closeBy)
 
 module _ {codes own mid : List ℕ} {at free : ℕ} (known : anyAbove lastCode codes ≡ false) (inner : Parsed) (i : ExprAt codes own mid at free loosest inner) (close : Token) (whole : Expr one → Expr one) (Be : Expr one → Type 0) where
   not-closed : (to : ℕ) → (getD codes (inner .at) listEnd ≡ code close → ⊥) → length codes < to → (g : ℕ) → Enough codes at 0 g → Tells Be codes to (then (exprBy g NONE loosest (from codes at)) (closeBy close whole))
   not-closed to n h g q =
       tells-then (IsExpr mid inner) Be codes (inner .at) to (exprBy g NONE loosest (from codes at)) (closeBy close whole) (i .tells g q) (λ z. h)
-      (λ a z y. rw (closes-not close whole a (from codes (inner .at)) (first-other close codes (inner .at) known n)) h)
+      (λ a z y. rw (closed-not close whole a (from codes (inner .at)) (first-other close codes (inner .at) known n)) h)
 
   is-closed : (to : ℕ) → getD codes (inner .at) listEnd ≡ code close → inner .at < length codes → ((a : Expr one) → IsExpr mid inner a → Tells Be codes to (ok (whole a) (from codes (inner .at + 1)))) →
       (g : ℕ) → Enough codes at 0 g → Tells Be codes to (then (exprBy g NONE loosest (from codes at)) (closeBy close whole))
   is-closed to e h k g q =
       tells-some (IsExpr mid inner) Be codes (inner .at) to (exprBy g NONE loosest (from codes at)) (closeBy close whole) (omega arith) (i .tells g q)
-      (λ a y. rw (closes close whole a (from codes (inner .at)) (first-there close codes (inner .at) known e), tail-from codes (inner .at)) (k a y))
+      (λ a y. rw (closed-by close whole a (from codes (inner .at)) (first-there close codes (inner .at) known e), tail-from codes (inner .at)) (k a y))
 
 -- ---- what an expression begins with
 
@@ -614,68 +615,68 @@ module _ {codes own now : List ℕ} {at free form : ℕ} (ready : Ready codes ow
 
 -- ---- lists of arguments
 
-abbrev argumentsStep : ℕ → Expr one → List Token → Bool → Bool → Out (Expr items)
-argumentsStep g a r last more =
-    elim last [
-      | true ↦ ok (lastArgument a) (tail r)
-      | false ↦ elim more [ true ↦ then (someArgumentsBy g (tail r)) (λ l q. ok (moreArguments a l) q) | false ↦ fail ]
+abbrev argumentsStep : ℕ → Expr one → List Token → AfterItem → Out (Expr items)
+argumentsStep g a r x =
+    elim x [
+      | closes comma ↦ ok (lastArgument comma a) (behind comma r)
+      | another ↦ then (someArgumentsBy g (tail r)) (λ l q. ok (moreArguments a l) q)
+      | noItem ↦ fail
     ]
 
-module _ {codes own mid : List ℕ} {at free : ℕ} (ready : Ready codes own at free) (first : Parsed) (i : ExprAt codes own mid at free loosest first) where
-  after-first : (Be : Expr items → Type 0) (to : ℕ) (last more : Bool) → isFirst RightParen (from codes (first .at)) ≡ last → isFirst Comma (from codes (first .at)) ≡ more →
-      (length codes < first .at → length codes < to) →
-      ((g : ℕ) → Enough codes at 0 g → (a : Expr one) → first .at ≤ length codes → IsExpr mid first a → Tells Be codes to (argumentsStep g a (from codes (first .at)) last more)) →
+module _ {codes own mid : List ℕ} {at free : ℕ} (ready : Ready codes own at free) (first : Parsed) (i : ExprAt codes own mid at free loosest first) {end : ℕ} (is : end ≡ pastComma codes (first .at) (code RightParen)) where
+  after-first : (Be : Expr items → Type 0) (to : ℕ) (x : AfterItem) → afterItem RightParen (from codes (first .at)) ≡ x → (length codes < first .at → length codes < to) →
+      ((g : ℕ) → Enough codes at 0 g → (a : Expr one) → first .at ≤ length codes → IsExpr mid first a → Tells Be codes to (argumentsStep g a (from codes (first .at)) x)) →
       (f : ℕ) → Enough codes at 1 f → Tells Be codes to (someArgumentsBy f (from codes at))
   unfolding someArgumentsBy
-  after-first Be to last more p q b k zero h = absurd (omega (arith, ready .within))
-  after-first Be to last more p q b k (suc g) h =
+  after-first Be to x p b k zero h = absurd (omega (arith, ready .within))
+  after-first Be to x p b k (suc g) h =
       tells-then (IsExpr mid first) Be codes (first .at) to (exprBy g NONE loosest (from codes at)) _ (i .tells g (omega arith)) b
-      (λ a z y.
-      subst (λ x. Tells Be codes to (argumentsStep g a (from codes (first .at)) x (isFirst Comma (from codes (first .at))))) (sym p)
-      (subst (λ x. Tells Be codes to (argumentsStep g a (from codes (first .at)) last x)) (sym q) (k g (omega arith) a z y)))
+      (λ a z y. subst (λ x. Tells Be codes to (argumentsStep g a (from codes (first .at)) x)) (sym p) (k g (omega arith) a z y))
 
-  pub arguments-last : {now : List ℕ} {left : ℕ} → getD codes (first .at) listEnd ≡ code RightParen → Stored mid now (first .free) left Link 0 (first .free + 1) 0 →
-      ArgumentsAt codes own now at free (record { at = first .at + 1; free = left; named = false })
+  pub arguments-last : {now : List ℕ} {left : ℕ} → getD codes end listEnd ≡ code RightParen → Stored mid now (first .free) left Link 0 (first .free + 1) 0 →
+      ArgumentsAt codes own now at free (record { at = end + 1; free = left; named = false })
   arguments-last {now} {left} e s =
-      let b = there codes (first .at) (code RightParen) e (omega arith) in
+      let b = closed-past codes (first .at) RightParen (λ z. omega arith) is e in
+      let l = b .0 in
+      let h = b .1 in
       let w = i .grew (omega arith) in
+      let d = closed-at codes (first .at) RightParen (λ z. omega arith) is (ready .known) e in
       record {
-        grew = λ q. grew-node at (first .at + 1) (omega (arith, w .upto)) (omega arith) w s;
-        tells = after-first (IsArguments now (record { at = first .at + 1; free = left; named = false })) (first .at + 1) true _ (first-there RightParen codes (first .at) (ready .known) e) refl (λ z. omega arith)
-            (λ g q t z y. (omega arith, tail-from codes (first .at), record { placed = placed (treeOf (bare t)) none (label Link 0) s refl (omega (arith, ready .most, w .less)) (y .placed) refl }));
+        grew = λ q. grew-node at (end + 1) (omega (arith, w .upto)) (omega arith) w s;
+        tells = after-first (IsArguments now (record { at = end + 1; free = left; named = false })) (end + 1) (closes (d .0)) (d .1) (λ z. omega arith)
+            (λ g q t z y. (omega arith, d .2, record { placed = placed (treeOf (bare t)) none (label Link 0) s refl (omega (arith, ready .most, w .less)) (y .placed) refl }));
       }
 
-  pub arguments-none : {now : List ℕ} {r : Piece} → (getD codes (first .at) listEnd ≡ code RightParen → ⊥) → (getD codes (first .at) listEnd ≡ code Comma → ⊥) → r .at ≡ length codes + 1 → ArgumentsAt codes own now at free r
+  pub arguments-none : {now : List ℕ} {r : Piece} → (getD codes end listEnd ≡ code RightParen → ⊥) → (getD codes end listEnd ≡ code Comma → ⊥) → r .at ≡ length codes + 1 → ArgumentsAt codes own now at free r
   arguments-none {now} {r} n m z =
       record {
         grew = λ q. absurd (omega arith);
-        tells = after-first (IsArguments now r) (r .at) false false (first-other RightParen codes (first .at) (ready .known) n) (first-other Comma codes (first .at) (ready .known) m) (λ q. omega arith)
-            (λ g q t x y. omega arith);
+        tells = after-first (IsArguments now r) (r .at) noItem (none-at codes (first .at) RightParen (λ z. omega arith) is (ready .known) n m) (λ q. omega arith) (λ g q t x y. omega arith);
       }
 
-  pub arguments-more-none : {now : List ℕ} {r : Piece} → (getD codes (first .at) listEnd ≡ code RightParen → ⊥) → getD codes (first .at) listEnd ≡ code Comma → length codes < r .at →
+  pub arguments-more-none : {now : List ℕ} {r : Piece} → (getD codes end listEnd ≡ code RightParen → ⊥) → getD codes end listEnd ≡ code Comma → length codes < r .at →
       ArgumentsAt codes mid now (first .at + 1) (first .free) r → ArgumentsAt codes own now at free r
   arguments-more-none {now} {r} n m h j =
-      let b = there codes (first .at) (code Comma) m (omega arith) in
+      let b = comma-there codes (first .at) RightParen (λ z. omega arith) is m in
       let w = i .grew (omega arith) in
       record {
         grew = λ q. absurd (omega arith);
-        tells = after-first (IsArguments now r) (r .at) false true (first-other RightParen codes (first .at) (ready .known) n) (first-there Comma codes (first .at) (ready .known) m) (λ q. h)
+        tells = after-first (IsArguments now r) (r .at) another (more-at codes (first .at) RightParen (λ z. omega arith) is (ready .known) n m) (λ q. h)
             (λ g q t x y.
             rw (tail-from codes (first .at))
             (tells-none (IsArguments now r) (IsArguments now r) codes (r .at) (r .at) (someArgumentsBy g (from codes (first .at + 1))) (λ l z. ok (moreArguments t l) z) h h (j .tells g (omega (arith, w .upto)))));
       }
 
-  pub arguments-more : {mid₂ now : List ℕ} {left : ℕ} (r : Piece) → (getD codes (first .at) listEnd ≡ code RightParen → ⊥) → getD codes (first .at) listEnd ≡ code Comma → r .at ≤ length codes →
+  pub arguments-more : {mid₂ now : List ℕ} {left : ℕ} (r : Piece) → (getD codes end listEnd ≡ code RightParen → ⊥) → getD codes end listEnd ≡ code Comma → r .at ≤ length codes →
       ArgumentsAt codes mid mid₂ (first .at + 1) (first .free) r → Stored mid₂ now (r .free) left Link 0 (first .free + 1) (r .free + 1) →
       ArgumentsAt codes own now at free (record { at = r .at; free = left; named = false })
   arguments-more {mid₂} {now} {left} r n m h j s =
-      let b = there codes (first .at) (code Comma) m (omega arith) in
+      let b = comma-there codes (first .at) RightParen (λ z. omega arith) is m in
       let w = i .grew (omega arith) in
       let v = j .grew h in
       record {
         grew = λ q. grew-node at (r .at) (omega (arith, w .upto, v .upto)) (omega arith) (grew-on (at + 1) (omega arith) w v) s;
-        tells = after-first (IsArguments now (record { at = r .at; free = left; named = false })) (r .at) false true (first-other RightParen codes (first .at) (ready .known) n) (first-there Comma codes (first .at) (ready .known) m) (λ q. absurd (omega arith))
+        tells = after-first (IsArguments now (record { at = r .at; free = left; named = false })) (r .at) another (more-at codes (first .at) RightParen (λ z. omega arith) is (ready .known) n m) (λ q. absurd (omega arith))
             (λ g q t x y.
             rw (tail-from codes (first .at))
             (tells-some (IsArguments mid₂ r) (IsArguments now (record { at = r .at; free = left; named = false })) codes (r .at) (r .at) (someArgumentsBy g (from codes (first .at + 1))) (λ l z. ok (moreArguments t l) z) h (j .tells g (omega (arith, w .upto)))

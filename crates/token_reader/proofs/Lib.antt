@@ -1,6 +1,7 @@
 pub mod Cells
 pub mod Nodes
 pub mod First
+pub mod Lists
 pub mod Tells
 pub mod TypeEnds
 pub mod Tables

@@ -10,11 +10,13 @@ use Rattle.tree.specs.Forms.{TypePath, Link}
 use Rattle.tree.specs.Trees.{none}
 use Rattle.token_grammar.specs.Tokens.{Lt, Gt, number, Token, operator, Comma, code}
 use Rattle.token_grammar.specs.Types.{one, list, items, TypePrefix, TypeSign, Ty, named, applied, pointing, sign, noTypes, types, lastType, moreTypes}
-use Rattle.token_grammar.specs.Parser.{Out, fail, ok, then, tail, isFirst, TypeStart, noType, aName, aTypePrefix, aSign, typeStart, typeStartBy, typeBy, typesBy, someTypesBy}
+use Rattle.token_grammar.specs.Parser.{Out, fail, ok, then, tail, isFirst, TypeStart, noType, aName, aTypePrefix, aSign, typeStart, typeStartBy, AfterItem, closes, another, noItem, afterItem, behind, typeBy, typesBy, someTypesBy}
 use Rattle.token_plain.specs.Trees.{label, treeOfType, typePrefixLabel, typeSignLabel}
 use Rattle.token_reader.specs.declared.piece.Piece.{Piece}
+use Rattle.token_reader.specs.Tables.{pastComma}
 use Rattle.token_reader.specs.Pieces.{Placed, Stored, Ready, Tells, from, Enough, IsType, IsTypes, TypeAt, TypesAt, SignAt, PointingAt, pathBy, PathAt}
 use Rattle.token_reader.proofs.First.{there, tail-from, tail-from-next, first-there, first-other, type-start-at}
+use Rattle.token_reader.proofs.Lists.{comma-there, closed-past, closed-at, more-at, none-at}
 use Rattle.token_reader.proofs.Nodes.{carried, lower, placed, grew-none, grew-on, grew-node}
 use Rattle.token_reader.proofs.Tells.{tells-none, tells-some, tells-then}
 
@@ -185,68 +187,68 @@ module _ {codes own mid now : List ℕ} {at free : ℕ} (ready : Ready codes own
 
 -- ---- lists of types
 
-abbrev typesStep : ℕ → Ty one → List Token → Bool → Bool → Out (Ty items)
-typesStep g t r last more =
-    elim last [
-      | true ↦ ok (lastType t) (tail r)
-      | false ↦ elim more [ true ↦ then (someTypesBy g (tail r)) (λ l q. ok (moreTypes t l) q) | false ↦ fail ]
+abbrev typesStep : ℕ → Ty one → List Token → AfterItem → Out (Ty items)
+typesStep g t r x =
+    elim x [
+      | closes comma ↦ ok (lastType comma t) (behind comma r)
+      | another ↦ then (someTypesBy g (tail r)) (λ l q. ok (moreTypes t l) q)
+      | noItem ↦ fail
     ]
 
-module _ {codes own mid : List ℕ} {at free : ℕ} (ready : Ready codes own at free) (first : Piece) (i : TypeAt codes own mid at free first) where
-  after-first : (Be : Ty items → Type 0) (to : ℕ) (last more : Bool) → isFirst (operator Gt) (from codes (first .at)) ≡ last → isFirst Comma (from codes (first .at)) ≡ more →
-      (length codes < first .at → length codes < to) →
-      ((g : ℕ) → Enough codes at 0 g → (t : Ty one) → first .at ≤ length codes → IsType mid first t → Tells Be codes to (typesStep g t (from codes (first .at)) last more)) →
+module _ {codes own mid : List ℕ} {at free : ℕ} (ready : Ready codes own at free) (first : Piece) (i : TypeAt codes own mid at free first) {end : ℕ} (is : end ≡ pastComma codes (first .at) (number Gt)) where
+  after-first : (Be : Ty items → Type 0) (to : ℕ) (x : AfterItem) → afterItem (operator Gt) (from codes (first .at)) ≡ x → (length codes < first .at → length codes < to) →
+      ((g : ℕ) → Enough codes at 0 g → (t : Ty one) → first .at ≤ length codes → IsType mid first t → Tells Be codes to (typesStep g t (from codes (first .at)) x)) →
       (f : ℕ) → Enough codes at 1 f → Tells Be codes to (someTypesBy f (from codes at))
   unfolding someTypesBy
-  after-first Be to last more p q b k zero h = absurd (omega (arith, ready .within))
-  after-first Be to last more p q b k (suc g) h =
+  after-first Be to x p b k zero h = absurd (omega (arith, ready .within))
+  after-first Be to x p b k (suc g) h =
       tells-then (IsType mid first) Be codes (first .at) to (typeBy g (from codes at)) _ (i .tells g (omega arith)) b
-      (λ t z y.
-      subst (λ x. Tells Be codes to (typesStep g t (from codes (first .at)) x (isFirst Comma (from codes (first .at))))) (sym p)
-      (subst (λ x. Tells Be codes to (typesStep g t (from codes (first .at)) last x)) (sym q) (k g (omega arith) t z y)))
+      (λ t z y. subst (λ x. Tells Be codes to (typesStep g t (from codes (first .at)) x)) (sym p) (k g (omega arith) t z y))
 
-  pub types-last : {now : List ℕ} {left : ℕ} → getD codes (first .at) listEnd ≡ number Gt → Stored mid now (first .free) left Link 0 (first .free + 1) 0 →
-      TypesAt codes own now at free (record { at = first .at + 1; free = left; named = false })
+  pub types-last : {now : List ℕ} {left : ℕ} → getD codes end listEnd ≡ number Gt → Stored mid now (first .free) left Link 0 (first .free + 1) 0 →
+      TypesAt codes own now at free (record { at = end + 1; free = left; named = false })
   types-last {now} {left} e s =
-      let b = there codes (first .at) (number Gt) e (omega arith) in
+      let b = closed-past codes (first .at) (operator Gt) (λ z. omega arith) is e in
+      let l = b .0 in
+      let h = b .1 in
       let w = i .grew (omega arith) in
+      let d = closed-at codes (first .at) (operator Gt) (λ z. omega arith) is (ready .known) e in
       record {
-        grew = λ q. grew-node at (first .at + 1) (omega (arith, w .upto)) (omega arith) w s;
-        tells = after-first (IsTypes now (record { at = first .at + 1; free = left; named = false })) (first .at + 1) true _ (first-there (operator Gt) codes (first .at) (ready .known) e) refl (λ z. omega arith)
-            (λ g q t z y. (omega arith, tail-from codes (first .at), record { placed = placed (treeOfType t) none (label Link 0) s refl (omega (arith, ready .most, w .less)) (y .placed) refl }));
+        grew = λ q. grew-node at (end + 1) (omega (arith, w .upto)) (omega arith) w s;
+        tells = after-first (IsTypes now (record { at = end + 1; free = left; named = false })) (end + 1) (closes (d .0)) (d .1) (λ z. omega arith)
+            (λ g q t z y. (omega arith, d .2, record { placed = placed (treeOfType t) none (label Link 0) s refl (omega (arith, ready .most, w .less)) (y .placed) refl }));
       }
 
-  pub types-none : {now : List ℕ} {r : Piece} → (getD codes (first .at) listEnd ≡ number Gt → ⊥) → (getD codes (first .at) listEnd ≡ code Comma → ⊥) → r .at ≡ length codes + 1 → TypesAt codes own now at free r
+  pub types-none : {now : List ℕ} {r : Piece} → (getD codes end listEnd ≡ number Gt → ⊥) → (getD codes end listEnd ≡ code Comma → ⊥) → r .at ≡ length codes + 1 → TypesAt codes own now at free r
   types-none {now} {r} n m z =
       record {
         grew = λ q. absurd (omega arith);
-        tells = after-first (IsTypes now r) (r .at) false false (first-other (operator Gt) codes (first .at) (ready .known) n) (first-other Comma codes (first .at) (ready .known) m) (λ q. omega arith)
-            (λ g q t x y. omega arith);
+        tells = after-first (IsTypes now r) (r .at) noItem (none-at codes (first .at) (operator Gt) (λ z. omega arith) is (ready .known) n m) (λ q. omega arith) (λ g q t x y. omega arith);
       }
 
-  pub types-more-none : {now : List ℕ} {r : Piece} → (getD codes (first .at) listEnd ≡ number Gt → ⊥) → getD codes (first .at) listEnd ≡ code Comma → length codes < r .at →
+  pub types-more-none : {now : List ℕ} {r : Piece} → (getD codes end listEnd ≡ number Gt → ⊥) → getD codes end listEnd ≡ code Comma → length codes < r .at →
       TypesAt codes mid now (first .at + 1) (first .free) r → TypesAt codes own now at free r
   types-more-none {now} {r} n m h j =
-      let b = there codes (first .at) (code Comma) m (omega arith) in
+      let b = comma-there codes (first .at) (operator Gt) (λ z. omega arith) is m in
       let w = i .grew (omega arith) in
       record {
         grew = λ q. absurd (omega arith);
-        tells = after-first (IsTypes now r) (r .at) false true (first-other (operator Gt) codes (first .at) (ready .known) n) (first-there Comma codes (first .at) (ready .known) m) (λ q. h)
+        tells = after-first (IsTypes now r) (r .at) another (more-at codes (first .at) (operator Gt) (λ z. omega arith) is (ready .known) n m) (λ q. h)
             (λ g q t x y.
             rw (tail-from codes (first .at))
             (tells-none (IsTypes now r) (IsTypes now r) codes (r .at) (r .at) (someTypesBy g (from codes (first .at + 1))) (λ l z. ok (moreTypes t l) z) h h (j .tells g (omega (arith, w .upto)))));
       }
 
-  pub types-more : {mid₂ now : List ℕ} {left : ℕ} (r : Piece) → (getD codes (first .at) listEnd ≡ number Gt → ⊥) → getD codes (first .at) listEnd ≡ code Comma → r .at ≤ length codes →
+  pub types-more : {mid₂ now : List ℕ} {left : ℕ} (r : Piece) → (getD codes end listEnd ≡ number Gt → ⊥) → getD codes end listEnd ≡ code Comma → r .at ≤ length codes →
       TypesAt codes mid mid₂ (first .at + 1) (first .free) r → Stored mid₂ now (r .free) left Link 0 (first .free + 1) (r .free + 1) →
       TypesAt codes own now at free (record { at = r .at; free = left; named = false })
   types-more {mid₂} {now} {left} r n m h j s =
-      let b = there codes (first .at) (code Comma) m (omega arith) in
+      let b = comma-there codes (first .at) (operator Gt) (λ z. omega arith) is m in
       let w = i .grew (omega arith) in
       let v = j .grew h in
       record {
         grew = λ q. grew-node at (r .at) (omega (arith, w .upto, v .upto)) (omega arith) (grew-on (at + 1) (omega arith) w v) s;
-        tells = after-first (IsTypes now (record { at = r .at; free = left; named = false })) (r .at) false true (first-other (operator Gt) codes (first .at) (ready .known) n) (first-there Comma codes (first .at) (ready .known) m) (λ q. absurd (omega arith))
+        tells = after-first (IsTypes now (record { at = r .at; free = left; named = false })) (r .at) another (more-at codes (first .at) (operator Gt) (λ z. omega arith) is (ready .known) n m) (λ q. absurd (omega arith))
             (λ g q t x y.
             rw (tail-from codes (first .at))
             (tells-some (IsTypes mid₂ r) (IsTypes now (record { at = r .at; free = left; named = false })) codes (r .at) (r .at) (someTypesBy g (from codes (first .at + 1))) (λ l z. ok (moreTypes t l) z) h (j .tells g (omega (arith, w .upto)))

@@ -1,14 +1,23 @@
 -- What the reader asks of codes. Nothing here is to be believed: proofs/Tables says that it is what the parser asks.
-use mathlib.Core.Bool.{Bool}
+use mathlib.Core.Bool.{Bool, _&&_}
+use mathlib.Core.List.{List}
 use Prim.Native.Nat.{ℕ, _+_}
 use lib.Dec.{eqb}
+use lib.ListN.{getD}
 use Rattle.laws.specs.Choice.{pick}
+use Rattle.tree.specs.Sizes.{listEnd}
 use Rattle.tree.specs.Forms.{ExprAssign, ExprBinary}
-use Rattle.token_grammar.specs.Tokens.{Assign, number}
+use Rattle.token_grammar.specs.Tokens.{Assign, number, Comma, code}
 use Rattle.token_grammar.specs.Codes.{tokenOf}
 use Rattle.token_grammar.specs.Levels.{assignments, level}
 use Rattle.token_grammar.specs.Next.{nextOf, levelAt}
 use Rattle.token_follow.specs.Follow.{goesOnBy}
+
+-- ---- after an item of a list
+
+-- the place `at`, or the next one where a comma stands at `at` and behind it the sign that closes the list
+unfoldable pub pastComma : List ℕ → ℕ → ℕ → ℕ
+pastComma codes at close = pick (eqb (getD codes at listEnd) (code Comma) && eqb (getD codes (at + 1) listEnd) close) (at + 1) at
 
 -- ---- after an expression
 

@@ -8,6 +8,7 @@ use crate::token::code_at;
 use crate::token::lowest_after;
 use crate::token::operator_detail;
 use crate::token::operator_form;
+use crate::token::past_comma;
 use crate::types::ty;
 use token_follow::goes_on;
 use token_follow::level_of;
@@ -278,10 +279,11 @@ fn arguments(tokens: &[u16], own: &mut [u16], at: usize, free: u16) -> Piece
     ensures { λ r. ⌜ ArgumentsAt (now (tokens .entry)) (now (own .entry)) (now (own .exit)) at free r ⌝ }
 {
     let first = expr(tokens, own, at, free, level::LOOSEST);
-    let sign = code_at(tokens, first.at);
+    let end = past_comma(tokens, first.at, codes::RIGHT_PAREN);
+    let sign = code_at(tokens, end);
     if sign == codes::RIGHT_PAREN {
         return Piece {
-            at: first.at + 1,
+            at: end + 1,
             free: store(own, first.free, forms::LINK, 0, first.free + 1, 0),
             named: false,
         };

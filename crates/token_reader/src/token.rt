@@ -8,7 +8,7 @@ ghost use Prim.Native.Nat.{_≤_};
 ghost use lib.ListN.{getD};
 ghost use Rattle.tree.specs.Sizes.{listEnd};
 ghost use Rattle.token_grammar.specs.Bounds.{highest};
-ghost use Rattle.token_reader.specs.Tables.{afterOf, operatorForm, operatorDetail};
+ghost use Rattle.token_reader.specs.Tables.{pastComma, afterOf, operatorForm, operatorDetail};
 
 // The code at a place, or the one that stands for the end of the list, which no token has.
 pub fn code_at(tokens: &[u16], at: usize) -> u16
@@ -19,6 +19,19 @@ pub fn code_at(tokens: &[u16], at: usize) -> u16
     } else {
         sizes::LIST_END
     }
+}
+
+// Where a list may close behind an item that ends at `at`: a comma straight before the sign that closes it is passed over.
+pub(crate) fn past_comma(tokens: &[u16], at: usize, close: u16) -> usize
+    ensures { λ r. ⌜ r ≡ pastComma (now (tokens .entry)) at close ⌝ }
+{
+    if code_at(tokens, at) != codes::COMMA {
+        return at;
+    }
+    if code_at(tokens, at + 1) != close {
+        return at;
+    }
+    at + 1
 }
 
 // The lowest level of an operand that stands after.

@@ -3,6 +3,7 @@ use crate::node::store;
 use crate::piece::Piece;
 use crate::piece::no_piece;
 use crate::token::code_at;
+use crate::token::past_comma;
 use token_grammar::codes;
 use tree::forms;
 ghost use Prim.Native.Nat.{_<_};
@@ -91,10 +92,11 @@ fn types(tokens: &[u16], own: &mut [u16], at: usize, free: u16) -> Piece
 {
     let first = ty(tokens, own, at, free);
     // A type that isn't there ends past the end, where no sign stands.
-    let sign = code_at(tokens, first.at);
+    let end = past_comma(tokens, first.at, codes::GT);
+    let sign = code_at(tokens, end);
     if sign == codes::GT {
         return Piece {
-            at: first.at + 1,
+            at: end + 1,
             free: store(own, first.free, forms::LINK, 0, first.free + 1, 0),
             named: false,
         };

@@ -19,6 +19,7 @@ use Rattle.row_walk.specs.Paths.{Branch, first, second, treeBy, handedBy}
 use Rattle.token_grammar.specs.Tokens.{Operator, Token, operator, As, Name, Dot, LeftParen, RightParen, LeftBracket, RightBracket, Comma, Question}
 use Rattle.token_grammar.specs.Types.{Sort, one, list, items, TypePrefix, constPtr, mutPtr, sharedRef, mutRef, TypeSign, infer, never, Ty, named, applied, pointing, sign, noTypes, types, lastType, moreTypes}
 use Rattle.token_grammar.specs.Expressions.{Atom, Prefix, Member, Expr, atom, paren, prefix, binary, cast, member, try, index, call, method, noArguments, arguments, lastArgument, moreArguments, atomToken, prefixToken, memberToken, write}
+use Rattle.token_grammar.specs.Commas.{withoutCommas}
 use Rattle.token_grammar.proofs.Added.{withPair, addPairs, PairAt, Pair, dropAt, dropPair}
 use Rattle.token_plain.specs.Trees.{label, typePrefixLabel, typeSignLabel, treeOf, treeOfType}
 use Rattle.token_plain.specs.Written.{Signs, signs, signLines, signsOf, within}
@@ -87,9 +88,9 @@ unmarked (sign x) h (first ∷ p) = none-marked _ p
 unmarked (sign x) h (second ∷ p) = none-marked _ p
 unmarked noTypes h p = none-marked h p
 unmarked (types l) h p = unmarked l h p
-unmarked (lastType t) h [] = marked-other h _ refl
-unmarked (lastType t) h (first ∷ p) = unmarked t _ p
-unmarked (lastType t) h (second ∷ p) = none-marked _ p
+unmarked (lastType comma t) h [] = marked-other h _ refl
+unmarked (lastType comma t) h (first ∷ p) = unmarked t _ p
+unmarked (lastType comma t) h (second ∷ p) = none-marked _ p
 unmarked (moreTypes t l) h [] = marked-other h _ refl
 unmarked (moreTypes t l) h (first ∷ p) = unmarked t _ p
 unmarked (moreTypes t l) h (second ∷ p) = unmarked l _ p
@@ -111,14 +112,14 @@ abbrev DropsAt : Expr one → FixupContext → Branch → Type 0
 DropsAt e x s =
     (p : List Branch) → markedBelow s p x (treeOf e) ≡ true
     → (q : Pair e (x .«next_operator_can_begin_generics»))
-    × ((end : List Token) → insideBut s (tokensBut p) x (treeOf e) end ≡ write (dropPair e (x .«next_operator_can_begin_generics») q) end)
+    × ((end : List Token) → insideBut s (tokensBut p) x (treeOf e) end ≡ write (withoutCommas (dropPair e (x .«next_operator_can_begin_generics») q)) end)
 
 abbrev DropsInside : Expr one → Type 0
 DropsInside e = (x : FixupContext) → Calm x → Settled x → (s : Branch) → DropsAt e x s
 
 abbrev DropsOperand : Handed → Expr one → Bool → Bool → List Branch → Type 0
 DropsOperand h a p g path =
-    (q : PairAt p g (Pair a)) × ((rest : List Token) → tokensBut path h (treeOf a) rest ≡ write (dropAt p g (addPairs a) (Pair a) (dropPair a) q) rest)
+    (q : PairAt p g (Pair a)) × ((rest : List Token) → tokensBut path h (treeOf a) rest ≡ write (withoutCommas (dropAt p g (addPairs a) (Pair a) (dropPair a) q)) rest)
 
 module _ (h : Handed) (a : Expr one) (g : Bool) (is-a : InsideIs a) (drops-a : DropsInside a) where
   own : (p : Bool) → Operand h a p g → ownContext h (treeOf a) ≡ pick p NONE (h .fixup)
@@ -146,7 +147,7 @@ module _ (h : Handed) (a : Expr one) (g : Bool) (is-a : InsideIs a) (drops-a : D
   drop-below false o s path m =
       let e = own false o ∙ pick-false NONE (h .fixup) refl in
       let d = drops-a (h .fixup) (o .calm) (o .settled) s path (subst (λ y. markedBelow s path y (treeOf a) ≡ true) e m) in
-      subst (λ f. (q : Pair a f) × ((rest : List Token) → tokensBut (s ∷ path) h (treeOf a) rest ≡ write (dropPair a f q) rest)) (o .flag)
+      subst (λ f. (q : Pair a f) × ((rest : List Token) → tokensBut (s ∷ path) h (treeOf a) rest ≡ write (withoutCommas (dropPair a f q)) rest)) (o .flag)
       (d .0, λ rest. but-at false (h .fixup) s path rest (row false o) e ∙ d .1 rest)
 
   drop-operand : (p : Bool) → Operand h a p g → (path : List Branch) → markedAt h (treeOf a) path ≡ true → DropsOperand h a p g path
@@ -161,7 +162,7 @@ operand-drops {h} {a} {p} {g} o drops-a path m = drop-operand h a g (is one a) d
 abbrev DropsList : {s : Sort} → Expr s → Handed → List Branch → Type 0
 DropsList l h p =
     markedAt h (treeOf l) p ≡ true
-    → (q : Pair l false) × ((end : List Token) → tokensBut p h (treeOf l) (RightParen ∷ end) ≡ write (dropPair l false q) end)
+    → (q : Pair l false) × ((end : List Token) → tokensBut p h (treeOf l) (RightParen ∷ end) ≡ write (withoutCommas (dropPair l false q)) end)
 
 abbrev Drops : (s : Sort) → Expr s → Type 0
 Drops one e = DropsInside e
@@ -317,9 +318,9 @@ drops s (method a l) = λ x c w.
     ))
 drops s noArguments = λ h p m. nothing h p m
 drops s (arguments l) = λ h p m. drops items l h p m
-drops s (lastArgument a) = λ h.
-    let x = ownContext h (treeOf (lastArgument a)) in
-    by-path (DropsList (lastArgument a) h) (λ m. link-here h (treeOf a) none m)
+drops s (lastArgument comma a) = λ h.
+    let x = ownContext h (treeOf (lastArgument comma a)) in
+    by-path (DropsList (lastArgument comma a) h) (λ m. link-here h (treeOf a) none m)
     (λ p m.
     let d = operand-drops (alone a) (drops one a) p (subst (λ k. markedAt k (treeOf a) p ≡ true) (link-first x (treeOf a) none) (sym (below-marked h (linked (treeOf a) none) first p) ∙ m)) in (
       d .0,
@@ -329,7 +330,7 @@ drops s (lastArgument a) = λ h.
           ∙ ap (λ k. tokensBut p k (treeOf a) (RightParen ∷ end)) (link-first x (treeOf a) none)
           ∙ d .1 (RightParen ∷ end),
     ))
-    (λ p m. nothing (handsSecond x (treeOf (lastArgument a))) p (sym (below-marked h (linked (treeOf a) none) second p) ∙ m))
+    (λ p m. nothing (handsSecond x (treeOf (lastArgument comma a))) p (sym (below-marked h (linked (treeOf a) none) second p) ∙ m))
 drops s (moreArguments a l) = λ h.
     let t = treeOf (moreArguments a l) in
     let x = ownContext h t in
@@ -357,5 +358,5 @@ drops s (moreArguments a l) = λ h.
 
 -- With a pair of the root's rows in context 0 left out.
 pub tokens-without : (e : Expr one) (p : List Branch) → markedAt (neither NONE) (treeOf e) p ≡ true
-    → (q : Pair e false) × ((rest : List Token) → tokensBut p (neither NONE) (treeOf e) rest ≡ write (dropPair e false q) rest)
+    → (q : Pair e false) × ((rest : List Token) → tokensBut p (neither NONE) (treeOf e) rest ≡ write (withoutCommas (dropPair e false q)) rest)
 tokens-without e p m = operand-drops (alone e) (drops one e) p m

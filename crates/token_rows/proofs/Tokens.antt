@@ -23,6 +23,7 @@ use Rattle.token_grammar.specs.Tokens as token
 use Rattle.token_grammar.specs.Levels.{kind, level}
 use Rattle.token_grammar.specs.Types.{Sort, one, list, items, TypePrefix, constPtr, mutPtr, sharedRef, mutRef, TypeSign, infer, never, Ty, named, applied, pointing, sign, noTypes, types, lastType, moreTypes, typePrefixToken, typeSignToken, writeType}
 use Rattle.token_grammar.specs.Expressions.{Atom, path, literal, Prefix, neg, deref, invert, ref, refMut, Member, byName, byNumber, awaited, Expr, atom, paren, prefix, binary, cast, member, try, index, call, method, noArguments, arguments, lastArgument, moreArguments, atomToken, prefixToken, memberToken, write}
+use Rattle.token_grammar.specs.Commas.{withoutTypeCommas, withoutCommas}
 use Rattle.token_grammar.proofs.Added.{withPair, addPairs}
 use Rattle.token_grammar.proofs.Tokens.{operator-number}
 use Rattle.token_plain.specs.Trees.{label, atomLabel, prefixLabel, operatorLabel, memberLabel, typePrefixLabel, typeSignLabel, treeOf, treeOfType}
@@ -125,12 +126,12 @@ type-sign-signs never = refl
 -- a link before another, and the last
 pub link-signs : (l : Expr items) → signsOf (label Link 0) (treeOf l) ≡ signs [] (Comma ∷ []) []
 unfolding signsOf signLines lookup pick
-link-signs (lastArgument b) = refl
+link-signs (lastArgument comma b) = refl
 link-signs (moreArguments b l) = refl
 
 type-link-signs : (l : Ty items) → signsOf (label Link 0) (treeOfType l) ≡ signs [] (Comma ∷ []) []
 unfolding signsOf signLines lookup pick
-type-link-signs (lastType t) = refl
+type-link-signs (lastType comma t) = refl
 type-link-signs (moreTypes t l) = refl
 
 -- a node's own tokens by its signs
@@ -150,7 +151,7 @@ tokens-other : (h : Handed) (l : Label) (a b : Tree) (rest : List Token) → isE
     → (let x = ownContext h (node l a b) in tokensFor h (node l a b) rest ≡ inside s (tokensFor (handsFirst x (node l a b)) a) (tokensFor (handsSecond x (node l a b)) b) rest)
 tokens-other h l a b rest e s q = tokens-by h (node l a b) rest ∙ rw (marked-other h (node l a b) e) (inside-at (ownContext h (node l a b)) l a b s q rest)
 
-pub types-are : {s : Sort} (t : Ty s) (h : Handed) (rest : List Token) → tokensFor h (treeOfType t) (close s rest) ≡ writeType t rest
+pub types-are : {s : Sort} (t : Ty s) (h : Handed) (rest : List Token) → tokensFor h (treeOfType t) (close s rest) ≡ writeType (withoutTypeCommas t) rest
 unfolding tokensFor signsOf signLines lookup pick classOf
 types-are named h rest = tokens-other h _ _ _ rest refl (signs (Name ∷ []) [] []) refl
 types-are (applied l) h rest =
@@ -170,28 +171,28 @@ types-are (sign x) h rest = tokens-other h _ _ _ rest (sign-type x) (signs (type
     sign-type never = refl
 types-are noTypes h rest = refl
 types-are (types l) h rest = types-are l h rest
-types-are (lastType t) h rest = tokens-other h _ _ _ _ refl (signs [] [] []) refl ∙ types-are t _ _
+types-are (lastType comma t) h rest = tokens-other h _ _ _ _ refl (signs [] [] []) refl ∙ types-are t _ _
 types-are (moreTypes t l) h rest =
-    tokens-other h _ _ _ _ refl (signs [] (Comma ∷ []) []) (type-link-signs l) ∙ types-are t _ _ ∙ ap (λ r. writeType t (Comma ∷ r)) (types-are l _ rest)
+    tokens-other h _ _ _ _ refl (signs [] (Comma ∷ []) []) (type-link-signs l) ∙ types-are t _ _ ∙ ap (λ r. writeType (withoutTypeCommas t) (Comma ∷ r)) (types-are l _ rest)
 
 -- ---- expressions, operand by operand
 
 abbrev pub InsideIs : Expr one → Type 0
-InsideIs e = (x : FixupContext) → Calm x → Settled x → (end : List Token) → insideFor x (treeOf e) end ≡ write (addPairs e (x .«next_operator_can_begin_generics»)) end
+InsideIs e = (x : FixupContext) → Calm x → Settled x → (end : List Token) → insideFor x (treeOf e) end ≡ write (withoutCommas (addPairs e (x .«next_operator_can_begin_generics»))) end
 
-pub operand-is : {h : Handed} {a : Expr one} {p g : Bool} → Operand h a p g → InsideIs a → (rest : List Token) → tokensFor h (treeOf a) rest ≡ write (withPair p g (addPairs a)) rest
+pub operand-is : {h : Handed} {a : Expr one} {p g : Bool} → Operand h a p g → InsideIs a → (rest : List Token) → tokensFor h (treeOf a) rest ≡ write (withoutCommas (withPair p g (addPairs a))) rest
 operand-is {h} {a} {p} {g} o is rest =
     tokens-by h (treeOf a) rest
     ∙ rw (marked-expression h (treeOf a) (facts a .expression) ∙ o .pair, own-expression h (treeOf a) (facts a .expression) ∙ ap (λ b. pick b NONE (h .fixup)) (o .pair)) (by p)
   where
-    by : (p : Bool) → within p (insideFor (pick p NONE (h .fixup)) (treeOf a)) rest ≡ write (withPair p g (addPairs a)) rest
+    by : (p : Bool) → within p (insideFor (pick p NONE (h .fixup)) (treeOf a)) rest ≡ write (withoutCommas (withPair p g (addPairs a))) rest
     by true = rw (pick-true NONE (h .fixup) refl) (ap (λ r. LeftParen ∷ r) (is NONE calm-none (λ e. true-not-false (sym e)) (RightParen ∷ rest)))
-    by false = rw (pick-false NONE (h .fixup) refl) (is (h .fixup) (o .calm) (o .settled) rest ∙ ap (λ f. write (addPairs a f) rest) (o .flag))
+    by false = rw (pick-false NONE (h .fixup) refl) (is (h .fixup) (o .calm) (o .settled) rest ∙ ap (λ f. write (withoutCommas (addPairs a f)) rest) (o .flag))
 
 abbrev pub Is : (s : Sort) → Expr s → Type 0
 Is one e = InsideIs e
-Is list l = (h : Handed) (end : List Token) → tokensFor h (treeOf l) (RightParen ∷ end) ≡ write (addPairs l false) end
-Is items l = (h : Handed) (end : List Token) → tokensFor h (treeOf l) (RightParen ∷ end) ≡ write (addPairs l false) end
+Is list l = (h : Handed) (end : List Token) → tokensFor h (treeOf l) (RightParen ∷ end) ≡ write (withoutCommas (addPairs l false)) end
+Is items l = (h : Handed) (end : List Token) → tokensFor h (treeOf l) (RightParen ∷ end) ≡ write (withoutCommas (addPairs l false)) end
 
 pub is : (s : Sort) (e : Expr s) → Is s e
 unfolding tokensFor signsOf signLines lookup pick classOf
@@ -228,9 +229,9 @@ is s (method a l) = λ x c w end.
     ∙ operand-is (method-first x c w a l) (is one a) _
 is s noArguments = λ h end. refl
 is s (arguments l) = λ h end. is items l h end
-is s (lastArgument a) = λ h end.
+is s (lastArgument comma a) = λ h end.
     tokens-other h _ _ _ _ refl (signs [] [] []) refl
-    ∙ ap (λ k. tokensFor k (treeOf a) (RightParen ∷ end)) (link-first (ownContext h (treeOf (lastArgument a))) (treeOf a) none)
+    ∙ ap (λ k. tokensFor k (treeOf a) (RightParen ∷ end)) (link-first (ownContext h (treeOf (lastArgument comma a))) (treeOf a) none)
     ∙ operand-is (alone a) (is one a) _
 is s (moreArguments a l) = λ h end.
     let x = ownContext h (treeOf (moreArguments a l)) in
@@ -240,6 +241,6 @@ is s (moreArguments a l) = λ h end.
     ∙ ap (λ r. tokensFor (neither NONE) (treeOf a) (Comma ∷ r)) (is items l k end)
     ∙ operand-is (alone a) (is one a) _
 
--- What is written for the root in context 0.
-pub tokens-are : (e : Expr one) (rest : List Token) → tokensFor (neither NONE) (treeOf e) rest ≡ write (addPairs e false) rest
+-- What is written for the root in context 0: the pairs that it needs, and no comma after a last item.
+pub tokens-are : (e : Expr one) (rest : List Token) → tokensFor (neither NONE) (treeOf e) rest ≡ write (withoutCommas (addPairs e false)) rest
 tokens-are e rest = operand-is (alone e) (is one e) rest

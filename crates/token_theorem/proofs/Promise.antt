@@ -25,7 +25,9 @@ use Rattle.row_walk.proofs.Replies.{done}
 use Rattle.token_grammar.specs.Tokens.{Token, code, codesOf}
 use Rattle.token_grammar.specs.Types.{one}
 use Rattle.token_grammar.specs.Expressions.{Expr, write}
+use Rattle.token_grammar.specs.Commas.{withoutCommas, NoLastComma}
 use Rattle.token_grammar.proofs.Added.{addPairs, Pair, dropPair}
+use Rattle.token_grammar.proofs.Commas.{none-last as fine-tokens}
 use Rattle.token_grammar.proofs.Tokens.{code-below}
 use Rattle.token_plain.specs.Plain.{plainTable}
 use Rattle.token_plain.specs.Trees.{treeOf, withoutParens}
@@ -49,7 +51,7 @@ use Rattle.token_writer.proofs.Tokens.{length-codes}
 use Rattle.token_reader.specs.declared.Reply.{Reply}
 use Rattle.token_reader.specs.declared.Reply.the-variants.{Nodes}
 use Rattle.token_reader.specs.Reading.{readRefusal12, anyAbove, refusal14, countOrLarge, readTable, Answers}
-use Rattle.token_theorem.specs.Statement.{meant, Added, writtenBut, Removed, Promise, FilePromise}
+use Rattle.token_theorem.specs.Statement.{meant, Added, writtenBut, Removed, Promise, FilePromise, WritesNone}
 use Rattle.token_theorem.proofs.LeftOut.{removed}
 use Rattle.token_theorem.proofs.Smaller.{size-without, not-large}
 
@@ -96,7 +98,7 @@ module _ (count : ℕ) (cells : List ℕ) (ok : Accepted 0 count cells) (plain :
   tree-is : treeOf tree ≡ root
   tree-is = from-table 0 count cells ok plain .1
 
-  written-is : written count cells ≡ write (addPairs tree false) []
+  written-is : written count cells ≡ write (withoutCommas (addPairs tree false)) []
   unfolding written
   written-is =
       ap (λ r. tokensAt cells count (hasPair r) 1 root []) rows-are
@@ -107,7 +109,10 @@ module _ (count : ℕ) (cells : List ℕ) (ok : Accepted 0 count cells) (plain :
   -- ---- readings
 
   reads : Reads (codesOf (written count cells)) (meant count cells)
-  reads = rw written-is (subst (Reads (codesOf (write (addPairs tree false) []))) (ap withoutParens tree-is) (reads-back tree))
+  reads = rw written-is (subst (Reads (codesOf (write (withoutCommas (addPairs tree false)) []))) (ap withoutParens tree-is) (reads-back tree))
+
+  none-last : NoLastComma (codesOf (written count cells))
+  none-last = rw written-is (fine-tokens (addPairs tree false))
 
   only : (t : Tree) → Reads (codesOf (written count cells)) t → t ≡ meant count cells
   only t r = one-reading r reads
@@ -162,10 +167,10 @@ module _ (count : ℕ) (cells : List ℕ) (ok : Accepted 0 count cells) (plain :
         ∙ ap₂ hasPair (sym rows-are) leads
         ∙ added .2
 
-    without : (q : Pair tree false) × ((rest : List Token) → tokensBut path (neither noContext) (treeOf tree) rest ≡ write (dropPair tree false q) rest)
+    without : (q : Pair tree false) × ((rest : List Token) → tokensBut path (neither noContext) (treeOf tree) rest ≡ write (withoutCommas (dropPair tree false q)) rest)
     without = tokens-without tree path on-row
 
-    but-is : writtenBut j count cells 1 ≡ write (dropPair tree false (without .0)) []
+    but-is : writtenBut j count cells 1 ≡ write (withoutCommas (dropPair tree false (without .0))) []
     but-is =
         ap (λ r. tokensAt cells count (butAt j (hasPair r)) 1 root []) rows-are
         ∙ ap (λ n. tokensAt cells count (butAt n (hasPair rows)) 1 root []) (sym leads)
@@ -190,3 +195,6 @@ promise count cells ok plain =
 pub file-promise : FilePromise
 file-promise file lent e zero plain =
     promise (countIn file) (cellsIn file) (subst (λ c. Accepted c (countIn file) (cellsIn file)) zero (accepted-file file lent e)) plain
+
+pub writes-none : WritesNone
+writes-none count cells ok plain = none-last count cells ok plain

@@ -9,6 +9,7 @@ use Rattle.tree.specs.Sizes.{nodeCells, tokensPerNode, mostNodes}
 use Rattle.tree.specs.Trees.{Tree, treeAt}
 use Rattle.tree_rules.specs.Refusals.{Accepted}
 use Rattle.token_grammar.specs.Tokens.{Token, LeftParen, RightParen, codesOf}
+use Rattle.token_grammar.specs.Commas.{NoLastComma}
 use Rattle.token_plain.specs.Plain.{plainTable}
 use Rattle.token_plain.specs.Trees.{withoutParens}
 use Rattle.token_plain.specs.Written.{tokensAt, hasPair, butAt}
@@ -66,3 +67,7 @@ abbrev pub FilePromise : Type 0
 FilePromise =
     (file : List ℕ) (lent : ℕ) → fileRefusal file lent ≡ 0 → contextIn file ≡ 0 → plainTable (countIn file) (cellsIn file) ≡ true
     → Demand3 (countIn file) (cellsIn file)
+
+-- Document 02, Paper 1: "The token writer still writes none." What is written has no comma straight before a `)` or a `>`.
+abbrev pub WritesNone : Type 0
+WritesNone = (count : ℕ) (cells : List ℕ) → Accepted 0 count cells → plainTable count cells ≡ true → NoLastComma (codesOf (written count cells))

@@ -13,6 +13,7 @@ use Rattle.token_grammar.specs.Expressions.{path, literal, neg, deref, invert, 
 use Rattle.token_grammar.specs.Parser.{noStart, startLines, startBy, noMember, afterDotLines, afterDotBy}
 use Rattle.token_reader.specs.Tables.{goesOnWith}
 use Rattle.token_reader.proofs.First.{there}
+use Rattle.token_reader.proofs.Lists.{closed-there, comma-there}
 use Rattle.token_reader.proofs.Tables.{level-most, after-least, formCodes, no-form}
 use Rattle.token_reader.proofs.Tells.{ready-on, ready-grew, stores, stores-more}
 use Rattle.token_reader.proofs.ExprEnds.{operand-atom, operand-prefixed, operand-group, operand-none, prefixed-none, prefixed-stored, group-none, group-closed, goes-inside, Under, under-start, under-ready, under-past, under-step, under-end, step-less}
@@ -61,6 +62,7 @@ use Rattle.token_reader.proofs.node.store.Reads as store-reads
 use Rattle.token_reader.proofs.piece.no_expr.Reads as no-expr-reads
 use Rattle.token_reader.proofs.piece.no_piece.Reads as no-piece-reads
 use Rattle.token_reader.proofs.token.code_at.Reads as code-at-reads
+use Rattle.token_reader.proofs.token.past_comma.Reads as past-comma-reads
 use Rattle.token_follow.proofs.goes_on.Reads as goes-on-reads
 use Rattle.token_follow.proofs.level_of.Reads as level-of-reads
 use Rattle.token_reader.proofs.token.lowest_after.Reads as lowest-after-reads
@@ -110,7 +112,7 @@ expr-μ-loop tokens own₀ at free min left₀ own left = length tokens + 1 - le
 
 -- what the callees ask and ensure
 abbrev arguments-claims : ℕ → arguments-lts.Claims
-arguments-claims t = (given-below 2 expr-kinds.ps μ-expr expr.Pre t, expr.Post, code-at-reads.Asked, code-at-reads.Learnt, store-reads.Asked, store-reads.Learnt, no-piece-reads.Asked, no-piece-reads.Learnt, given-below 2 arguments-kinds.ps μ-arguments arguments.Pre t, arguments.Post)
+arguments-claims t = (given-below 2 expr-kinds.ps μ-expr expr.Pre t, expr.Post, past-comma-reads.Asked, past-comma-reads.Learnt, code-at-reads.Asked, code-at-reads.Learnt, store-reads.Asked, store-reads.Learnt, no-piece-reads.Asked, no-piece-reads.Learnt, given-below 2 arguments-kinds.ps μ-arguments arguments.Pre t, arguments.Post)
 
 abbrev binary-claims : ℕ → binary-lts.Claims
 binary-claims t = (level-of-reads.Asked, level-of-reads.Learnt, lowest-after-reads.Asked, lowest-after-reads.Learnt, given-below 2 expr-kinds.ps μ-expr expr.Pre t, expr.Post, operator-form-reads.Asked, operator-form-reads.Learnt, operator-detail-reads.Asked, operator-detail-reads.Learnt, store-reads.Asked, store-reads.Learnt)
@@ -183,23 +185,23 @@ pub +arguments+binary+call+dot+expr+group+index+named+operand+prefixed+step-spec
     (λ t. arguments-lts.spec (arguments-claims t) (given-at 2 arguments-kinds.ps μ-arguments arguments.Pre t)
     arguments.Post
     (λ c κs. let p = c .before .before .before .pre .0 in (omega arith, (c .before .before .before .pre .1, omega arith)))
-    free
-    (λ c. let b = there (c .before .before .before .before .before .before .before .before .before .args .tokens .now) (c .before .before .before .before .before .expr .result .at) (code RightParen) (sym (c .before .before .code-at .ensures) ∙ c .before .if1 .taken) (omega arith) in search needs)
-    (λ c. let r = c .before .before .before .before .before .before .before .before .before .before .before .pre .1 in let b = there (c .before .before .before .before .before .before .before .before .before .before .before .args .tokens .now) (c .before .before .before .before .before .before .before .expr .result .at) (code RightParen) (sym (c .before .before .before .before .code-at .ensures) ∙ c .before .before .before .if1 .taken) (omega arith) in let w = c .before .before .before .before .before .before .before .expr .ensures .grew (omega arith) in omega (arith, r .most, w .less))
-    (λ c κs. let b = there (c .before .before .before .before .before .before .before .before .before .before .before .args .tokens .now) (c .before .before .before .before .before .before .before .expr .result .at) (code RightParen) (sym (c .before .before .before .before .code-at .ensures) ∙ c .before .before .before .if1 .taken) (omega arith) in stores (c .before .before .before .before .before .before .before .before .before .before .before .pre .1) (c .before .before .before .before .before .before .before .expr .ensures .grew (omega arith)) (omega arith))
+    free free
+    (λ c. let b = there (c .before .before .before .before .before .before .before .before .before .args .tokens .now) (c .before .before .past-comma .result) (code RightParen) (sym (c .before .code-at .ensures) ∙ c .if1 .taken) (omega arith) in search needs)
+    (λ c. let r = c .before .before .before .before .before .before .before .before .before .before .before .pre .1 in let b = closed-there (c .before .before .before .before .before .before .before .before .before .before .before .args .tokens .now) (c .before .before .before .before .before .before .before .expr .result .at) RightParen (λ z. omega arith) (c .before .before .before .before .past-comma .ensures) (sym (c .before .before .before .code-at .ensures) ∙ c .before .before .if1 .taken) in let w = c .before .before .before .before .before .before .before .expr .ensures .grew (omega arith) in omega (arith, r .most, w .less))
+    (λ c κs. let b = closed-there (c .before .before .before .before .before .before .before .before .before .before .before .args .tokens .now) (c .before .before .before .before .before .before .before .expr .result .at) RightParen (λ z. omega arith) (c .before .before .before .before .past-comma .ensures) (sym (c .before .before .before .code-at .ensures) ∙ c .before .before .if1 .taken) in stores (c .before .before .before .before .before .before .before .before .before .before .before .pre .1) (c .before .before .before .before .before .before .before .expr .ensures .grew (omega arith)) (omega arith))
     (λ c. search needs)
-    (λ c. arguments-last (c .before .before .before .before .before .before .before .before .before .before .before .before .before .before .pre .1) _ (c .before .before .before .before .before .before .before .before .before .before .expr .ensures) (sym (c .before .before .before .before .before .before .before .code-at .ensures) ∙ c .before .before .before .before .before .before .if1 .taken) (c .before .before .store .ensures))
+    (λ c. arguments-last (c .before .before .before .before .before .before .before .before .before .before .before .before .before .before .pre .1) _ (c .before .before .before .before .before .before .before .before .before .before .expr .ensures) (c .before .before .before .before .before .before .before .past-comma .ensures) (sym (c .before .before .before .before .before .before .code-at .ensures) ∙ c .before .before .before .before .before .if1 .taken) (c .before .before .store .ensures))
     free (λ c. search needs)
-    (λ c. arguments-none (c .before .before .before .before .before .before .before .before .before .before .pre .1) _ (c .before .before .before .before .before .before .expr .ensures) (λ e. c .before .before .if1 .left (c .before .before .before .code-at .ensures ∙ e)) (λ e. c .before .if2 .taken (c .before .before .before .code-at .ensures ∙ e)) (c .no-piece .ensures))
-    (λ c. let b = there (c .before .before .before .before .before .before .before .before .before .before .before .args .tokens .now) (c .before .before .before .before .before .before .before .expr .result .at) (code Comma) (sym (c .before .before .before .before .code-at .ensures) ∙ c .before .before .if2 .left) (omega arith) in search needs)
-    (λ c κs. let p = c .before .before .before .before .before .before .before .before .before .before .before .pre .0 in let b = there (c .before .before .before .before .before .before .before .before .before .before .before .args .tokens .now) (c .before .before .before .before .before .before .before .expr .result .at) (code Comma) (sym (c .before .before .before .before .code-at .ensures) ∙ c .before .before .if2 .left) (omega arith) in let w = c .before .before .before .before .before .before .before .expr .ensures .grew (omega arith) in let u = w .upto in (omega arith, ready-grew _ (omega arith) (omega arith) (c .before .before .before .before .before .before .before .before .before .before .before .pre .1) w))
+    (λ c. arguments-none (c .before .before .before .before .before .before .before .before .before .before .before .pre .1) _ (c .before .before .before .before .before .before .before .expr .ensures) (c .before .before .before .before .past-comma .ensures) (λ e. c .before .before .if1 .left (c .before .before .before .code-at .ensures ∙ e)) (λ e. c .before .if2 .taken (c .before .before .before .code-at .ensures ∙ e)) (c .no-piece .ensures))
+    (λ c. let b = comma-there (c .before .before .before .before .before .before .before .before .before .before .before .before .args .tokens .now) (c .before .before .before .before .before .before .before .before .expr .result .at) RightParen (λ z. omega arith) (c .before .before .before .before .before .past-comma .ensures) (sym (c .before .before .before .before .code-at .ensures) ∙ c .before .before .if2 .left) in search needs)
+    (λ c κs. let p = c .before .before .before .before .before .before .before .before .before .before .before .before .pre .0 in let b = comma-there (c .before .before .before .before .before .before .before .before .before .before .before .before .args .tokens .now) (c .before .before .before .before .before .before .before .before .expr .result .at) RightParen (λ z. omega arith) (c .before .before .before .before .before .past-comma .ensures) (sym (c .before .before .before .before .code-at .ensures) ∙ c .before .before .if2 .left) in let w = c .before .before .before .before .before .before .before .before .expr .ensures .grew (omega arith) in let u = w .upto in (omega arith, ready-grew _ (omega arith) (omega arith) (c .before .before .before .before .before .before .before .before .before .before .before .before .pre .1) w))
     (λ c. search needs)
-    (λ c. arguments-more-none (c .before .before .before .before .before .before .before .before .before .before .before .before .before .before .before .before .pre .1) _ (c .before .before .before .before .before .before .before .before .before .before .before .before .expr .ensures) (λ e. c .before .before .before .before .before .before .before .before .if1 .left (c .before .before .before .before .before .before .before .before .before .code-at .ensures ∙ e)) (sym (c .before .before .before .before .before .before .before .before .before .code-at .ensures) ∙ c .before .before .before .before .before .before .before .if2 .left) (c .if3 .taken) (c .before .before .before .before .arguments .ensures))
-    (λ c. let b = there (c .before .before .before .before .before .before .before .before .before .before .before .before .before .before .before .before .before .before .args .tokens .now) (c .before .before .before .before .before .before .before .before .before .before .before .before .before .before .expr .result .at) (code Comma) (sym (c .before .before .before .before .before .before .before .before .before .before .before .code-at .ensures) ∙ c .before .before .before .before .before .before .before .before .before .if2 .left) (omega arith) in let w = c .before .before .before .before .before .before .before .before .before .before .before .before .before .before .expr .ensures .grew (omega arith) in let v = c .before .before .before .before .before .before .arguments .ensures .grew (c .before .before .if3 .left) in omega (arith, c .before .before .before .before .before .before .before .before .before .before .before .before .before .before .before .before .before .before .pre .1 .most, w .less, v .less))
-    (λ c. let b = there (c .before .before .before .before .before .before .before .before .before .before .before .before .before .before .before .before .before .before .before .args .tokens .now) (c .before .before .before .before .before .before .before .before .before .before .before .before .before .before .before .expr .result .at) (code Comma) (sym (c .before .before .before .before .before .before .before .before .before .before .before .before .code-at .ensures) ∙ c .before .before .before .before .before .before .before .before .before .before .if2 .left) (omega arith) in let w = c .before .before .before .before .before .before .before .before .before .before .before .before .before .before .before .expr .ensures .grew (omega arith) in let v = c .before .before .before .before .before .before .before .arguments .ensures .grew (c .before .before .before .if3 .left) in omega (arith, c .before .before .before .before .before .before .before .before .before .before .before .before .before .before .before .before .before .before .before .pre .1 .most, w .less, v .less))
-    (λ c κs. let b = there (c .before .before .before .before .before .before .before .before .before .before .before .before .before .before .before .before .before .before .before .args .tokens .now) (c .before .before .before .before .before .before .before .before .before .before .before .before .before .before .before .expr .result .at) (code Comma) (sym (c .before .before .before .before .before .before .before .before .before .before .before .before .code-at .ensures) ∙ c .before .before .before .before .before .before .before .before .before .before .if2 .left) (omega arith) in stores-more (c .before .before .before .before .before .before .before .before .before .before .before .before .before .before .before .before .before .before .before .pre .1) (c .before .before .before .before .before .before .before .before .before .before .before .before .before .before .before .expr .ensures .grew (omega arith)) b (c .before .before .before .before .before .before .before .arguments .ensures .grew (c .before .before .before .if3 .left)) (omega (arith, c .before .before .before .if3 .left)))
+    (λ c. arguments-more-none (c .before .before .before .before .before .before .before .before .before .before .before .before .before .before .before .before .before .pre .1) _ (c .before .before .before .before .before .before .before .before .before .before .before .before .before .expr .ensures) (c .before .before .before .before .before .before .before .before .before .before .past-comma .ensures) (λ e. c .before .before .before .before .before .before .before .before .if1 .left (c .before .before .before .before .before .before .before .before .before .code-at .ensures ∙ e)) (sym (c .before .before .before .before .before .before .before .before .before .code-at .ensures) ∙ c .before .before .before .before .before .before .before .if2 .left) (c .if3 .taken) (c .before .before .before .before .arguments .ensures))
+    (λ c. let b = comma-there (c .before .before .before .before .before .before .before .before .before .before .before .before .before .before .before .before .before .before .before .args .tokens .now) (c .before .before .before .before .before .before .before .before .before .before .before .before .before .before .before .expr .result .at) RightParen (λ z. omega arith) (c .before .before .before .before .before .before .before .before .before .before .before .before .past-comma .ensures) (sym (c .before .before .before .before .before .before .before .before .before .before .before .code-at .ensures) ∙ c .before .before .before .before .before .before .before .before .before .if2 .left) in let w = c .before .before .before .before .before .before .before .before .before .before .before .before .before .before .before .expr .ensures .grew (omega arith) in let v = c .before .before .before .before .before .before .arguments .ensures .grew (c .before .before .if3 .left) in omega (arith, c .before .before .before .before .before .before .before .before .before .before .before .before .before .before .before .before .before .before .before .pre .1 .most, w .less, v .less))
+    (λ c. let b = comma-there (c .before .before .before .before .before .before .before .before .before .before .before .before .before .before .before .before .before .before .before .before .args .tokens .now) (c .before .before .before .before .before .before .before .before .before .before .before .before .before .before .before .before .expr .result .at) RightParen (λ z. omega arith) (c .before .before .before .before .before .before .before .before .before .before .before .before .before .past-comma .ensures) (sym (c .before .before .before .before .before .before .before .before .before .before .before .before .code-at .ensures) ∙ c .before .before .before .before .before .before .before .before .before .before .if2 .left) in let w = c .before .before .before .before .before .before .before .before .before .before .before .before .before .before .before .before .expr .ensures .grew (omega arith) in let v = c .before .before .before .before .before .before .before .arguments .ensures .grew (c .before .before .before .if3 .left) in omega (arith, c .before .before .before .before .before .before .before .before .before .before .before .before .before .before .before .before .before .before .before .before .pre .1 .most, w .less, v .less))
+    (λ c κs. let b = comma-there (c .before .before .before .before .before .before .before .before .before .before .before .before .before .before .before .before .before .before .before .before .args .tokens .now) (c .before .before .before .before .before .before .before .before .before .before .before .before .before .before .before .before .expr .result .at) RightParen (λ z. omega arith) (c .before .before .before .before .before .before .before .before .before .before .before .before .before .past-comma .ensures) (sym (c .before .before .before .before .before .before .before .before .before .before .before .before .code-at .ensures) ∙ c .before .before .before .before .before .before .before .before .before .before .if2 .left) in stores-more (c .before .before .before .before .before .before .before .before .before .before .before .before .before .before .before .before .before .before .before .before .pre .1) (c .before .before .before .before .before .before .before .before .before .before .before .before .before .before .before .before .expr .ensures .grew (omega arith)) b (c .before .before .before .before .before .before .before .arguments .ensures .grew (c .before .before .before .if3 .left)) (omega (arith, c .before .before .before .if3 .left)))
     (λ c. search needs)
-    (λ c. arguments-more (c .before .before .before .before .before .before .before .before .before .before .before .before .before .before .before .before .before .before .before .before .before .before .pre .1) _ (c .before .before .before .before .before .before .before .before .before .before .before .before .before .before .before .before .before .before .expr .ensures) _ (λ e. c .before .before .before .before .before .before .before .before .before .before .before .before .before .before .if1 .left (c .before .before .before .before .before .before .before .before .before .before .before .before .before .before .before .code-at .ensures ∙ e)) (sym (c .before .before .before .before .before .before .before .before .before .before .before .before .before .before .before .code-at .ensures) ∙ c .before .before .before .before .before .before .before .before .before .before .before .before .before .if2 .left) (c .before .before .before .before .before .before .if3 .left) (c .before .before .before .before .before .before .before .before .before .before .arguments .ensures) (c .before .before .store2 .ensures)))
+    (λ c. arguments-more (c .before .before .before .before .before .before .before .before .before .before .before .before .before .before .before .before .before .before .before .before .before .before .before .pre .1) _ (c .before .before .before .before .before .before .before .before .before .before .before .before .before .before .before .before .before .before .before .expr .ensures) (c .before .before .before .before .before .before .before .before .before .before .before .before .before .before .before .before .past-comma .ensures) _ (λ e. c .before .before .before .before .before .before .before .before .before .before .before .before .before .before .if1 .left (c .before .before .before .before .before .before .before .before .before .before .before .before .before .before .before .code-at .ensures ∙ e)) (sym (c .before .before .before .before .before .before .before .before .before .before .before .before .before .before .before .code-at .ensures) ∙ c .before .before .before .before .before .before .before .before .before .before .before .before .before .if2 .left) (c .before .before .before .before .before .before .if3 .left) (c .before .before .before .before .before .before .before .before .before .before .arguments .ensures) (c .before .before .store2 .ensures)))
     (λ t. binary-lts.spec (binary-claims t) (given-at 2 binary-kinds.ps μ-binary binary.Pre t) binary.Post free
     (λ c. search needs)
     (λ c κs. let l = c .before .before .level-of .ensures in let m = level-most _ (c .before .before .before .before .before .pre .1 .2) in omega (arith, l, m))

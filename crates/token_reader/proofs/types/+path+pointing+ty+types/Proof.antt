@@ -6,10 +6,11 @@ use lib.ListN.{length}
 use borrow.Author.Needs.{needs}
 use Rattle.laws.proofs.Keys.{arm, rest}
 use Rattle.laws.proofs.Calls.{free, given-at, given-below}
-use Rattle.token_grammar.specs.Tokens.{BitAnd, Lt, Gt, number, Bang, AndMut, Name, Comma, StarConst, StarMut, Underscore, code}
+use Rattle.token_grammar.specs.Tokens.{BitAnd, Lt, Gt, number, operator, Bang, AndMut, Name, Comma, StarConst, StarMut, Underscore, code}
 use Rattle.token_grammar.specs.Types.{constPtr, mutPtr, sharedRef, mutRef, infer, never}
 use Rattle.token_grammar.specs.Parser.{noType, typeStartLines, typeStartBy}
 use Rattle.token_reader.proofs.First.{there}
+use Rattle.token_reader.proofs.Lists.{closed-there, comma-there}
 use Rattle.token_reader.proofs.Tells.{ready-on, ready-grew, stores, stores-more}
 use Rattle.token_reader.proofs.TypeEnds.{type-sign, type-pointing, type-path, type-none, pointing-none, pointing-stored, path-named, path-empty, path-none, path-stored, types-last, types-none, types-more-none, types-more}
 use borrow.Fn.PlainCycle.{Measures}
@@ -28,6 +29,7 @@ use Rattle.token_reader.proofs.types.+path+pointing+ty+types.Lts-types 
 use Rattle.token_reader.proofs.node.store.Reads as store-reads
 use Rattle.token_reader.proofs.piece.no_piece.Reads as no-piece-reads
 use Rattle.token_reader.proofs.token.code_at.Reads as code-at-reads
+use Rattle.token_reader.proofs.token.past_comma.Reads as past-comma-reads
 use Rattle.token_reader.proofs.types.sign.Reads as sign-reads
 use Rattle.token_reader.proofs.types.+path+pointing+ty+types.{statement}
 use Rattle.token_reader.proofs.types.+path+pointing+ty+types.Tie.{close}
@@ -55,7 +57,7 @@ abbrev ty-claims : ℕ → ty-lts.Claims
 ty-claims t = (code-at-reads.Asked, code-at-reads.Learnt, given-below 2 pointing-kinds.ps μ-pointing pointing.Pre t, pointing.Post, sign-reads.Asked, sign-reads.Learnt, given-below 2 path-kinds.ps μ-path path.Pre t, path.Post, no-piece-reads.Asked, no-piece-reads.Learnt)
 
 abbrev types-claims : ℕ → types-lts.Claims
-types-claims t = (given-below 2 ty-kinds.ps μ-ty ty.Pre t, ty.Post, code-at-reads.Asked, code-at-reads.Learnt, store-reads.Asked, store-reads.Learnt, no-piece-reads.Asked, no-piece-reads.Learnt, given-below 2 types-kinds.ps μ-types types.Pre t, types.Post)
+types-claims t = (given-below 2 ty-kinds.ps μ-ty ty.Pre t, ty.Post, past-comma-reads.Asked, past-comma-reads.Learnt, code-at-reads.Asked, code-at-reads.Learnt, store-reads.Asked, store-reads.Learnt, no-piece-reads.Asked, no-piece-reads.Learnt, given-below 2 types-kinds.ps μ-types types.Pre t, types.Post)
 
 pub +path+pointing+ty+types-spec : {M : Type 1} → statement M
 +path+pointing+ty+types-spec =
@@ -110,20 +112,20 @@ pub +path+pointing+ty+types-spec : {M : Type 1} → statement M
     (λ c. type-sign (c .before .before .before .before .before .before .before .before .pre .1) infer (there (c .before .before .before .before .before .before .before .before .args .tokens .now) (c .before .before .before .before .before .before .before .before .args .at) (code Underscore) (sym (c .before .before .before .before .before .code-at .ensures) ∙ c .before .before .before .before .match .keys7) (omega arith)) (sym (ap typeStartBy (c .before .before .before .before .before .code-at .ensures)) ∙ arm typeStartLines noType _ 6 tt (c .before .before .before .before .match .keys7)) refl (c .before .before .sign2 .ensures))
     (λ c. type-none (c .before .before .before .before .before .pre .1) (sym (ap typeStartBy (c .before .before .code-at .ensures)) ∙ rest typeStartLines noType _ (c .before .match .rest)) (c .no-piece .ensures)))
     λ t. types-lts.spec (types-claims t) (given-at 2 types-kinds.ps μ-types types.Pre t) types.Post
-    (λ c κs. let p = c .before .before .before .pre .0 in (omega arith, c .before .before .before .pre .1)) free
-    (λ c. let b = there (c .before .before .before .before .before .before .before .before .before .args .tokens .now) (c .before .before .before .before .before .ty .result .at) (number Gt) (sym (c .before .before .code-at .ensures) ∙ c .before .if1 .taken) (omega arith) in search needs)
-    (λ c. let r = c .before .before .before .before .before .before .before .before .before .before .before .pre .1 in let b = there (c .before .before .before .before .before .before .before .before .before .before .before .args .tokens .now) (c .before .before .before .before .before .before .before .ty .result .at) (number Gt) (sym (c .before .before .before .before .code-at .ensures) ∙ c .before .before .before .if1 .taken) (omega arith) in let w = c .before .before .before .before .before .before .before .ty .ensures .grew (omega arith) in omega (arith, r .most, w .less))
-    (λ c κs. let b = there (c .before .before .before .before .before .before .before .before .before .before .before .args .tokens .now) (c .before .before .before .before .before .before .before .ty .result .at) (number Gt) (sym (c .before .before .before .before .code-at .ensures) ∙ c .before .before .before .if1 .taken) (omega arith) in stores (c .before .before .before .before .before .before .before .before .before .before .before .pre .1) (c .before .before .before .before .before .before .before .ty .ensures .grew (omega arith)) (omega arith))
+    (λ c κs. let p = c .before .before .before .pre .0 in (omega arith, c .before .before .before .pre .1)) free free
+    (λ c. let b = there (c .before .before .before .before .before .before .before .before .before .args .tokens .now) (c .before .before .past-comma .result) (number Gt) (sym (c .before .code-at .ensures) ∙ c .if1 .taken) (omega arith) in search needs)
+    (λ c. let r = c .before .before .before .before .before .before .before .before .before .before .before .pre .1 in let b = closed-there (c .before .before .before .before .before .before .before .before .before .before .before .args .tokens .now) (c .before .before .before .before .before .before .before .ty .result .at) (operator Gt) (λ z. omega arith) (c .before .before .before .before .past-comma .ensures) (sym (c .before .before .before .code-at .ensures) ∙ c .before .before .if1 .taken) in let w = c .before .before .before .before .before .before .before .ty .ensures .grew (omega arith) in omega (arith, r .most, w .less))
+    (λ c κs. let b = closed-there (c .before .before .before .before .before .before .before .before .before .before .before .args .tokens .now) (c .before .before .before .before .before .before .before .ty .result .at) (operator Gt) (λ z. omega arith) (c .before .before .before .before .past-comma .ensures) (sym (c .before .before .before .code-at .ensures) ∙ c .before .before .if1 .taken) in stores (c .before .before .before .before .before .before .before .before .before .before .before .pre .1) (c .before .before .before .before .before .before .before .ty .ensures .grew (omega arith)) (omega arith))
     (λ c. search needs)
-    (λ c. types-last (c .before .before .before .before .before .before .before .before .before .before .before .before .before .before .pre .1) _ (c .before .before .before .before .before .before .before .before .before .before .ty .ensures) (sym (c .before .before .before .before .before .before .before .code-at .ensures) ∙ c .before .before .before .before .before .before .if1 .taken) (c .before .before .store .ensures))
+    (λ c. types-last (c .before .before .before .before .before .before .before .before .before .before .before .before .before .before .pre .1) _ (c .before .before .before .before .before .before .before .before .before .before .ty .ensures) (c .before .before .before .before .before .before .before .past-comma .ensures) (sym (c .before .before .before .before .before .before .code-at .ensures) ∙ c .before .before .before .before .before .if1 .taken) (c .before .before .store .ensures))
     free (λ c. search needs)
-    (λ c. types-none (c .before .before .before .before .before .before .before .before .before .before .pre .1) _ (c .before .before .before .before .before .before .ty .ensures) (λ e. c .before .before .if1 .left (c .before .before .before .code-at .ensures ∙ e)) (λ e. c .before .if2 .taken (c .before .before .before .code-at .ensures ∙ e)) (c .no-piece .ensures))
-    (λ c. let b = there (c .before .before .before .before .before .before .before .before .before .before .before .args .tokens .now) (c .before .before .before .before .before .before .before .ty .result .at) (code Comma) (sym (c .before .before .before .before .code-at .ensures) ∙ c .before .before .if2 .left) (omega arith) in search needs)
-    (λ c κs. let p = c .before .before .before .before .before .before .before .before .before .before .before .pre .0 in let b = there (c .before .before .before .before .before .before .before .before .before .before .before .args .tokens .now) (c .before .before .before .before .before .before .before .ty .result .at) (code Comma) (sym (c .before .before .before .before .code-at .ensures) ∙ c .before .before .if2 .left) (omega arith) in let w = c .before .before .before .before .before .before .before .ty .ensures .grew (omega arith) in let u = w .upto in (omega arith, ready-grew _ (omega arith) (omega arith) (c .before .before .before .before .before .before .before .before .before .before .before .pre .1) w))
+    (λ c. types-none (c .before .before .before .before .before .before .before .before .before .before .before .pre .1) _ (c .before .before .before .before .before .before .before .ty .ensures) (c .before .before .before .before .past-comma .ensures) (λ e. c .before .before .if1 .left (c .before .before .before .code-at .ensures ∙ e)) (λ e. c .before .if2 .taken (c .before .before .before .code-at .ensures ∙ e)) (c .no-piece .ensures))
+    (λ c. let b = comma-there (c .before .before .before .before .before .before .before .before .before .before .before .before .args .tokens .now) (c .before .before .before .before .before .before .before .before .ty .result .at) (operator Gt) (λ z. omega arith) (c .before .before .before .before .before .past-comma .ensures) (sym (c .before .before .before .before .code-at .ensures) ∙ c .before .before .if2 .left) in search needs)
+    (λ c κs. let p = c .before .before .before .before .before .before .before .before .before .before .before .before .pre .0 in let b = comma-there (c .before .before .before .before .before .before .before .before .before .before .before .before .args .tokens .now) (c .before .before .before .before .before .before .before .before .ty .result .at) (operator Gt) (λ z. omega arith) (c .before .before .before .before .before .past-comma .ensures) (sym (c .before .before .before .before .code-at .ensures) ∙ c .before .before .if2 .left) in let w = c .before .before .before .before .before .before .before .before .ty .ensures .grew (omega arith) in let u = w .upto in (omega arith, ready-grew _ (omega arith) (omega arith) (c .before .before .before .before .before .before .before .before .before .before .before .before .pre .1) w))
     (λ c. search needs)
-    (λ c. types-more-none (c .before .before .before .before .before .before .before .before .before .before .before .before .before .before .before .before .pre .1) _ (c .before .before .before .before .before .before .before .before .before .before .before .before .ty .ensures) (λ e. c .before .before .before .before .before .before .before .before .if1 .left (c .before .before .before .before .before .before .before .before .before .code-at .ensures ∙ e)) (sym (c .before .before .before .before .before .before .before .before .before .code-at .ensures) ∙ c .before .before .before .before .before .before .before .if2 .left) (c .if3 .taken) (c .before .before .before .before .types .ensures))
-    (λ c. let b = there (c .before .before .before .before .before .before .before .before .before .before .before .before .before .before .before .before .before .before .args .tokens .now) (c .before .before .before .before .before .before .before .before .before .before .before .before .before .before .ty .result .at) (code Comma) (sym (c .before .before .before .before .before .before .before .before .before .before .before .code-at .ensures) ∙ c .before .before .before .before .before .before .before .before .before .if2 .left) (omega arith) in let w = c .before .before .before .before .before .before .before .before .before .before .before .before .before .before .ty .ensures .grew (omega arith) in let v = c .before .before .before .before .before .before .types .ensures .grew (c .before .before .if3 .left) in omega (arith, c .before .before .before .before .before .before .before .before .before .before .before .before .before .before .before .before .before .before .pre .1 .most, w .less, v .less))
-    (λ c. let b = there (c .before .before .before .before .before .before .before .before .before .before .before .before .before .before .before .before .before .before .before .args .tokens .now) (c .before .before .before .before .before .before .before .before .before .before .before .before .before .before .before .ty .result .at) (code Comma) (sym (c .before .before .before .before .before .before .before .before .before .before .before .before .code-at .ensures) ∙ c .before .before .before .before .before .before .before .before .before .before .if2 .left) (omega arith) in let w = c .before .before .before .before .before .before .before .before .before .before .before .before .before .before .before .ty .ensures .grew (omega arith) in let v = c .before .before .before .before .before .before .before .types .ensures .grew (c .before .before .before .if3 .left) in omega (arith, c .before .before .before .before .before .before .before .before .before .before .before .before .before .before .before .before .before .before .before .pre .1 .most, w .less, v .less))
-    (λ c κs. let b = there (c .before .before .before .before .before .before .before .before .before .before .before .before .before .before .before .before .before .before .before .args .tokens .now) (c .before .before .before .before .before .before .before .before .before .before .before .before .before .before .before .ty .result .at) (code Comma) (sym (c .before .before .before .before .before .before .before .before .before .before .before .before .code-at .ensures) ∙ c .before .before .before .before .before .before .before .before .before .before .if2 .left) (omega arith) in stores-more (c .before .before .before .before .before .before .before .before .before .before .before .before .before .before .before .before .before .before .before .pre .1) (c .before .before .before .before .before .before .before .before .before .before .before .before .before .before .before .ty .ensures .grew (omega arith)) b (c .before .before .before .before .before .before .before .types .ensures .grew (c .before .before .before .if3 .left)) (omega (arith, c .before .before .before .if3 .left)))
+    (λ c. types-more-none (c .before .before .before .before .before .before .before .before .before .before .before .before .before .before .before .before .before .pre .1) _ (c .before .before .before .before .before .before .before .before .before .before .before .before .before .ty .ensures) (c .before .before .before .before .before .before .before .before .before .before .past-comma .ensures) (λ e. c .before .before .before .before .before .before .before .before .if1 .left (c .before .before .before .before .before .before .before .before .before .code-at .ensures ∙ e)) (sym (c .before .before .before .before .before .before .before .before .before .code-at .ensures) ∙ c .before .before .before .before .before .before .before .if2 .left) (c .if3 .taken) (c .before .before .before .before .types .ensures))
+    (λ c. let b = comma-there (c .before .before .before .before .before .before .before .before .before .before .before .before .before .before .before .before .before .before .before .args .tokens .now) (c .before .before .before .before .before .before .before .before .before .before .before .before .before .before .before .ty .result .at) (operator Gt) (λ z. omega arith) (c .before .before .before .before .before .before .before .before .before .before .before .before .past-comma .ensures) (sym (c .before .before .before .before .before .before .before .before .before .before .before .code-at .ensures) ∙ c .before .before .before .before .before .before .before .before .before .if2 .left) in let w = c .before .before .before .before .before .before .before .before .before .before .before .before .before .before .before .ty .ensures .grew (omega arith) in let v = c .before .before .before .before .before .before .types .ensures .grew (c .before .before .if3 .left) in omega (arith, c .before .before .before .before .before .before .before .before .before .before .before .before .before .before .before .before .before .before .before .pre .1 .most, w .less, v .less))
+    (λ c. let b = comma-there (c .before .before .before .before .before .before .before .before .before .before .before .before .before .before .before .before .before .before .before .before .args .tokens .now) (c .before .before .before .before .before .before .before .before .before .before .before .before .before .before .before .before .ty .result .at) (operator Gt) (λ z. omega arith) (c .before .before .before .before .before .before .before .before .before .before .before .before .before .past-comma .ensures) (sym (c .before .before .before .before .before .before .before .before .before .before .before .before .code-at .ensures) ∙ c .before .before .before .before .before .before .before .before .before .before .if2 .left) in let w = c .before .before .before .before .before .before .before .before .before .before .before .before .before .before .before .before .ty .ensures .grew (omega arith) in let v = c .before .before .before .before .before .before .before .types .ensures .grew (c .before .before .before .if3 .left) in omega (arith, c .before .before .before .before .before .before .before .before .before .before .before .before .before .before .before .before .before .before .before .before .pre .1 .most, w .less, v .less))
+    (λ c κs. let b = comma-there (c .before .before .before .before .before .before .before .before .before .before .before .before .before .before .before .before .before .before .before .before .args .tokens .now) (c .before .before .before .before .before .before .before .before .before .before .before .before .before .before .before .before .ty .result .at) (operator Gt) (λ z. omega arith) (c .before .before .before .before .before .before .before .before .before .before .before .before .before .past-comma .ensures) (sym (c .before .before .before .before .before .before .before .before .before .before .before .before .code-at .ensures) ∙ c .before .before .before .before .before .before .before .before .before .before .if2 .left) in stores-more (c .before .before .before .before .before .before .before .before .before .before .before .before .before .before .before .before .before .before .before .before .pre .1) (c .before .before .before .before .before .before .before .before .before .before .before .before .before .before .before .before .ty .ensures .grew (omega arith)) b (c .before .before .before .before .before .before .before .types .ensures .grew (c .before .before .before .if3 .left)) (omega (arith, c .before .before .before .if3 .left)))
     (λ c. search needs)
-    (λ c. types-more (c .before .before .before .before .before .before .before .before .before .before .before .before .before .before .before .before .before .before .before .before .before .before .pre .1) _ (c .before .before .before .before .before .before .before .before .before .before .before .before .before .before .before .before .before .before .ty .ensures) _ (λ e. c .before .before .before .before .before .before .before .before .before .before .before .before .before .before .if1 .left (c .before .before .before .before .before .before .before .before .before .before .before .before .before .before .before .code-at .ensures ∙ e)) (sym (c .before .before .before .before .before .before .before .before .before .before .before .before .before .before .before .code-at .ensures) ∙ c .before .before .before .before .before .before .before .before .before .before .before .before .before .if2 .left) (c .before .before .before .before .before .before .if3 .left) (c .before .before .before .before .before .before .before .before .before .before .types .ensures) (c .before .before .store2 .ensures))
+    (λ c. types-more (c .before .before .before .before .before .before .before .before .before .before .before .before .before .before .before .before .before .before .before .before .before .before .before .pre .1) _ (c .before .before .before .before .before .before .before .before .before .before .before .before .before .before .before .before .before .before .before .ty .ensures) (c .before .before .before .before .before .before .before .before .before .before .before .before .before .before .before .before .past-comma .ensures) _ (λ e. c .before .before .before .before .before .before .before .before .before .before .before .before .before .before .if1 .left (c .before .before .before .before .before .before .before .before .before .before .before .before .before .before .before .code-at .ensures ∙ e)) (sym (c .before .before .before .before .before .before .before .before .before .before .before .before .before .before .before .code-at .ensures) ∙ c .before .before .before .before .before .before .before .before .before .before .before .before .before .if2 .left) (c .before .before .before .before .before .before .if3 .left) (c .before .before .before .before .before .before .before .before .before .before .types .ensures) (c .before .before .store2 .ensures))

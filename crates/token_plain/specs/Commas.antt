@@ -1,0 +1,18 @@
+-- Document 02, Paper 1: "What is written for a plain tree still reads back uniquely; a token list with such commas has the readings of the list without them."
+use mathlib.Core.Path.{_≡_}
+use mathlib.Core.List.{[]}
+use Rattle.tree.specs.Trees.{Tree}
+use Rattle.token_grammar.specs.Tokens.{codesOf}
+use Rattle.token_grammar.specs.Types.{one}
+use Rattle.token_grammar.specs.Expressions.{Expr, write}
+use Rattle.token_grammar.specs.Grammar.{NONE, fits}
+use Rattle.token_grammar.specs.Commas.{withoutCommas, CommasPut}
+use Rattle.token_plain.specs.Reads.{Reads}
+
+-- Two parse trees that differ at most in which of their non-empty lists end in a comma: if the grammar allows one, their token lists have the same readings.
+abbrev pub SameReadings : Type 0
+SameReadings = (d e : Expr one) → fits NONE d → withoutCommas d ≡ withoutCommas e → (t : Tree) → Reads (codesOf (write d [])) t → Reads (codesOf (write e [])) t
+
+-- A parse tree's tokens are those without such commas, with commas put in straight before a `)` or a `>`, and nothing else.
+abbrev pub OnlyCommas : Type 0
+OnlyCommas = (e : Expr one) → CommasPut (codesOf (write (withoutCommas e) [])) (codesOf (write e []))
