@@ -1,7 +1,7 @@
 //! Every reading of a token list, by every way to cut it.
 //!
 //! For each span of the list the chart holds all expressions, types and lists
-//! that the grammar of document 01 gives for just these tokens, each with what
+//! that the grammar of `rules` gives for just these tokens, each with what
 //! the rules for its neighbours ask: how tightly it holds together, and whether
 //! it ends in a type name or in the name behind a dot. An expression of a span is
 //! a shorter one at its start, what may follow that, and whatever the rest can be.
@@ -250,9 +250,11 @@ impl Chart {
             }
         }
         if (first, last) == (OPEN, CLOSE) {
-            for index in self.of(Expression, from + 1, to - 1) {
-                let inner = self.at(Expression, index);
-                self.add_group(start, inner);
+            for end in self.ends_inside(from, to, Change::CommaInGroup) {
+                for index in self.of(Expression, from + 1, end) {
+                    let inner = self.at(Expression, index);
+                    self.add_group(start, inner);
+                }
             }
         }
         for place in 0..self.ends[from][0].len() {
@@ -333,15 +335,35 @@ impl Chart {
                 }
             }
             OPEN_BRACKET if closed(&self.tokens, cut, CLOSE_BRACKET) => {
-                for index in self.of(Expression, cut + 1, to - 1) {
-                    let inner = self.at(Expression, index);
-                    let operands = [Some(left.tree), Some(inner.tree)];
-                    let node = Node { form: forms::INDEX, detail: 0, operands };
-                    self.add(Expression, start, node, TIGHTEST, End::Other);
+                for end in self.ends_inside(cut, to, Change::CommaAfterIndex) {
+                    for index in self.of(Expression, cut + 1, end) {
+                        let inner = self.at(Expression, index);
+                        let operands = [Some(left.tree), Some(inner.tree)];
+                        let node = Node { form: forms::INDEX, detail: 0, operands };
+                        self.add(Expression, start, node, TIGHTEST, End::Other);
+                    }
                 }
             }
             _ => {}
         }
+    }
+
+    /// Where the one expression in a pair ends: before what closes it, and if a change
+    /// says so before a comma there.
+    fn ends_inside(
+        &self,
+        opening: usize,
+        to: usize,
+        change: Change,
+    ) -> impl Iterator<Item = usize> {
+        let comma = self.rules.has(change) && opening + 2 < to && self.tokens[to - 2] == COMMA;
+        std::iter::once(to - 1).chain(comma.then_some(to - 2))
+    }
+
+    /// Whether a list without items is what stands here.
+    fn is_empty(&self, from: usize, to: usize, never: Change) -> bool {
+        let comma = self.rules.has(Change::CommaInEmptyList) && self.tokens[from..to] == [COMMA];
+        from == to && !self.rules.has(never) || comma
     }
 
     /// The calls of an expression with the arguments of a span, which may be empty.
@@ -351,7 +373,7 @@ impl Chart {
             let node = Node { form, detail: 0, operands: [Some(callee.tree), arguments] };
             chart.add(Expression, start, node, TIGHTEST, End::Other);
         };
-        if from == to && !self.rules.has(Change::NoEmptyArguments) {
+        if self.is_empty(from, to, Change::NoEmptyArguments) {
             add(self, None);
         }
         for index in self.of(ExpressionList, from, to) {
@@ -391,7 +413,7 @@ impl Chart {
                 let node = Node { form: forms::TYPE_PATH, detail: 2, operands };
                 chart.add(Type, start, node, TIGHTEST, end);
             };
-            if to - from == 3 && !self.rules.has(Change::NoEmptyTypeArguments) {
+            if self.is_empty(from + 2, to - 1, Change::NoEmptyTypeArguments) {
                 add(self, None);
             }
             for index in self.of(TypeList, from + 2, to - 1) {
@@ -401,7 +423,7 @@ impl Chart {
         }
     }
 
-    /// The lists of a span: an item, or an item, a comma and a list.
+    /// The lists of a span: an item, an item and a comma, or an item, a comma and a list.
     fn lists(
         &mut self,
         class: Class,
@@ -413,6 +435,8 @@ impl Chart {
         let start = starts[list as usize];
         let link =
             |item: Found, next| Node { form: LINK, detail: 0, operands: [Some(item.tree), next] };
+        let comma_after_last = self.rules.comma_after_last(class == Class::Type);
+        let two_commas = self.rules.has(Change::TwoCommasAfterLast);
         for index in starts[class as usize]..self.found[class as usize].len() {
             let item = self.at(class, index);
             self.add(list, start, link(item, None), TIGHTEST, End::Other);
@@ -422,9 +446,14 @@ impl Chart {
             if self.tokens[cut] != COMMA {
                 continue;
             }
+            let is_last = match to - cut {
+                1 => comma_after_last,
+                2 => two_commas && self.tokens[cut + 1] == COMMA,
+                _ => false,
+            };
             for index in self.of(class, from, cut) {
                 let item = self.at(class, index);
-                if cut + 1 == to && self.rules.has(Change::TrailingComma) {
+                if is_last {
                     self.add(list, start, link(item, None), TIGHTEST, End::Other);
                 }
                 for index in self.of(list, cut + 1, to) {
@@ -535,10 +564,45 @@ mod tests {
     }
 
     #[test]
-    fn lists_have_commas_between_items_only() {
-        assert_eq!(forms_of("a ( a , )"), None);
-        assert_eq!(forms_of("a ( , )"), None);
+    fn lists_have_commas_between_items() {
         assert_eq!(forms_of(""), None);
+        assert_eq!(forms_of("a ( )").map(|forms| forms.len()), Some(2));
         assert_eq!(forms_of("a ( a , a )").map(|forms| forms.len()), Some(6));
+        assert_eq!(forms_of("a ( a a )"), None);
+        assert_eq!(forms_of("a ( , a )"), None);
+    }
+
+    #[test]
+    fn one_comma_may_follow_the_last_item() {
+        for (with, without) in [
+            ("a ( a , )", "a ( a )"),
+            ("a ( a , a , )", "a ( a , a )"),
+            ("a . a ( a , )", "a . a ( a )"),
+            ("a as a < a , >", "a as a < a >"),
+            ("a as a < a , a , > < a", "a as a < a , a > < a"),
+            ("a ( a ( a , ) , ) ( - a , )", "a ( a ( a ) ) ( - a )"),
+        ] {
+            assert!(forms_of(with).is_some(), "{with}");
+            assert_eq!(forms_of(with), forms_of(without));
+        }
+    }
+
+    #[test]
+    fn no_other_comma_follows_anything() {
+        for text in [
+            "a ( , )",
+            "a ( a , , )",
+            "( a , )",
+            "a [ a , ]",
+            "a as a < , >",
+            "a . a ( , )",
+            "a as a < a , , >",
+            "a as a < a > ,",
+            "a ,",
+            "a ( a ) ,",
+            "( a ( a ) , )",
+        ] {
+            assert_eq!(forms_of(text), None, "{text}");
+        }
     }
 }

@@ -1,5 +1,5 @@
-//! Document 01 in Rust, stated without the library: what tests and tools hold the
-//! library against, and what they make trees with.
+//! Document 01 in Rust, as document 02's requests change it, stated without the library:
+//! what tests and tools hold the library against, and what they make trees with.
 //!
 //! Nothing here links the library or asks it anything, and nothing here comes from
 //! prettyplease's files.
@@ -8,13 +8,15 @@
 //!   `tezhukor` takes them from here.
 //! - [`table`] and [`accept`] are node tables, tree files and their refusals.
 //! - [`rules`], [`chart`] and [`verdict`] are the plain grammar: all readings of a
-//!   token list, found by cutting it. [`written`] says what is written for a tree.
+//!   token list, found by cutting it. [`written`] says what is written for a tree, and
+//!   [`commas`] where commas stand that may follow a last item.
 //! - [`generate`] makes accepted trees, [`recorded`] reads recorded answers, and
 //!   [`lent`] makes buffers that show what was written to them.
 
 pub mod accept;
 pub mod chart;
 pub mod codes;
+pub mod commas;
 pub mod forms;
 pub mod generate;
 pub mod lent;

@@ -1,5 +1,5 @@
-//! The levels of document 01's grammar and its special rules, each of which can
-//! be changed to see who notices.
+//! The levels of document 01's grammar and its special rules, with the comma after the
+//! last item that document 02's Paper 1 adds; each rule can be changed to see who notices.
 
 use crate::codes::*;
 use crate::forms;
@@ -54,8 +54,21 @@ pub enum Change {
     FieldIsCalled,
     /// A numbered member is not called.
     NumberedIsNotCalled,
-    /// A comma may follow the last item.
-    TrailingComma,
+    /// No comma follows the last item of a list: document 01's rule, 'commas between
+    /// items only'.
+    CommasBetweenOnly,
+    /// No comma follows the last argument.
+    NoCommaAfterLastArgument,
+    /// No comma follows the last type.
+    NoCommaAfterLastType,
+    /// Two commas may follow the last item.
+    TwoCommasAfterLast,
+    /// A comma may stand in a list without items.
+    CommaInEmptyList,
+    /// A comma may stand before the end of parentheses that group.
+    CommaInGroup,
+    /// A comma may follow an index.
+    CommaAfterIndex,
     /// Argument lists are not empty.
     NoEmptyArguments,
     /// Type lists are not empty.
@@ -76,7 +89,13 @@ impl Change {
             Change::NoLessAfterTypeArguments,
             Change::FieldIsCalled,
             Change::NumberedIsNotCalled,
-            Change::TrailingComma,
+            Change::CommasBetweenOnly,
+            Change::NoCommaAfterLastArgument,
+            Change::NoCommaAfterLastType,
+            Change::TwoCommasAfterLast,
+            Change::CommaInEmptyList,
+            Change::CommaInGroup,
+            Change::CommaAfterIndex,
             Change::NoEmptyArguments,
             Change::NoEmptyTypeArguments,
             Change::AndIsTwoReferences,
@@ -86,9 +105,14 @@ impl Change {
         let leaning = (ASSIGNMENT..=PRODUCT).map(Change::LeansOtherwise);
         tightened.chain(leaning).chain(single)
     }
+
+    /// The change with that name, as `{:?}` prints it.
+    pub fn named(name: &str) -> Option<Change> {
+        Change::all().find(|change| format!("{change:?}") == name)
+    }
 }
 
-/// Document 01's rules, or these with one changed.
+/// The rules, or these with one changed.
 #[derive(Copy, Clone, Debug)]
 pub struct Rules {
     change: Option<Change>,
@@ -142,6 +166,15 @@ impl Rules {
         let (form, detail) =
             if code == EQUALS { (forms::ASSIGN, 0) } else { (forms::BINARY, code) };
         Some(Infix { form, detail, level, left, right })
+    }
+
+    /// Whether a comma may follow the last item of a list of types, or of arguments.
+    pub fn comma_after_last(&self, of_types: bool) -> bool {
+        let list = match of_types {
+            true => Change::NoCommaAfterLastType,
+            false => Change::NoCommaAfterLastArgument,
+        };
+        !self.has(Change::CommasBetweenOnly) && !self.has(list)
     }
 
     /// Whether a code straight after a type name is no operator.

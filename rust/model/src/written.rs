@@ -16,8 +16,14 @@ pub struct Written {
 impl Written {
     /// Writes an accepted plain tree, of whose nodes those have an outer pair.
     pub fn new(tree: &NodeTable, has_pair: &[bool]) -> Written {
+        Written::with_commas(tree, has_pair, &[])
+    }
+
+    /// The same with a comma after the last item of each list whose last link is one of
+    /// those: never written, and read alike.
+    pub fn with_commas(tree: &NodeTable, has_pair: &[bool], has_comma: &[u16]) -> Written {
         let out = Written { tokens: Vec::new(), pairs: Vec::new() };
-        let mut writer = Writer { cells: &tree.cells, has_pair, out };
+        let mut writer = Writer { cells: &tree.cells, has_pair, has_comma, out };
         writer.node(1);
         writer.out
     }
@@ -29,9 +35,19 @@ impl Written {
     }
 }
 
+/// The last link of each list.
+pub fn last_links(tree: &NodeTable) -> Vec<u16> {
+    let is_last = |&number: &u16| {
+        let node = table::node(&tree.cells, number);
+        node.form == LINK && node.operands[1] == 0
+    };
+    (1..=tree.count).filter(is_last).collect()
+}
+
 struct Writer<'a> {
     cells: &'a [u16],
     has_pair: &'a [bool],
+    has_comma: &'a [u16],
     out: Written,
 }
 
@@ -50,6 +66,9 @@ impl Writer<'_> {
         self.out.tokens.extend(between);
         self.node(node.operands[1]);
         self.out.tokens.extend(behind);
+        if self.has_comma.contains(&number) {
+            self.out.tokens.push(COMMA);
+        }
         if has_pair {
             self.out.pairs.push([start, self.out.tokens.len()]);
             self.out.tokens.push(CLOSE);
