@@ -30,6 +30,8 @@ fn noticed(change: Change) -> (u64, u64) {
     for index in 0..20_000 {
         chart.read(&makers::random(&mut Dice::new(1, index), 1, 40));
         list(&chart, &mut changed);
+        chart.read(&makers::with_commas(&mut Dice::new(2, index), 2, 40));
+        list(&chart, &mut changed);
     }
     (tally.different, different)
 }

@@ -5,7 +5,7 @@ use crate::ours::Ours;
 use model::chart::Chart;
 use model::codes::{text, CODES};
 use model::generate::Dice;
-use model::rules::Rules;
+use model::rules::{Change, Rules};
 use model::sizes::{MOST_CELLS, NODE_CELLS};
 use model::table::numbers;
 use model::verdict::{self, Verdict};
@@ -70,12 +70,30 @@ impl Tally {
         }
     }
 
+    /// A list whose verdict is known from how it is put together.
+    pub fn constructed(
+        &mut self,
+        chart: &mut Chart,
+        ours: &mut Ours,
+        tokens: &[u16],
+        known: Verdict,
+    ) {
+        // The chart grows with the square of the length.
+        if tokens.len() <= 1_000 {
+            let found = verdict::of(chart, tokens);
+            if found.as_ref() != Ok(&known) {
+                self.differs(&format!("{found:?}, not {known:?}"), tokens);
+            }
+        }
+        self.list(ours, tokens, Ok(known));
+    }
+
     fn digested(&mut self, number: u16) {
         self.digest = (self.digest ^ u64::from(number)).wrapping_mul(0x0000_0100_0000_01B3);
         self.digest ^= self.digest >> 29;
     }
 
-    fn differs(&mut self, what: &str, tokens: &[u16]) {
+    pub fn differs(&mut self, what: &str, tokens: &[u16]) {
         self.different += 1;
         let mut spelled = text(tokens);
         spelled.truncate(200);
@@ -84,7 +102,7 @@ impl Tally {
         self.shown.truncate(3);
     }
 
-    fn print(&self, name: &str, start: Instant) {
+    pub fn print(&self, name: &str, start: Instant) {
         println!(
             "{name}: lists {}, longest {}, read {}, by 14, 15, 16: {}, {}, {}; different {}, digest \
              {:016x}, {} s",
@@ -133,8 +151,14 @@ pub fn sets(smaller: usize) -> Vec<(String, Vec<u16>, usize)> {
 
 /// All lists of few tokens, random ones, and constructed ones. Gives how many
 /// differ.
-pub fn compare(ours: &mut Ours, smaller: usize, lists: u64, seed: u64) -> u64 {
-    let mut chart = Chart::new(Rules::new(None));
+pub fn compare(
+    ours: &mut Ours,
+    smaller: usize,
+    lists: u64,
+    seed: u64,
+    change: Option<Change>,
+) -> u64 {
+    let mut chart = Chart::new(Rules::new(change));
     let mut different = 0;
     for (name, codes, most) in sets(smaller) {
         let (mut tally, start) = (Tally::default(), Instant::now());
@@ -155,12 +179,7 @@ pub fn compare(ours: &mut Ours, smaller: usize, lists: u64, seed: u64) -> u64 {
     }
     let (mut tally, start) = (Tally::default(), Instant::now());
     for (tokens, known) in makers::constructed(seed) {
-        // The chart grows with the square of the length.
-        if tokens.len() <= 1_000 {
-            let found = verdict::of(&mut chart, &tokens);
-            assert!(found.as_ref() == Ok(&known), "{}: {found:?}, not {known:?}", text(&tokens));
-        }
-        tally.list(ours, &tokens, Ok(known));
+        tally.constructed(&mut chart, ours, &tokens, known);
     }
     tally.print("constructed", start);
     different + tally.different + short_tables(ours) + damaged_numbers(ours, seed)

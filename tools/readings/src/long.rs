@@ -32,6 +32,13 @@ fn lists() -> Vec<(&'static str, Vec<u16>)> {
             list.extend([NAME, CLOSE]);
             list
         }),
+        ("one call with many items and a comma", {
+            let mut list = vec![NAME, OPEN];
+            list.extend([NAME, COMMA].repeat(MOST_TOKENS / 2 - 2));
+            list.push(CLOSE);
+            list
+        }),
+        ("nested calls with commas", nest(&[NAME, OPEN], &[NAME], &[COMMA, CLOSE])),
         ("nested calls", nest(&[NAME, OPEN], &[NAME], &[CLOSE])),
         ("nested indexes", nest(&[NAME, OPEN_BRACKET], &[NAME], &[CLOSE_BRACKET])),
         ("nested method calls", nest(&[NAME, DOT, NAME, OPEN], &[NAME], &[CLOSE])),
@@ -40,6 +47,12 @@ fn lists() -> Vec<(&'static str, Vec<u16>)> {
             let mut list = vec![NAME, AS];
             list.extend([STAR_CONST].repeat(MOST_TOKENS - 3));
             list.push(NAME);
+            list
+        }),
+        ("nested type arguments with commas", {
+            let mut list = nest(&[NAME, LESS], &[NAME], &[COMMA, GREATER]);
+            list.splice(..4, [NAME, AS]);
+            list.truncate(list.len() - 4);
             list
         }),
         ("nested type arguments", {

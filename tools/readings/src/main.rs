@@ -2,6 +2,7 @@
 
 mod ast;
 mod changes;
+mod commas;
 mod lists;
 mod long;
 mod makers;
@@ -12,18 +13,22 @@ mod rustc;
 mod trees;
 mod written;
 
+use model::rules::Change;
 use ours::Ours;
 use std::process::ExitCode;
 
 const USAGE: &str = "usage:
   readings trees [OURS [SEED]]   what is written for plain trees, beside its readings
-  readings lists [OURS [SEED]]   token lists and their verdicts
+  readings lists [OURS [SEED [CHANGE]]]    token lists and their verdicts
+  readings commas [OURS [SEED [CHANGE]]]   lists with commas before what closes something
   readings long library [NAME]   the longest lists: our reader's answer, time and stack
   readings rustc TREES PAIRS [SEED]   rustc beside the readings, so many random trees and pairs
+  readings commas rustc TREES PAIRS [SEED]   the part of it with such commas
   readings changes               each rule changed: how many trees and lists tell
   readings record                writes crates/recorded/data/readings and tokens
 OURS: absent, programs (target/bin/tokens and target/bin/reading), or with the feature library
-      library (the static library of answers)";
+      library (the static library of answers)
+CHANGE: a rule that is changed, by its name in rust/model/src/rules.rs";
 
 fn main() -> ExitCode {
     oracle::command::run(USAGE, run)
@@ -41,18 +46,33 @@ fn run(arguments: &[&str]) -> Option<u64> {
         ["long", library, name] => long::one(&mut Ours::named(library)?, name),
         ["rustc", trees, pairs, rest @ ..] => {
             let seed = rest.first().map_or(Some(1), number)?;
-            Some(rustc::compare(number(trees)?, number(pairs)?, seed))
+            let (trees, pairs) = (number(trees)?, number(pairs)?);
+            Some(rustc::compare(trees, pairs, seed) + rustc::commas(trees, pairs, seed))
+        }
+        ["commas", "rustc", trees, pairs, rest @ ..] => {
+            let seed = rest.first().map_or(Some(1), number)?;
+            Some(rustc::commas(number(trees)?, number(pairs)?, seed))
         }
         [what, rest @ ..] => {
             let mut ours = Ours::named(rest.first().unwrap_or(&"absent"))?;
             let seed = rest.get(1).map_or(Some(1), number)?;
+            let change = match rest.get(2) {
+                Some(name) => Some(Change::named(name)?),
+                None => None,
+            };
             let shorter = ours.shorter();
             // A program takes a thousand times as long as a function.
             match (*what, ours.is_slow()) {
                 ("trees", false) => Some(trees::compare(&mut ours, 0, 100_000, seed)),
                 ("trees", true) => Some(trees::compare(&mut ours, 2, 2_000, seed)),
-                ("lists", false) => Some(lists::compare(&mut ours, shorter, 1_000_000, seed)),
-                ("lists", true) => Some(lists::compare(&mut ours, shorter, 20_000, seed)),
+                ("lists", false) => {
+                    Some(lists::compare(&mut ours, shorter, 1_000_000, seed, change))
+                }
+                ("lists", true) => Some(lists::compare(&mut ours, shorter, 20_000, seed, change)),
+                ("commas", false) => {
+                    Some(commas::compare(&mut ours, shorter, 400_000, seed, change))
+                }
+                ("commas", true) => Some(commas::compare(&mut ours, shorter, 8_000, seed, change)),
                 _ => None,
             }
         }

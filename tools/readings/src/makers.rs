@@ -4,13 +4,14 @@
 use crate::plain;
 use crate::written::written;
 use model::codes::*;
+use model::commas;
 use model::forms;
 use model::generate::{Dice, Family};
 use model::sizes::{MOST_LEVELS, MOST_NODES, MOST_TOKENS, NODE_CELLS};
 use model::table::NodeTable;
 use model::table::{ATTRIBUTES, DETAIL, FIRST, FORM, SECOND};
 use model::verdict::{within_bounds, Verdict};
-use model::written::without_parens;
+use model::written::{last_links, without_parens};
 
 /// A list with up to about so many tokens.
 pub fn random(dice: &mut Dice, seed: u64, most_tokens: usize) -> Vec<u16> {
@@ -19,6 +20,22 @@ pub fn random(dice: &mut Dice, seed: u64, most_tokens: usize) -> Vec<u16> {
         3 => walked(dice, most_tokens),
         _ => (0..dice.between(1, 12)).map(|_| dice.below(CODES.into()) as u16).collect(),
     }
+}
+
+/// The same with commas put in, half of them in what is written for a plain tree that has
+/// lists.
+pub fn with_commas(dice: &mut Dice, seed: u64, most_tokens: usize) -> Vec<u16> {
+    let mut tokens = match dice.percent(50) {
+        true => loop {
+            let tree = drawn(dice, seed, most_tokens);
+            if !last_links(&tree).is_empty() {
+                break written(&tree).tokens;
+            }
+        },
+        false => random(dice, seed, most_tokens),
+    };
+    commas::put_in(dice, &mut tokens);
+    tokens
 }
 
 /// What is written for a plain tree, with up to three edits.
@@ -478,5 +495,114 @@ pub fn constructed(seed: u64) -> Vec<Constructed> {
         lists.push((vec![CLOSE, code], Err(14)));
     }
     lists.push((Vec::new(), Err(15)));
+    lists
+}
+
+/// A list whose last token closes a list of items, with so many commas before it. One
+/// leaves the verdict as it is, but for a list that is too long then.
+pub fn with_last_comma((mut tokens, verdict): Constructed, commas: usize) -> Constructed {
+    let last = tokens.len() - 1;
+    tokens.splice(last..last, vec![COMMA; commas]);
+    let verdict = match commas {
+        _ if tokens.len() > MOST_TOKENS => Err(14),
+        0 | 1 => verdict,
+        _ => Err(15),
+    };
+    (tokens, verdict)
+}
+
+/// Nests of lists of one item, each with a comma after it.
+const COMMA_NESTS: [Nest; 3] = [
+    Nest {
+        before: &[],
+        behind: &[OPEN, NAME, COMMA, CLOSE],
+        node: (forms::CALL, 0),
+        other: Some((1, &LINK_TO_PATH)),
+    },
+    Nest {
+        before: &[],
+        behind: &[DOT, NAME, OPEN, NAME, COMMA, CLOSE],
+        node: (forms::METHOD_CALL, 0),
+        other: Some((1, &LINK_TO_PATH)),
+    },
+    Nest {
+        before: &[],
+        behind: &[OPEN_BRACKET, NAME, OPEN, NAME, COMMA, CLOSE, CLOSE_BRACKET],
+        node: (forms::INDEX, 0),
+        other: Some((1, &CALL_OF_PATH)),
+    },
+];
+
+const CALL_OF_PATH: [u16; 20] = [
+    forms::CALL,
+    0,
+    0,
+    2,
+    3,
+    forms::PATH,
+    0,
+    0,
+    0,
+    0,
+    forms::LINK,
+    0,
+    0,
+    4,
+    0,
+    forms::PATH,
+    0,
+    0,
+    0,
+    0,
+];
+
+/// A name called with a name in so many parentheses, and a comma behind it or not.
+pub fn called_with_grouped(pairs: usize, commas: usize) -> Constructed {
+    let mut tokens = vec![NAME, OPEN];
+    tokens.extend(grouped(pairs, &[NAME]).0);
+    tokens.push(CLOSE);
+    with_last_comma((tokens, within_bounds(CALL_OF_PATH.to_vec())), commas)
+}
+
+/// A list with a `?` behind it.
+pub fn tried((mut tokens, verdict): Constructed) -> Constructed {
+    tokens.push(QUESTION);
+    let verdict = match verdict {
+        _ if tokens.len() > MOST_TOKENS => Err(14),
+        Ok(table) => within_bounds(above(&table, (forms::TRY, 0), None)),
+        refused => refused,
+    };
+    (tokens, verdict)
+}
+
+/// Lists with commas after last items at the bounds of 14 and 16: paths, nodes and tokens;
+/// the same with two commas, or none.
+pub fn constructed_with_commas(seed: u64) -> Vec<Constructed> {
+    let mut lists = Vec::new();
+    for path in [2, MOST_LEVELS - 1, MOST_LEVELS, MOST_LEVELS + 1, 600] {
+        lists.extend(COMMA_NESTS.iter().map(|nest| nest.of(path)));
+    }
+    for path in [3, MOST_LEVELS - 1, MOST_LEVELS, MOST_LEVELS + 1, 600] {
+        // The type arguments of each level end in `>`, and so does what stands in them.
+        let (tokens, verdict) = type_nest(path, true);
+        let comma = |code: u16| (code == GREATER).then_some(COMMA);
+        let tokens = tokens.iter().flat_map(|&code| [comma(code), Some(code)]).flatten().collect();
+        lists.push((tokens, verdict));
+    }
+    for commas in 0..3 {
+        for nodes in MOST_NODES - 2..=MOST_NODES + 2 {
+            lists.push(with_last_comma(type_arguments(nodes), commas));
+            for index in 0..3 {
+                let tree =
+                    drawn(&mut Dice::new(seed, index), seed, [40, 400, 4_000][index as usize]);
+                lists.extend(called(&tree, nodes).map(|list| with_last_comma(list, commas)));
+            }
+        }
+        // Four tokens are the call's.
+        for pairs in [0, 1, 127, 128, 4_096, MOST_PAIRS - 3, MOST_PAIRS - 2, MOST_PAIRS - 1] {
+            lists.push(called_with_grouped(pairs, commas));
+            lists.push(tried(called_with_grouped(pairs, commas)));
+        }
+    }
     lists
 }

@@ -15,13 +15,15 @@
 //! bytes of a tree file, and when not refused so many tokens as the count says, each
 //! a cell of u16.
 
+use crate::commas::{self, Charts};
 use crate::lists;
 use crate::makers;
 use crate::plain::PlainTrees;
 use crate::trees;
 use crate::written;
 use model::chart::Chart;
-use model::codes::{CODES, MINUS, NAME};
+use model::codes::*;
+use model::commas::before_closing;
 use model::forms::operator::ADD;
 use model::generate::{Dice, Family};
 use model::rules::Rules;
@@ -89,13 +91,95 @@ fn add_tree(records: &mut Records, lent: u16, tree: &NodeTable) {
     records.add(lent, &table::write(tree), &reply, TOKEN_CELLS);
 }
 
+/// Commas before what closes something that follow a last item, and that do not: the lists
+/// of the papers.
+const COMMA_LISTS: [&[u16]; 16] = [
+    &[NAME, OPEN, NAME, COMMA, CLOSE],
+    &[NAME, OPEN, NAME, COMMA, NAME, COMMA, CLOSE],
+    &[NAME, DOT, NAME, OPEN, NAME, COMMA, CLOSE],
+    &[NAME, AS, NAME, LESS, NAME, COMMA, GREATER],
+    &[NAME, AS, NAME, LESS, NAME, COMMA, UNDERSCORE, COMMA, GREATER, LESS, NAME],
+    &[NAME, OPEN, NAME, OPEN, LITERAL, COMMA, CLOSE, COMMA, CLOSE, OPEN, NAME, COMMA, CLOSE],
+    &[NAME, OPEN, COMMA, CLOSE],
+    &[NAME, OPEN, NAME, COMMA, COMMA, CLOSE],
+    &[OPEN, NAME, COMMA, CLOSE],
+    &[NAME, OPEN_BRACKET, NAME, COMMA, CLOSE_BRACKET],
+    &[NAME, AS, NAME, LESS, COMMA, GREATER],
+    &[NAME, DOT, NAME, OPEN, COMMA, CLOSE],
+    &[NAME, AS, NAME, LESS, NAME, COMMA, COMMA, GREATER],
+    &[NAME, OPEN, OPEN, NAME, COMMA, CLOSE, COMMA, CLOSE],
+    &[NAME, OPEN, NAME, CLOSE, COMMA],
+    &[NAME, OPEN, NAME, COMMA, GREATER, NAME, CLOSE],
+];
+
+/// Records lists with such commas: those above; of all short ones those that have a
+/// reading, and each fifth that has one without its commas alone; plain trees with commas
+/// after last items; random ones of both kinds; and ones at the bounds of 14 and 16.
+fn add_commas(records: &mut Records) {
+    let mut charts = Charts::new(None);
+    let [mut read, mut nearly] = [0, 0];
+    let mut add = |charts: &Charts| {
+        let verdict = verdict::verdict(&charts.chart).expect("at most one reading");
+        let counter = if charts.is_read() { &mut read } else { &mut nearly };
+        *counter += 1;
+        add_list(records, LENT, charts.chart.tokens(), &verdict);
+    };
+    for list in COMMA_LISTS {
+        charts.read(list);
+        add(&charts);
+    }
+    charts.read(&[]);
+    let mut passed = 0;
+    for (_, codes, most) in lists::sets(1).into_iter().skip(1) {
+        let most = most + commas::LONGER;
+        commas::each_list(&mut charts, &codes, most, false, &mut |charts| {
+            passed += usize::from(charts.is_nearly_read());
+            if charts.is_read() || charts.is_nearly_read() && passed % 5 == 0 {
+                add(charts);
+            }
+        });
+    }
+    trees::random(SEED, 40, 40, |tree| {
+        commas::each_choice(tree, 2, |tokens| {
+            charts.read(&tokens);
+            add(&charts);
+        });
+    });
+    for index in 0..1_000 {
+        charts.read(&makers::with_commas(&mut Dice::new(SEED, index), SEED, 40));
+        let has_commas = !before_closing(charts.chart.tokens()).is_empty();
+        if has_commas && (charts.is_read() || charts.is_nearly_read()) {
+            add(&charts);
+        }
+    }
+    eprintln!("with commas: read {read}, without a reading {nearly}");
+    for (tokens, verdict) in makers::constructed_with_commas(SEED) {
+        if tokens.len() <= 700 {
+            add_list(records, LENT, &tokens, &verdict);
+        }
+    }
+    for (nodes, count) in [(MOST_NODES, 1), (MOST_NODES, 2), (MOST_NODES + 1, 1)] {
+        let list = makers::with_last_comma(makers::type_arguments(nodes), count);
+        add_list(records, LENT, &list.0, &list.1);
+    }
+    // As many tokens as there may be, and one more, which is the comma.
+    let [most, more] = [2, 1].map(|less| makers::MOST_PAIRS - less);
+    for (tokens, verdict) in
+        [makers::tried(makers::called_with_grouped(most, 1)), makers::called_with_grouped(more, 1)]
+    {
+        assert_eq!(tokens.len(), MOST_TOKENS + usize::from(verdict == Err(14)));
+        add_list(records, LENT, &tokens, &verdict);
+    }
+}
+
 pub fn record() {
     readings().write("readings");
     tokens().write("tokens");
 }
 
 /// All lists of up to 2 tokens; of those of up to 5 some that have a reading, and
-/// some that lack one and begin like one; random lists; and constructed ones.
+/// some that lack one and begin like one; random lists; constructed ones; and lists with
+/// commas before what closes something.
 fn readings() -> Records {
     let mut records = Records::default();
     let mut chart = Chart::new(Rules::new(None));
@@ -147,6 +231,7 @@ fn readings() -> Records {
             add_list(&mut records, lent, list, &verdict);
         }
     }
+    add_commas(&mut records);
     records
 }
 

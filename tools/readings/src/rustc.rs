@@ -2,11 +2,13 @@
 //! an added pair is left out.
 
 use crate::ast;
+use crate::commas::{self, Charts};
+use crate::lists;
 use crate::makers;
 use crate::trees;
 use crate::written::written;
 use model::chart::Chart;
-use model::codes::{self, text, CLOSE, COMMA, DOT, GREATER, LITERAL, MEMBER, OPEN};
+use model::codes::{self, text, CLOSE, DOT, LITERAL, MEMBER, OPEN};
 use model::generate::Dice;
 use model::rules::Rules;
 use model::table::NodeTable;
@@ -227,28 +229,73 @@ pub fn compare(trees: u64, pairs: u64, seed: u64) -> u64 {
     different += others.print("left-out pairs, read as another tree", start);
     different += errors.print("left-out pairs, without a reading", start);
 
+    let make = |index| makers::random(&mut Dice::new(seed + 2, index), seed + 2, 40);
+    different + random(&mut chart, "random lists", (0..trees).map(make), pairs / 2)
+}
+
+/// Lists that have a reading; and, one at a time, so many of those that have none.
+fn random(chart: &mut Chart, name: &str, lists: impl Iterator<Item = Vec<u16>>, most: u64) -> u64 {
     let (mut judged, mut errors, start) = (Judged::new(), Judged::new(), Instant::now());
-    for index in 0..trees {
-        let tokens = makers::random(&mut Dice::new(seed + 2, index), seed + 2, 40);
-        match verdict::of(&mut chart, &tokens) {
+    for tokens in lists {
+        match verdict::of(chart, &tokens) {
             Ok(Ok(table)) => judged.list(tokens, table),
-            Ok(Err(15)) if errors.judge.runs < pairs / 2 && is_as_spelled(&tokens) => {
+            Ok(Err(15)) if errors.judge.runs < most && is_as_spelled(&tokens) => {
                 errors.error(&tokens);
             }
             _ => {}
         }
     }
-    different += judged.print("random lists that have a reading", start);
-    different + errors.print("random lists without a reading", start)
+    let different = judged.print(&format!("{name} that have a reading"), start);
+    different + errors.print(&format!("{name} without a reading"), start)
+}
+
+/// Commas before what closes something: plain trees with commas after last items, each
+/// choice of lists in turn; all short lists that have a reading with their commas, and one
+/// at a time those that have one without their commas alone; random lists. Gives how many
+/// differ.
+pub fn commas(trees: u64, pairs: u64, seed: u64) -> u64 {
+    let mut different = 0;
+    let each = |judged: &mut Judged, tree: &NodeTable| {
+        let meant = without_parens(tree);
+        commas::each_choice(tree, 3, |tokens| judged.list(tokens, meant.clone()));
+    };
+    for set in trees::sets(1) {
+        let (mut judged, start) = (Judged::new(), Instant::now());
+        set.each(|tree| each(&mut judged, tree));
+        let name = format!("trees with commas, {} up to {} nodes", set.name, set.most_nodes);
+        different += judged.print(&name, start);
+    }
+    let (mut judged, start) = (Judged::new(), Instant::now());
+    trees::random(seed, trees / 4, 40, |tree| each(&mut judged, tree));
+    different += judged.print("trees with commas, random up to 40 tokens", start);
+
+    let (mut judged, mut errors, start) = (Judged::new(), Judged::new(), Instant::now());
+    let mut charts = Charts::new(None);
+    for (_, codes, most) in lists::sets(2) {
+        let most = most + commas::LONGER;
+        commas::each_list(&mut charts, &codes, most, false, &mut |charts| {
+            let tokens = charts.chart.tokens();
+            if charts.is_read() {
+                judged.list(tokens.to_vec(), charts.chart.readings().swap_remove(0));
+            } else if charts.is_nearly_read() && is_as_spelled(tokens) {
+                errors.error(tokens);
+            }
+        });
+    }
+    different += judged.print("short lists with such a comma that have a reading", start);
+    different += errors.print("short lists that have one without their commas alone", start);
+
+    let make = |index| makers::with_commas(&mut Dice::new(seed + 3, index), seed + 3, 40);
+    let lists = (0..trees).map(make);
+    different + random(&mut charts.chart, "random lists with commas put in", lists, pairs / 2)
 }
 
 /// Whether a list means to rustc what it means here: `&&` before an operand is two
-/// references to it, `>>`, `>=` and `>>=` may close type arguments, a comma may
-/// follow the last item, and a numbered member is a literal too.
+/// references to it, `>>`, `>=` and `>>=` may close type arguments, and a numbered member
+/// is a literal too.
 fn is_as_spelled(tokens: &[u16]) -> bool {
     let otherwise = |code: &u16| matches!(code, 5 | 11 | 16 | 27);
     let apart = |window: &[u16]| match window {
-        [COMMA, next] => matches!(*next, CLOSE | GREATER),
         [before, MEMBER] => *before != DOT,
         [before, LITERAL] => *before == DOT,
         _ => false,

@@ -7,6 +7,7 @@ use crate::plain::{self, PlainTrees};
 use crate::written::{self, written};
 use model::chart::Chart;
 use model::codes::text;
+use model::commas;
 use model::generate::Dice;
 use model::rules::Rules;
 use model::sizes::{MOST_CELLS, MOST_FILE_BYTES, TOKENS_PER_NODE};
@@ -47,6 +48,9 @@ impl Tally {
         self.trees += 1;
         self.tokens += tokens.len() as u64;
         self.longest = self.longest.max(tokens.len());
+        if !commas::before_closing(tokens).is_empty() {
+            self.differs("a comma after a last item", tokens);
+        }
         chart.read(tokens);
         match &chart.readings()[..] {
             [] => self.differs("no reading", tokens),

@@ -19,6 +19,11 @@ pub fn written(tree: &NodeTable) -> Written {
     Written::new(tree, &pairs(tree))
 }
 
+/// Its tokens with a comma after the last item of the lists with these last links.
+pub fn with_commas(tree: &NodeTable, has_comma: &[u16]) -> Vec<u16> {
+    Written::with_commas(tree, &pairs(tree), has_comma).tokens
+}
+
 /// The tokens that must be written for any node table with so many cells lent, or
 /// the refusal.
 pub fn reply(tree: &NodeTable, lent: usize) -> Result<Vec<u16>, u16> {

@@ -1,0 +1,231 @@
+//! Commas straight before what closes something: the readings of a list with such commas
+//! beside those of document 01's rule, commas between items only, and our reader beside
+//! them.
+//!
+//! A list with an item put behind each of its commas says by that rule whether all of them
+//! follow a last item; if so, the list has the readings of the list without these commas,
+//! and otherwise none.
+
+use crate::lists::{self, Tally};
+use crate::makers;
+use crate::ours::Ours;
+use crate::trees;
+use crate::written::with_commas;
+use model::chart::Chart;
+use model::codes::COMMA;
+use model::commas::{closes, item_before};
+use model::generate::Dice;
+use model::rules::{Change, Rules};
+use model::table::NodeTable;
+use model::verdict;
+use model::written::{last_links, without_parens};
+use std::time::Instant;
+
+/// The sets of [`lists::sets`] with a token more, of which only lists are gone through
+/// that hold such a comma.
+pub const LONGER: usize = 1;
+
+/// A list by three charts.
+pub struct Charts {
+    pub chart: Chart,
+    /// By document 01's rule, with an item behind each such comma.
+    with_items: Chart,
+    /// By document 01's rule, without these commas.
+    without: Chart,
+}
+
+impl Charts {
+    pub fn new(change: Option<Change>) -> Charts {
+        let [with_items, without] =
+            [(); 2].map(|()| Chart::new(Rules::new(Some(Change::CommasBetweenOnly))));
+        Charts { chart: Chart::new(Rules::new(change)), with_items, without }
+    }
+
+    fn last(&self) -> Option<u16> {
+        self.chart.tokens().last().copied()
+    }
+
+    pub fn push(&mut self, code: u16) {
+        if self.last() == Some(COMMA) && closes(code) {
+            self.with_items.push(item_before(code));
+            self.without.pop();
+        }
+        self.chart.push(code);
+        self.with_items.push(code);
+        self.without.push(code);
+    }
+
+    pub fn pop(&mut self) {
+        let code = self.last().expect("a token");
+        self.chart.pop();
+        self.with_items.pop();
+        self.without.pop();
+        if self.last() == Some(COMMA) && closes(code) {
+            self.with_items.pop();
+            self.without.push(COMMA);
+        }
+    }
+
+    pub fn read(&mut self, tokens: &[u16]) {
+        while self.last().is_some() {
+            self.pop();
+        }
+        tokens.iter().for_each(|&code| self.push(code));
+    }
+
+    /// Whether the readings are those that document 01's rule gives.
+    fn agree(&self) -> bool {
+        match self.with_items.is_unread() {
+            true => self.chart.is_unread(),
+            false => !self.without.is_unread() && self.chart.readings() == self.without.readings(),
+        }
+    }
+
+    /// Whether the list has a reading.
+    pub fn is_read(&self) -> bool {
+        !self.chart.is_unread()
+    }
+
+    /// Whether the list has a reading without its commas alone.
+    pub fn is_nearly_read(&self) -> bool {
+        !self.is_read() && !self.without.is_unread()
+    }
+}
+
+/// What came of a set of lists.
+#[derive(Default)]
+struct Held {
+    tally: Tally,
+    /// Lists that have a reading without their commas alone.
+    nearly: u64,
+    /// Lists whose readings are not those that document 01's rule gives.
+    unlike: u64,
+}
+
+impl Held {
+    fn list(&mut self, charts: &Charts, ours: &mut Ours) {
+        self.nearly += u64::from(charts.is_nearly_read());
+        let tokens = charts.chart.tokens();
+        if !charts.agree() {
+            self.unlike += 1;
+            self.tally.differs("not as with an item behind each comma", tokens);
+        }
+        self.tally.list(ours, tokens, verdict::verdict(&charts.chart));
+    }
+
+    /// Prints the set and gives how many differ.
+    fn print(&self, name: &str, start: Instant) -> u64 {
+        self.tally.print(name, start);
+        println!("  read without their commas alone {}, unlike {}", self.nearly, self.unlike);
+        self.tally.different
+    }
+}
+
+/// All lists of up to so many tokens over some codes that hold a comma straight before what
+/// closes something, or `held` ones that begin with such a list.
+pub fn each_list(
+    charts: &mut Charts,
+    codes: &[u16],
+    length: usize,
+    held: bool,
+    visit: &mut impl FnMut(&Charts),
+) {
+    if held {
+        visit(charts);
+    }
+    for &code in codes {
+        let held = held || charts.last() == Some(COMMA) && closes(code);
+        // How many tokens more there must be.
+        let wanted = if held { 0 } else { 2 - usize::from(code == COMMA) };
+        if length > wanted {
+            charts.push(code);
+            each_list(charts, codes, length - 1, held, visit);
+            charts.pop();
+        }
+    }
+}
+
+/// Every choice of lists, up to so many lists; each of them is given by its last link.
+fn choices(links: &[u16], most: usize) -> impl Iterator<Item = Vec<u16>> + '_ {
+    let links = &links[..links.len().min(most)];
+    let chosen = |bits: u32| {
+        let is_chosen = move |at: &usize| bits >> at & 1 == 1;
+        (0..links.len()).filter(is_chosen).map(|at| links[at]).collect()
+    };
+    (1..1 << links.len()).map(chosen)
+}
+
+/// Plain trees with a comma after the last item of some of their lists, each choice of
+/// lists in turn, and all lists of a tree that has more than so many.
+pub fn each_choice(tree: &NodeTable, most: usize, mut visit: impl FnMut(Vec<u16>)) {
+    let links = last_links(tree);
+    choices(&links, most).for_each(|chosen| visit(with_commas(tree, &chosen)));
+    if links.len() > most {
+        visit(with_commas(tree, &links));
+    }
+}
+
+/// The most lists of a tree of which each choice is taken.
+const MOST_LISTS: usize = 4;
+
+/// Holds a plain tree with commas to the tree without its own parentheses.
+fn tree(held: &mut Held, charts: &mut Charts, ours: &mut Ours, tree: &NodeTable) {
+    let meant = without_parens(tree);
+    each_choice(tree, MOST_LISTS, |tokens| {
+        charts.read(&tokens);
+        if charts.chart.readings() != [&meant[..]] {
+            held.tally.differs("another reading than the tree", &tokens);
+        }
+        held.list(charts, ours);
+    });
+}
+
+/// All lists of few tokens that hold such commas; all lists of fewer tokens; random lists
+/// with commas put in; plain trees with commas after last items; and constructed lists.
+/// Gives how many differ.
+pub fn compare(
+    ours: &mut Ours,
+    smaller: usize,
+    lists: u64,
+    seed: u64,
+    change: Option<Change>,
+) -> u64 {
+    let mut charts = Charts::new(change);
+    let mut different = 0;
+    for (name, codes, most) in lists::sets(smaller) {
+        let (mut held, start) = (Held::default(), Instant::now());
+        let most = most + LONGER;
+        each_list(&mut charts, &codes, most, false, &mut |charts| held.list(charts, ours));
+        different += held.print(&format!("{name} and {LONGER}, with such a comma"), start);
+    }
+    let (mut held, start) = (Held::default(), Instant::now());
+    for (_, codes, most) in lists::sets(smaller.max(1) + 1) {
+        each_list(&mut charts, &codes, most, true, &mut |charts| held.list(charts, ours));
+    }
+    different += held.print("all lists of the sets of fewer tokens", start);
+    for (most_tokens, lists) in [(40, lists), (200, lists / 40)] {
+        let (mut held, start) = (Held::default(), Instant::now());
+        for index in 0..lists {
+            let tokens = makers::with_commas(&mut Dice::new(seed, index), seed, most_tokens);
+            charts.read(&tokens);
+            held.list(&charts, ours);
+        }
+        let name = format!("random with commas put in, about {most_tokens} tokens");
+        different += held.print(&name, start);
+    }
+    for set in trees::sets(1 + smaller) {
+        let (mut held, start) = (Held::default(), Instant::now());
+        set.each(|plain| tree(&mut held, &mut charts, ours, plain));
+        let name = format!("trees, {} up to {} nodes", set.name, set.most_nodes);
+        different += held.print(&name, start);
+    }
+    let (mut held, start) = (Held::default(), Instant::now());
+    trees::random(seed, lists / 20, 40, |plain| tree(&mut held, &mut charts, ours, plain));
+    different += held.print("trees, random up to 40 tokens", start);
+    let (mut tally, start) = (Tally::default(), Instant::now());
+    for (tokens, known) in makers::constructed_with_commas(seed) {
+        tally.constructed(&mut charts.chart, ours, &tokens, known);
+    }
+    tally.print("constructed with commas", start);
+    different + tally.different
+}
