@@ -88,6 +88,8 @@ pub fn tokens(file: &[u8]) -> Result<Vec<u16>, Refusal> {
 /// assert_eq!(tezhukor::tree_file(&[32]), Ok(vec![0, 1, 26, 0, 0, 0, 0]));
 /// // Comparisons do not chain.
 /// assert_eq!(tezhukor::tree_file(&[32, 13, 32, 13, 32]), Err(Refusal::NoReading));
+/// // A comma after the last argument changes nothing: `f(a,)` is `f(a)`.
+/// assert_eq!(tezhukor::tree_file(&[32, 35, 32, 39, 36]), tezhukor::tree_file(&[32, 35, 32, 36]));
 /// ```
 pub fn tree_file(tokens: &[u16]) -> Result<Vec<u8>, Refusal> {
     Ok(Tree::read(tokens)?.to_file())

@@ -107,6 +107,27 @@ fn shown_as_read() {
     }
 }
 
+/// A comma after the last item of a list is read, and not shown.
+#[test]
+fn commas_after_last_items() {
+    let names = Scratch::new("commas");
+    for (text, without) in [
+        ("f(a, b,)", "f(a, b)"),
+        ("f(a , )", "f(a)"),
+        ("s.f(1,)", "s.f(1)"),
+        ("(s.f)(1,)", "(s.f)(1)"),
+        ("x as T<A,> < y", "x as T<A> < y"),
+        ("x as Map<K, Vec<V,>,> + 1", "x as Map<K, Vec<V>> + 1"),
+        ("f(g(a,), b - (c - d),)[i](&&e,)?", "f(g(a), b - (c - d))[i](&&e)?"),
+    ] {
+        let output = sheet(&["read", "--names", names.name(), text], b"");
+        assert_eq!(output.status.code(), Some(0), "{text}");
+        assert_eq!(output.stdout, tree_of(without), "{text}");
+        let shown = printed(&["show", "--names", names.name(), "-"], &output.stdout, 0);
+        assert_eq!(shown.trim_end(), without);
+    }
+}
+
 #[test]
 fn reasons() {
     let why = |text| printed(&["why", "-"], &tree_of(text), 0);
@@ -150,11 +171,30 @@ fn errors_point() {
         ("", "  ^"),
         ("a = \"b", "      ^"),
         ("s.f::<T>()", "     ^"),
+        ("f(,)", "    ^"),
+        ("f(a,,)", "      ^"),
+        ("(a,)", "    ^"),
+        ("a[b,]", "     ^"),
+        ("x as T<,>", "         ^"),
+        ("f(a),", "      ^"),
     ] {
         let message = printed(&["read", text], b"", 1);
         let last = message.lines().last().unwrap_or_default();
         assert_eq!(last, mark, "{message}");
         assert_eq!(printed(&["read"], format!("{text}\n").as_bytes(), 1), message);
+    }
+}
+
+/// Behind a comma a text can end before an item or before a bracket.
+#[test]
+fn ends_behind_a_comma() {
+    for (text, message) in [
+        ("f(a,", "the text ends before a bracket is closed"),
+        ("x as T<A,", "the text ends within type arguments"),
+        ("f(a, b +", "the text ends where an operand must stand"),
+    ] {
+        let printed = printed(&["read", text], b"", 1);
+        assert!(printed.contains(message), "{printed}");
     }
 }
 
@@ -201,8 +241,22 @@ fn next(state: &mut u64) -> usize {
     (*state >> 33) as usize
 }
 
-const OPERANDS: [&str; 12] =
-    ["a", "-b", "f(x)", "s.f", "s.0", "(a+b)", "&x", "1", "1.5", "x as T", "v[i]?", "x.await"];
+const OPERANDS: [&str; 14] = [
+    "a",
+    "-b",
+    "f(x)",
+    "f(x,)",
+    "s.f",
+    "s.0",
+    "(a+b)",
+    "&x",
+    "1",
+    "1.5",
+    "x as T",
+    "x as T<A,>",
+    "v[i]?",
+    "x.await",
+];
 
 const PIECES: [&str; 40] = [
     "a", "+", "f", "T", "1", "0", "1.5", "2e-", "'x'", "\"s", "_", "as", "await", ".", ".0", "(",

@@ -20,7 +20,7 @@ impl Written {
     }
 
     /// The same with a comma after the last item of each list whose last link is one of
-    /// those: never written, and read alike.
+    /// those, in order: never written, and read alike.
     pub fn with_commas(tree: &NodeTable, has_pair: &[bool], has_comma: &[u16]) -> Written {
         let out = Written { tokens: Vec::new(), pairs: Vec::new() };
         let mut writer = Writer { cells: &tree.cells, has_pair, has_comma, out };
@@ -66,7 +66,7 @@ impl Writer<'_> {
         self.out.tokens.extend(between);
         self.node(node.operands[1]);
         self.out.tokens.extend(behind);
-        if self.has_comma.contains(&number) {
+        if self.has_comma.binary_search(&number).is_ok() {
             self.out.tokens.push(COMMA);
         }
         if has_pair {

@@ -9,13 +9,14 @@
 //! TEZHUKOR_FUZZ says how many of each are made; 2,000 if it says nothing.
 
 use model::chart::Chart;
-use model::codes::{self, CLOSE, EQUALS, MINUS, NAME, OPEN};
+use model::codes::{self, CLOSE, COMMA, EQUALS, MINUS, NAME, OPEN};
+use model::commas;
 use model::generate::{Dice, Family};
 use model::lent::Lent;
 use model::rules::Rules;
 use model::sizes::*;
 use model::table::{self, NodeTable, DETAIL, FIRST, FORM, SECOND};
-use model::written::{self, without_parens, Written};
+use model::written::{self, last_links, without_parens, Written};
 use model::{accept, forms, verdict};
 use tezhukor::{boundary, Refusal, Tree};
 
@@ -375,6 +376,29 @@ fn token_lists() {
     tally.print("token lists read");
 }
 
+/// Plain trees with commas after the last items of some lists, which are read alike; and
+/// token lists with commas put in.
+#[test]
+fn commas_put_in() {
+    let [mut trees, mut lists] = [(); 2].map(|()| Tally::default());
+    let mut chart = Chart::new(Rules::new(None));
+    for index in 0..times() {
+        let dice = &mut Dice::new(10, index);
+        let tree = Family::Plain.tree(11, index);
+        let chosen: Vec<u16> = last_links(&tree).into_iter().filter(|_| dice.percent(70)).collect();
+        let tokens = Written::with_commas(&tree, &pairs(&tree), &chosen).tokens;
+        let bare = without_parens(&tree);
+        let verdict = if tokens.len() > MOST_TOKENS { Err(14) } else { Ok(bare) };
+        read(&tokens, MOST_CELLS, &verdict, &mut trees);
+        let mut tokens = list(dice, index);
+        commas::put_in(dice, &mut tokens);
+        let verdict = verdict::of(&mut chart, &tokens).expect("at most one reading");
+        read(&tokens, MOST_CELLS, &verdict, &mut lists);
+    }
+    trees.print("plain trees with commas read");
+    lists.print("token lists with commas put in read");
+}
+
 /// The longest lists and those one token longer, whose reading is known.
 #[test]
 fn longest_lists() {
@@ -388,7 +412,12 @@ fn longest_lists() {
         grouped.extend(vec![CLOSE; even / 2]);
         let grouped_verdict = if even > MOST_TOKENS { Err(14) } else { Ok(name) };
         let repeated = |codes: &[u16]| codes.iter().copied().cycle().take(length).collect();
-        let lists: [(Vec<u16>, Result<Vec<u16>, u16>); 7] = [
+        // A name behind prefixes, called with a name and so many commas behind it.
+        let called = |length: usize, commas| {
+            let call = [vec![NAME, OPEN, NAME], vec![COMMA; commas], vec![CLOSE]].concat();
+            [vec![MINUS; length - call.len()], call].concat()
+        };
+        let lists: [(Vec<u16>, Result<Vec<u16>, u16>); 9] = [
             (grouped, grouped_verdict),
             (vec![OPEN; length], long(Err(15))),
             (repeated(&[MINUS]), long(Err(15))),
@@ -396,6 +425,8 @@ fn longest_lists() {
             (repeated(&[NAME, OPEN]), long(Err(15))),
             (repeated(&[NAME, EQUALS]), long(Err(if length % 2 == 0 { 15 } else { 16 }))),
             (vec![LAST_CODE + 1; length], Err(14)),
+            (called(length, 1), long(Err(16))),
+            (called(length, 2), long(Err(15))),
         ];
         for (list, verdict) in &lists {
             for cells in [MOST_CELLS - 1, MOST_CELLS, MOST_CELLS + 1] {

@@ -249,6 +249,8 @@ mod tests {
         assert_eq!(codes("a as *const *mut &&mut _"), [32, 31, 41, 42, 8, 30, 43]);
         assert_eq!(codes("a as ! * b"), [32, 31, 29, 2, 32]);
         assert_eq!(codes("a as &T >> b"), [32, 31, 8, 32, 11, 32]);
+        assert_eq!(codes("a as A<B<C,>,>"), [32, 31, 32, 13, 32, 13, 32, 39, 17, 39, 17]);
+        assert_eq!(codes("f(a,)&&b"), [32, 35, 32, 39, 36, 5, 32]);
     }
 
     #[test]

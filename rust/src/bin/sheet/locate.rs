@@ -1,7 +1,7 @@
 //! Where a text is wrong.
 
 use crate::open::{Next, Open};
-use tezhukor::codes::NAME;
+use tezhukor::codes::{COMMA, NAME};
 use tezhukor::{Refusal, Tree};
 
 /// The token from which on there is no reading; behind the last one the text ends
@@ -40,6 +40,10 @@ fn ends_early(codes: &[u16]) -> &'static str {
                 always opens them, so a cast before `<` needs parentheses";
     }
     match (open.closing.is_empty(), open.next) {
+        // Behind the comma of a list another item may stand, and need not.
+        (false, _) if codes.last() == Some(&COMMA) => {
+            "refused (15): the text ends before a bracket is closed"
+        }
         (_, Next::Operand) => "refused (15): the text ends where an operand must stand",
         (_, Next::Type) => "refused (15): the text ends where a type must stand",
         (_, Next::Member) => "refused (15): the text ends where a member must stand",
