@@ -13,7 +13,7 @@ use crate::trees;
 use crate::written::with_commas;
 use model::chart::Chart;
 use model::codes::COMMA;
-use model::commas::{closes, item_before};
+use model::commas::{before_closing, closes, item_before};
 use model::generate::Dice;
 use model::rules::{Change, Rules};
 use model::table::NodeTable;
@@ -96,6 +96,8 @@ impl Charts {
 #[derive(Default)]
 struct Held {
     tally: Tally,
+    /// Lists that have a reading by such commas.
+    gained: u64,
     /// Lists that have a reading without their commas alone.
     nearly: u64,
     /// Lists whose readings are not those that document 01's rule gives.
@@ -104,8 +106,9 @@ struct Held {
 
 impl Held {
     fn list(&mut self, charts: &Charts, ours: &mut Ours) {
-        self.nearly += u64::from(charts.is_nearly_read());
         let tokens = charts.chart.tokens();
+        self.nearly += u64::from(charts.is_nearly_read());
+        self.gained += u64::from(charts.is_read() && !before_closing(tokens).is_empty());
         if !charts.agree() {
             self.unlike += 1;
             self.tally.differs("not as with an item behind each comma", tokens);
@@ -116,7 +119,10 @@ impl Held {
     /// Prints the set and gives how many differ.
     fn print(&self, name: &str, start: Instant) -> u64 {
         self.tally.print(name, start);
-        println!("  read without their commas alone {}, unlike {}", self.nearly, self.unlike);
+        println!(
+            "  read by such commas {}, read without them alone {}, unlike {}",
+            self.gained, self.nearly, self.unlike
+        );
         self.tally.different
     }
 }
