@@ -21,8 +21,8 @@ use model::verdict;
 use model::written::{last_links, without_parens};
 use std::time::Instant;
 
-/// The sets of [`lists::sets`] with a token more, of which only lists are gone through
-/// that hold such a comma.
+/// By how many tokens lists are longer than those of [`lists::sets`], where only lists are
+/// gone through that hold such a comma.
 pub const LONGER: usize = 1;
 
 /// A list by three charts.
@@ -127,8 +127,8 @@ impl Held {
     }
 }
 
-/// All lists of up to so many tokens over some codes that hold a comma straight before what
-/// closes something, or `held` ones that begin with such a list.
+/// All lists of up to so many tokens over some codes, behind the tokens of the charts, that
+/// hold a comma straight before what closes something; all of them if one is `held` already.
 pub fn each_list(
     charts: &mut Charts,
     codes: &[u16],
@@ -151,7 +151,7 @@ pub fn each_list(
     }
 }
 
-/// Every choice of lists, up to so many lists; each of them is given by its last link.
+/// Every choice, but none, of the first links, up to so many of them.
 fn choices(links: &[u16], most: usize) -> impl Iterator<Item = Vec<u16>> + '_ {
     let links = &links[..links.len().min(most)];
     let chosen = |bits: u32| {
@@ -161,8 +161,8 @@ fn choices(links: &[u16], most: usize) -> impl Iterator<Item = Vec<u16>> + '_ {
     (1..1 << links.len()).map(chosen)
 }
 
-/// Plain trees with a comma after the last item of some of their lists, each choice of
-/// lists in turn, and all lists of a tree that has more than so many.
+/// The tokens of a plain tree with a comma after the last item of some of its lists: each
+/// choice of its first lists, up to so many of them, and all lists if there are more.
 pub fn each_choice(tree: &NodeTable, most: usize, mut visit: impl FnMut(Vec<u16>)) {
     let links = last_links(tree);
     choices(&links, most).for_each(|chosen| visit(with_commas(tree, &chosen)));
@@ -171,7 +171,7 @@ pub fn each_choice(tree: &NodeTable, most: usize, mut visit: impl FnMut(Vec<u16>
     }
 }
 
-/// The most lists of a tree of which each choice is taken.
+/// So many lists of a tree are chosen from.
 const MOST_LISTS: usize = 4;
 
 /// Holds a plain tree with commas to the tree without its own parentheses.
