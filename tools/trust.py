@@ -20,6 +20,7 @@ from pathlib import Path
 # What is promised: demand 3, and the contracts of the four functions of the boundary.
 ROOTS = [
     'token_theorem/Statement',
+    'token_plain/Commas',
     'file_loader/Files',
     'row_walk/Walk',
     'token_writer/Writes',
