@@ -25,12 +25,12 @@ module _ (file : List ℕ) (at : ℕ) where
       go false h = absurd (let q = e ∙ pick-false _ _ h in let z : _≡_ {A = ℕ} 0 1 = cc in omega arith)
 
   -- a value: the number there is well formed and has it, and the bytes after it are those from the next place on
-  record Stands (v next : ℕ) : Type 0 where
+  pub record Stands (v next : ℕ) : Type 0 where
     pub formed : malformed (drop at file) ≡ false
     pub value : valueOf (drop at file) ≡ v
     pub rest : restOf (drop at file) ≡ drop next file
 
-  number-good : (v next : ℕ) → Value v next ≡ standsAt file at → Stands v next
+  pub number-good : (v next : ℕ) → Value v next ≡ standsAt file at → Stands v next
   unfolding standsAt restOf
   number-good v next e = go (malformed (drop at file)) refl
     where
@@ -43,7 +43,7 @@ module _ (file : List ℕ) (at : ℕ) where
 
 -- ---- one number more
 
-one-more : (n : ℕ) (bytes : List ℕ) → malformed bytes ≡ false → numbersOf (suc n) bytes ≡ prepend (valueOf bytes) (numbersOf n (restOf bytes))
+pub one-more : (n : ℕ) (bytes : List ℕ) → malformed bytes ≡ false → numbersOf (suc n) bytes ≡ prepend (valueOf bytes) (numbersOf n (restOf bytes))
 unfolding numbersOf
 one-more n bytes e = pick-false _ _ e
 
@@ -52,10 +52,10 @@ unfolding numbersOf
 none-more n bytes e = pick-true _ _ e
 
 -- the first of several numbers that are well formed
-data Taken (bytes : List ℕ) (n : ℕ) (vs r : List ℕ) : Type 0 where
+pub data Taken (bytes : List ℕ) (n : ℕ) (vs r : List ℕ) : Type 0 where
   taken : (ws : List ℕ) → malformed bytes ≡ false → numbersOf n (restOf bytes) ≡ numbers ws r → vs ≡ valueOf bytes ∷ ws → Taken bytes n vs r
 
-apart : (n : ℕ) (bytes vs r : List ℕ) → numbersOf (suc n) bytes ≡ numbers vs r → Taken bytes n vs r
+pub apart : (n : ℕ) (bytes vs r : List ℕ) → numbersOf (suc n) bytes ≡ numbers vs r → Taken bytes n vs r
 unfolding prepend
 apart n bytes vs r e = go (malformed bytes) refl
   where

@@ -1,0 +1,113 @@
+-- The answers of saving, and what they leave in the lent buffer. Assumes nothing.
+use mathlib.Core.Path.{_≡_, refl, sym, ap, _∙_}
+use mathlib.Core.Bool.{Bool, true, false}
+use mathlib.Core.List.{List, [], _∷_}
+use Prim.Native.Nat.{ℕ, _+_, _*_, _≤_, _<_}
+use native.Mathlib.Omega.{arith}
+use lib.Dec.{eqb, ltb}
+use lib.ListN.{length, take, length-append}
+use lib.Seq.{take-at, length-take-le}
+use borrow.Author.Tests.{eq-eqb, ne-eqb, lt-ltb, le-ltb}
+use Rattle.laws.specs.Choice.{pick}
+use Rattle.laws.specs.Lists.{over}
+use Rattle.laws.proofs.Choice.{pick-true, pick-false, or-next}
+use Rattle.laws.proofs.Lists.{length-over}
+use Rattle.tree.specs.Trees.{Tree, treeAt, levels}
+use Rattle.tree_rules.specs.Refusals.{refusal, refuse, firstOf, Accepted}
+use Rattle.tree_rules.proofs.First.{stop, skip, no-more}
+use Rattle.tree_rules.proofs.Accepted.{count-bounds, levels-bound}
+use Rattle.tree_numbering.specs.Numbered.{size, numbered, tooLarge}
+use Rattle.tree_numbering.specs.Renumbering.{tooShort, renumberedAfter}
+use Rattle.tree_numbering.proofs.Holds.{length-numbered}
+use Rattle.tree_numbering.proofs.Sizes.{size-accepted}
+use Rattle.file_bytes.specs.Bytes.{allBytes}
+use Rattle.file_save.specs.declared.Saved.{Saved}
+use Rattle.file_save.specs.declared.Saved.the-variants.{Refused, Bytes}
+use Rattle.file_save.specs.Saves.{file, fileOf, saveRefusal12, saveRefusal, saved, savedAfter}
+use Rattle.file_save.specs.Stores.{stored, storedAfter}
+
+module _ (context count : ℕ) (cells : List ℕ) where
+  -- ---- a table that is refused
+
+  module _ (buffer : List ℕ) (n : ℕ) (is : n ≡ refusal context count cells) (some : n ≡ 0 → ⊥) where
+    refuses : saveRefusal context count cells (length buffer) ≡ n
+    unfolding saveRefusal
+    refuses = rw (← is) (pick-false _ _ (ne-eqb n 0 some))
+
+    pub refused-table : (Refused n ≡ saved context count cells (length buffer)) × (buffer ≡ savedAfter context count cells buffer)
+    unfolding saved savedAfter
+    refused-table = rw refuses (sym (pick-false _ _ (ne-eqb n 0 some)), sym (pick-false _ _ (ne-eqb n 0 some)))
+
+  -- ---- a table that is accepted
+
+  module _ (ok : Accepted context count cells) where
+    -- 12 alone is left
+    only-12 : (lent : ℕ) → saveRefusal context count cells lent ≡ firstOf (refuse 12 (ltb lent (length (fileOf context count cells))) ∷ [])
+    unfolding saveRefusal saveRefusal12
+    only-12 lent = pick-true _ _ (eq-eqb _ 0 ok)
+
+    long-enough : (lent : ℕ) → ltb lent (length (fileOf context count cells)) ≡ false → saveRefusal context count cells lent ≡ 0
+    long-enough lent e = only-12 lent ∙ skip _ _ e ∙ no-more
+
+    too-short : (lent : ℕ) → ltb lent (length (fileOf context count cells)) ≡ true → saveRefusal context count cells lent ≡ 12
+    too-short lent e = only-12 lent ∙ stop _ _ e
+
+    pub saved-is : (lent : ℕ) → saved context count cells lent ≡ stored (fileOf context count cells) lent
+    unfolding saved stored
+    saved-is lent = go (ltb lent (length (fileOf context count cells))) refl
+      where
+        go : (b : Bool) → ltb lent (length (fileOf context count cells)) ≡ b → saved context count cells lent ≡ stored (fileOf context count cells) lent
+        go true e = rw (too-short lent e) (pick-false _ _ (ne-eqb 12 0 (λ z. omega arith)) ∙ sym (pick-true _ _ e))
+        go false e = rw (long-enough lent e) (pick-true _ _ (eq-eqb 0 0 refl) ∙ sym (pick-false _ _ e))
+
+    pub after-is : (buffer : List ℕ) → savedAfter context count cells buffer ≡ storedAfter (fileOf context count cells) buffer
+    unfolding savedAfter storedAfter
+    after-is buffer = go (ltb (length buffer) (length (fileOf context count cells))) refl
+      where
+        go : (b : Bool) → ltb (length buffer) (length (fileOf context count cells)) ≡ b → savedAfter context count cells buffer ≡ storedAfter (fileOf context count cells) buffer
+        go true e = rw (too-short (length buffer) e) (pick-false _ _ (ne-eqb 12 0 (λ z. omega arith)) ∙ sym (pick-true _ _ e))
+        go false e = rw (long-enough (length buffer) e) (pick-true _ _ (eq-eqb 0 0 refl) ∙ sym (pick-false _ _ e))
+
+    -- ---- its tree, numbered into an array with room for it
+
+    abbrev tree : Tree
+    tree = treeAt cells count 1
+
+    is-size : size tree ≡ count
+    is-size = size-accepted context count cells ok
+
+    not-large : tooLarge tree ≡ false
+    unfolding tooLarge
+    not-large =
+        let k = count-bounds context count cells ok in
+        let s = is-size in
+        or-next _ (le-ltb 4096 (size tree) (omega arith)) ∙ le-ltb 128 (levels tree) (levels-bound context count cells ok)
+
+    module _ (own after : List ℕ) (room : 5 * count ≤ length own) (is : after ≡ renumberedAfter tree own) where
+      are-cells : after ≡ over (numbered tree) own
+      unfolding renumberedAfter tooShort
+      are-cells =
+          let s = is-size in
+          is ∙ pick-false _ _ (or-next _ not-large ∙ le-ltb (length own) (5 * size tree) (omega arith))
+
+      long : length (numbered tree) ≡ 5 * count
+      long = let s = is-size in length-numbered tree ∙ omega arith
+
+      pub own-room : 5 * count ≤ length after
+      own-room = let l = long in rw (are-cells, length-over (numbered tree) own (omega arith)) room
+
+      pub part-length : length (take (5 * count) after) ≡ 5 * count
+      part-length = length-take-le (5 * count) after own-room
+
+      pub part-few : length (take (5 * count) after) ≤ 20480
+      part-few = let l = part-length in let k = count-bounds context count cells ok in omega arith
+
+      is-file : allBytes (context ∷ count ∷ take (5 * count) after) ≡ fileOf context count cells
+      unfolding file over
+      is-file = rw (are-cells, take-at (numbered tree) _ (5 * count) long, is-size)
+
+      pub saved-by : (buffer last : List ℕ) (r : Saved)
+          → (r ≡ stored (allBytes (context ∷ count ∷ take (5 * count) after)) (length buffer)) × (last ≡ storedAfter (allBytes (context ∷ count ∷ take (5 * count) after)) buffer)
+          → (r ≡ saved context count cells (length buffer)) × (last ≡ savedAfter context count cells buffer)
+      saved-by buffer last r e =
+          (e .0 ∙ rw is-file (sym (saved-is (length buffer))), e .1 ∙ rw is-file (sym (after-is buffer)))

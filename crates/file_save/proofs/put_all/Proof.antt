@@ -1,0 +1,76 @@
+-- `file_save::put_all` meets its contract. Assumes nothing.
+use mathlib.Core.Path.{_≡_, refl, sym, ap, _∙_}
+use Prim.Native.Nat.{suc, _+_, _-_, _≤_, _<_}
+use native.Mathlib.Omega.{arith}
+use borrow.Author.Needs.{needs}
+use lib.ListN.{length, getD, take, length-append}
+use lib.Seq.{take-length}
+use Rattle.file_bytes.specs.Bytes.{bytesOf, allBytes}
+use Rattle.file_bytes.proofs.Several.{all-next, part-long}
+use Rattle.file_save.specs.Stores.{Put}
+use Rattle.file_save.proofs.Putting.{put-none, put-next}
+use Rattle.file_save.proofs.put_all.Statement.{statement}
+use Rattle.file_save.proofs.put_all.Tie as tie
+
+abbrev Inv-loop : tie.InvT-loop
+Inv-loop file₀ from numbers at₀ done₀ file at done = (done ≤ length numbers) × Put file₀ from (allBytes (take done numbers)) file at
+
+abbrev μ-loop : tie.MeasureT-loop
+μ-loop file₀ from numbers at₀ done₀ file at done = length numbers - done
+
+loop-holds : tie.Need-loop-holds Inv-loop μ-loop
+unfolding allBytes
+loop-holds c = (omega arith, put-none _ _)
+
+mul-put : tie.Need-mul-put Inv-loop μ-loop
+mul-put c = search needs
+
+shared-slice-read-put : tie.Need-shared-slice-read-put Inv-loop μ-loop
+shared-slice-read-put c = omega arith
+
+put-requires : tie.Need-put-requires Inv-loop μ-loop
+put-requires c κs =
+    let l = c .before .before .before .loop in
+    let a = c .before .before .before .before .before .before .args in
+    let h : l .done < length (a .numbers .now) = omega arith in
+    let n = ap length (all-next (a .numbers .now) (l .done) h) ∙ length-append (allBytes (take (l .done) (a .numbers .now))) (bytesOf (getD (a .numbers .now) (l .done) 0)) in
+    let p = part-long (a .numbers .now) (suc (l .done)) in
+    omega (arith, l .inv .1 .ends, l .inv .1 .room)
+
+add-done : tie.Need-add-done Inv-loop μ-loop
+add-done c = omega arith
+
+loop-less : tie.Need-loop-less Inv-loop μ-loop
+loop-less c = omega arith
+
+loop-again : tie.Need-loop-again Inv-loop μ-loop
+loop-again c =
+    let l = c .before .before .before .before .before .before .loop in
+    let a = c .before .before .before .before .before .before .before .before .before .args in
+    (omega arith, put-next (a .numbers .now) (l .done) (omega arith) (l .inv .1) (c .before .before .put .ensures))
+
+same-length : tie.Need-same-length Inv-loop μ-loop
+same-length c = c .before .loop .inv .1 .room
+
+returns : tie.Need-returns Inv-loop μ-loop
+returns c =
+    let l = c .before .loop in
+    let a = c .before .before .before .before .args in
+    let e : l .done ≡ length (a .numbers .now) = omega arith in
+    rw (e, take-length (a .numbers .now)) at (l .inv .1)
+
+pub put-all-spec : {M : Type 1} → statement M
+put-all-spec =
+    tie.close
+    (tie.spec
+    Inv-loop
+    μ-loop
+    loop-holds
+    mul-put
+    shared-slice-read-put
+    put-requires
+    add-done
+    loop-less
+    loop-again
+    same-length
+    returns)

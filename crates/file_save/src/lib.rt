@@ -1,0 +1,138 @@
+// Trees as tree files: one file for one tree.
+use tree_numbering::renumber;
+use tree_one_pass::check;
+ghost use mathlib.Core.Path.{_≡_};
+ghost use mathlib.Core.List.{_∷_};
+ghost use Prim.Native.Nat.{_+_, _*_, _≤_, _<_};
+ghost use lib.ListN.{length};
+ghost use Rattle.tree_rules.specs.Refusals.{Accepted};
+ghost use Rattle.file_bytes.specs.Bytes.{bytesOf, allBytes};
+ghost use Rattle.file_save.specs.Saves.{saved, savedAfter};
+ghost use Rattle.file_save.specs.Stores.{Put, stored, storedAfter};
+
+// What saving answers.
+pub enum Saved {
+    // The number of the first refusal that applies.
+    Refused(u16),
+    // How many bytes of the lent buffer are the file.
+    Bytes(u16),
+}
+
+// ---- numbers as bytes
+
+// How many bytes a number takes.
+fn long(value: u16) -> usize
+    ensures { λ r. ⌜ r ≡ length (bytesOf value) ⌝ }
+{
+    if value < 128 {
+        return 1;
+    }
+    if value < 16384 {
+        return 2;
+    }
+    3
+}
+
+// How many bytes several numbers take.
+fn all_long(numbers: &[u16]) -> usize
+    requires { ⌜ length (now numbers) ≤ 20480 ⌝ }
+    ensures { λ r. ⌜ r ≡ length (allBytes (now (numbers .entry))) ⌝ }
+{
+    let mut bytes = 0;
+    let mut done = 0;
+    while done < numbers.len() {
+        bytes += long(numbers[done]);
+        done += 1;
+    }
+    bytes
+}
+
+// A number from a place on; answers the place behind it.
+fn put(file: &mut [u8], at: usize, value: u16) -> usize
+    requires { ⌜ at + length (bytesOf value) ≤ length (now file) ⌝ }
+    ensures { λ r. ⌜ Put (now (file .entry)) at (bytesOf value) (now (file .exit)) r ⌝ }
+{
+    if value < 128 {
+        file[at] = value as u8;
+        return at + 1;
+    }
+    file[at] = (128 + value % 128) as u8;
+    if value < 16384 {
+        file[at + 1] = (value / 128) as u8;
+        return at + 2;
+    }
+    file[at + 1] = (128 + value / 128 % 128) as u8;
+    file[at + 2] = (value / 16384) as u8;
+    at + 3
+}
+
+// Several numbers from a place on; answers the place behind them.
+fn put_all(file: &mut [u8], from: usize, numbers: &[u16]) -> usize
+    requires { ⌜ from + length (allBytes (now numbers)) ≤ length (now file) ⌝ }
+    ensures { λ r. ⌜ Put (now (file .entry)) from (allBytes (now (numbers .entry))) (now (file .exit)) r ⌝ }
+{
+    let mut at = from;
+    let mut done = 0;
+    while done < numbers.len() {
+        at = put(file, at, numbers[done]);
+        done += 1;
+    }
+    at
+}
+
+// ---- files
+
+// A context, a count and the numbers of the nodes as a file, where the buffer has room for it. Nothing is stored before that is known.
+fn store(context: u16, count: u16, numbers: &[u16], file: &mut [u8]) -> Saved
+    requires { ⌜ length (now numbers) ≤ 20480 ⌝ }
+    ensures { λ r. ⌜ r ≡ stored (allBytes (context ∷ count ∷ now (numbers .entry))) (length (now (file .entry))) ⌝ }
+    ensures { λ r. ⌜ now (file .exit) ≡ storedAfter (allBytes (context ∷ count ∷ now (numbers .entry))) (now (file .entry)) ⌝ }
+{
+    let bytes = long(context) + long(count) + all_long(numbers);
+    if file.len() < bytes {
+        return Saved::Refused(12);
+    }
+    let second = put(file, 0, context);
+    let body = put(file, second, count);
+    put_all(file, body, numbers);
+    Saved::Bytes(bytes as u16)
+}
+
+// A table of fewer than 64 nodes, with an array that is quickly made for their numbering.
+fn save_small(context: u16, count: u16, table: &[u16], file: &mut [u8]) -> Saved
+    requires { ⌜ Accepted context count (now table) × (count < 64) ⌝ }
+    ensures { λ r. ⌜ r ≡ saved context count (now (table .entry)) (length (now (file .entry))) ⌝ }
+    ensures { λ r. ⌜ now (file .exit) ≡ savedAfter context count (now (table .entry)) (now (file .entry)) ⌝ }
+{
+    let mut own = [0u16; 320];
+    renumber(table, count, 1, &mut own);
+    let cells = 5 * (count as usize);
+    store(context, count, &own[..cells], file)
+}
+
+// The same for up to 4,096 nodes.
+fn save_large(context: u16, count: u16, table: &[u16], file: &mut [u8]) -> Saved
+    requires { ⌜ Accepted context count (now table) ⌝ }
+    ensures { λ r. ⌜ r ≡ saved context count (now (table .entry)) (length (now (file .entry))) ⌝ }
+    ensures { λ r. ⌜ now (file .exit) ≡ savedAfter context count (now (table .entry)) (now (file .entry)) ⌝ }
+{
+    let mut own = [0u16; 20480];
+    renumber(table, count, 1, &mut own);
+    let cells = 5 * (count as usize);
+    store(context, count, &own[..cells], file)
+}
+
+// The tree of a node table as a file in a lent buffer, its nodes numbered from the root on: how many bytes it has, or the first refusal that applies.
+pub fn save(context: u16, count: u16, table: &[u16], file: &mut [u8]) -> Saved
+    ensures reply { λ r. ⌜ r ≡ saved context count (now (table .entry)) (length (now (file .entry))) ⌝ }
+    ensures file { λ r. ⌜ now (file .exit) ≡ savedAfter context count (now (table .entry)) (now (file .entry)) ⌝ }
+{
+    let refused = check(context, count, table);
+    if refused != 0 {
+        return Saved::Refused(refused);
+    }
+    if count < 64 {
+        return save_small(context, count, table, file);
+    }
+    save_large(context, count, table, file)
+}
