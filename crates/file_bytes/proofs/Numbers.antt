@@ -1,22 +1,21 @@
 -- The bytes of a number are read as it, and no other bytes are. Assumes nothing.
-use mathlib.Core.Path.{_≡_, refl, sym, ap, _∙_}
-use mathlib.Core.Bool.{true, false}
+use mathlib.Core.Path.{_≡_, refl, sym, _∙_}
+use mathlib.Core.Bool.{false}
 use mathlib.Core.List.{List, [], _∷_, _++_}
-use Prim.Native.Nat.{ℕ, zero, suc, _+_, _*_, _-_, _/_, _%_, _≤_, _<_}
+use Prim.Native.Nat.{ℕ, _+_, _-_, _/_, _%_, _≤_, _<_}
 use native.Mathlib.Omega.{arith}
 use native.Mathlib.Decide.{decLe, ℕ-discrete}
-use lib.Dec.{ltb}
 use lib.ListN.{length, getD, drop}
 use lib.Seq.{drop-cons}
 use borrow.Author.Tests.{lt-ltb, le-ltb}
-use Rattle.laws.specs.Choice.{pick}
 use Rattle.laws.proofs.Choice.{pick-true, pick-false, true-not-false}
 use Rattle.file_numbers.specs.declared.Number.the-variants.{Malformed, Value}
 use Rattle.file_numbers.specs.Numbers.{valueOf, restOf, malformed}
 use Rattle.file_numbers.specs.Standing.{standsAt}
 use Rattle.file_numbers.proofs.Groups.{nothing-left, one-byte, cut-after-one, zero-second, two-bytes, cut-after-two, zero-third, high-third, three-bytes}
-use Rattle.file_loader.proofs.Several.{number-bad, Stands, number-good}
+use Rattle.file_loader.proofs.Several.{number-bad, number-good}
 use Rattle.file_bytes.specs.Bytes.{bytesOf}
+use Rattle.file_bytes.proofs.Below.{AllBelow}
 
 -- ---- a number's bytes, by how many there are
 
@@ -70,10 +69,6 @@ reads-back n rest most = go (decLe 128 n) (decLe 16384 n)
 
 -- ---- and no other bytes are
 
--- each is a byte
-abbrev pub AllBelow : ℕ → List ℕ → Type 0
-AllBelow most bytes = (k : ℕ) → getD bytes k 0 < most
-
 -- the bytes of a number that are given one by one
 ones : (n : ℕ) (bytes : List ℕ) → n < 128 → 0 < length bytes → getD bytes 0 0 ≡ n → bytes ≡ bytesOf n ++ drop 1 bytes
 ones n bytes h l e = rw (one-of n h) (drop-cons bytes 0 0 l ∙ rw e)
@@ -96,10 +91,10 @@ module _ (bytes : List ℕ) (small : AllBelow 256 bytes) (formed : malformed byt
   only-bytes = go (decLe (length bytes) 0) (decLe 128 (getD bytes 0 0)) (decLe 2 (length bytes)) (ℕ-discrete (getD bytes 1 0) 0) (decLe 128 (getD bytes 1 0)) (decLe 3 (length bytes)) (ℕ-discrete (getD bytes 2 0) 0) (decLe (getD bytes 2 0) 3)
     where
       low : getD bytes 0 0 < 256
-      low = small 0
+      low = small .at 0
 
       middle : getD bytes 1 0 < 256
-      middle = small 1
+      middle = small .at 1
 
       go : Dec (length bytes ≤ 0) → Dec (128 ≤ getD bytes 0 0) → Dec (2 ≤ length bytes) → Dec (getD bytes 1 0 ≡ 0) → Dec (128 ≤ getD bytes 1 0) → Dec (3 ≤ length bytes) → Dec (getD bytes 2 0 ≡ 0) → Dec (getD bytes 2 0 ≤ 3)
           → bytes ≡ bytesOf (valueOf bytes) ++ restOf bytes

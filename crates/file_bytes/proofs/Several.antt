@@ -1,18 +1,16 @@
 -- Several numbers as bytes: they are read as those numbers, and no other bytes are. Assumes nothing.
-use mathlib.Core.Path.{_≡_, refl, sym, ap, _∙_}
-use mathlib.Core.Bool.{true, false}
+use mathlib.Core.Path.{_≡_, refl, ap, _∙_}
 use mathlib.Core.List.{List, [], _∷_, _++_, append-assoc, append-nil}
 use Prim.Native.Nat.{ℕ, zero, suc, _+_, _*_, _≤_, _<_}
 use native.Mathlib.Omega.{arith}
 use lib.ListN.{length, getD, take, drop, length-append, take-append-drop}
 use lib.Seq.{take-suc}
-use Rattle.laws.specs.Choice.{pick}
-use Rattle.laws.proofs.Choice.{pick-false}
-use Rattle.file_numbers.specs.Numbers.{followed, valueOf, restOf, malformed}
-use Rattle.file_loader.specs.Several.{Numbers, broken, numbers, prepend, numbersOf}
+use Rattle.file_numbers.specs.Numbers.{followed, valueOf, restOf}
+use Rattle.file_loader.specs.Several.{numbers, prepend, numbersOf}
 use Rattle.file_loader.proofs.Several.{one-more, Taken, taken, apart}
 use Rattle.file_bytes.specs.Bytes.{bytesOf, allBytes}
-use Rattle.file_bytes.proofs.Numbers.{AllBelow, Read, some-bytes, reads-back, only-bytes}
+use Rattle.file_bytes.proofs.Below.{AllBelow, below-rest, below-after}
+use Rattle.file_bytes.proofs.Numbers.{some-bytes, reads-back, only-bytes}
 
 -- ---- the bytes of several numbers
 
@@ -47,17 +45,12 @@ pub all-read : (ns rest : List ℕ) → AllBelow 65536 ns → numbersOf (length 
 unfolding allBytes numbersOf prepend
 all-read [] rest small = refl
 all-read (n ∷ ns) rest small =
-    let s : n < 65536 = small 0 in
+    let s : n < 65536 = small .at 0 in
     let e = append-assoc (bytesOf n) (allBytes ns) rest in
     let r = reads-back n (allBytes ns ++ rest) (omega arith) in
-    rw e (one-more (length ns) _ (r .formed) ∙ rw (r .value, r .after, all-read ns rest (λ k. small (suc k))))
+    rw e (one-more (length ns) _ (r .formed) ∙ rw (r .value, r .after, all-read ns rest (below-rest small)))
 
 -- ---- and no other bytes are
-
-pub below-after : (most k : ℕ) (bytes : List ℕ) → AllBelow most bytes → AllBelow most (drop k bytes)
-below-after most zero bytes small i = small i
-below-after most (suc k) [] small i = small i
-below-after most (suc k) (b ∷ bytes) small i = below-after most k bytes (λ j. small (suc j)) i
 
 pub only-numbers : (k : ℕ) (bytes vs r : List ℕ) → AllBelow 256 bytes → numbersOf k bytes ≡ numbers vs r → bytes ≡ allBytes vs ++ r
 unfolding allBytes numbersOf restOf
@@ -65,7 +58,7 @@ only-numbers zero bytes vs r small e =
     let a : vs ≡ [] = cc in
     let b : bytes ≡ r = cc in
     rw (a, b)
-only-numbers (suc k) bytes vs r small e = go (apart k bytes vs r e) (λ ws p. only-numbers k (restOf bytes) ws r (below-after 256 (suc (followed bytes)) bytes small) p)
+only-numbers (suc k) bytes vs r small e = go (apart k bytes vs r e) (λ ws p. only-numbers k (restOf bytes) ws r (below-after (suc (followed bytes)) bytes small) p)
   where
     go : Taken bytes k vs r → ((ws : List ℕ) → numbersOf k (restOf bytes) ≡ numbers ws r → restOf bytes ≡ allBytes ws ++ r) → bytes ≡ allBytes vs ++ r
     go (taken ws m p q) ih = only-bytes bytes small m ∙ ap (λ (rest : List ℕ). bytesOf (valueOf bytes) ++ rest) (ih ws p) ∙ rw (q, append-assoc)

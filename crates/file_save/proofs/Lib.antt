@@ -1,2 +1,4 @@
 pub mod Putting
 pub mod Replies
+pub mod Small
+pub mod Promise

@@ -1,14 +1,13 @@
 -- The answers of saving, and what they leave in the lent buffer. Assumes nothing.
-use mathlib.Core.Path.{_≡_, refl, sym, ap, _∙_}
+use mathlib.Core.Path.{_≡_, refl, sym, _∙_}
 use mathlib.Core.Bool.{Bool, true, false}
 use mathlib.Core.List.{List, [], _∷_}
-use Prim.Native.Nat.{ℕ, _+_, _*_, _≤_, _<_}
+use Prim.Native.Nat.{ℕ, _*_, _≤_}
 use native.Mathlib.Omega.{arith}
-use lib.Dec.{eqb, ltb}
-use lib.ListN.{length, take, length-append}
+use lib.Dec.{ltb}
+use lib.ListN.{length, take}
 use lib.Seq.{take-at, length-take-le}
-use borrow.Author.Tests.{eq-eqb, ne-eqb, lt-ltb, le-ltb}
-use Rattle.laws.specs.Choice.{pick}
+use borrow.Author.Tests.{eq-eqb, ne-eqb, le-ltb}
 use Rattle.laws.specs.Lists.{over}
 use Rattle.laws.proofs.Choice.{pick-true, pick-false, or-next}
 use Rattle.laws.proofs.Lists.{length-over}
@@ -22,7 +21,7 @@ use Rattle.tree_numbering.proofs.Holds.{length-numbered}
 use Rattle.tree_numbering.proofs.Sizes.{size-accepted}
 use Rattle.file_bytes.specs.Bytes.{allBytes}
 use Rattle.file_save.specs.declared.Saved.{Saved}
-use Rattle.file_save.specs.declared.Saved.the-variants.{Refused, Bytes}
+use Rattle.file_save.specs.declared.Saved.the-variants.{Refused}
 use Rattle.file_save.specs.Saves.{file, fileOf, saveRefusal12, saveRefusal, saved, savedAfter}
 use Rattle.file_save.specs.Stores.{stored, storedAfter}
 

@@ -1,2 +1,3 @@
 pub mod Saves
 pub mod Stores
+pub mod Statement

@@ -36,12 +36,12 @@ operand-numbered (node l a b) count i n h k = operand-in count i n h (omega arit
 
 module _ (cells : List ℕ) where
   -- a place of a node, in what follows the nodes before it
-  cell-held : (j k : ℕ) (here : List ℕ) → drop (nodeCells * j) cells ≡ here → cellAt cells (suc j) k ≡ getD here k 0
+  pub cell-held : (j k : ℕ) (here : List ℕ) → drop (nodeCells * j) cells ≡ here → cellAt cells (suc j) k ≡ getD here k 0
   unfolding cellAt
   cell-held j k here e = sym (getD-drop (nodeCells * j) cells k 0) ∙ rw e
 
   -- what follows m more nodes
-  further : (j m n : ℕ) (before after : List ℕ) → n ≡ j + m → length before ≡ nodeCells * m → drop (nodeCells * j) cells ≡ before ++ after → drop (nodeCells * n) cells ≡ after
+  pub further : (j m n : ℕ) (before after : List ℕ) → n ≡ j + m → length before ≡ nodeCells * m → drop (nodeCells * j) cells ≡ before ++ after → drop (nodeCells * n) cells ≡ after
   further j m n before after k l e =
       let s : nodeCells * n ≡ nodeCells * j + nodeCells * m = omega arith in
       rw (s, ← drop-drop (nodeCells * m) (nodeCells * j) cells, e) (drop-at before after (nodeCells * m) l)

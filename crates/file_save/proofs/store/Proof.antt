@@ -1,8 +1,6 @@
 -- `file_save::store` meets its contract. Assumes nothing.
-use mathlib.Core.Path.{sym, _∙_}
 use native.Mathlib.Omega.{arith}
 use Rattle.file_bytes.proofs.Numbers.{some-bytes}
-use Rattle.file_bytes.proofs.Several.{all-most}
 use Rattle.file_save.proofs.Putting.{whole, whole-long, whole-most, put-whole, no-room, has-room}
 use borrow.Author.Needs.{needs}
 use Rattle.file_save.proofs.store.Statement.{statement}

@@ -1,0 +1,4 @@
+pub mod Sound
+pub mod Tables
+pub mod Numbers
+pub mod Accepts
