@@ -1,3 +1,4 @@
 pub mod Below
 pub mod Numbers
 pub mod Several
+pub mod Files

@@ -19,7 +19,7 @@ use Rattle.file_loader.specs.Files.{contextIn, countIn, cellsIn, fileRef
 use Rattle.file_loader.proofs.Files.{accepted-cells}
 
 -- an accepted file's context and count
-are-header : (file : List ℕ) (lent context count : ℕ) → Accepted context count ≡ loaded file lent → (fileRefusal file lent ≡ 0) × (context ≡ contextIn file) × (count ≡ countIn file)
+pub are-header : (file : List ℕ) (lent context count : ℕ) → Accepted context count ≡ loaded file lent → (fileRefusal file lent ≡ 0) × (context ≡ contextIn file) × (count ≡ countIn file)
 unfolding loaded pick
 are-header file lent context count e = go (eqb (fileRefusal file lent) 0) refl e
   where
