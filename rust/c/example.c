@@ -14,7 +14,8 @@ enum {
     CELLS = TEZHUKOR_NODE_CELLS * TEZHUKOR_MOST_NODES,
     ROWS = TEZHUKOR_ROW_CELLS * NODES,
     SCRATCH = TEZHUKOR_SCRATCH_CELLS * NODES,
-    TOKENS = TEZHUKOR_TOKENS_PER_NODE * NODES
+    TOKENS = TEZHUKOR_TOKENS_PER_NODE * NODES,
+    BYTES = TEZHUKOR_FILE_BYTES(NODES)
 };
 
 static uint16_t table[CELLS];
@@ -22,6 +23,7 @@ static uint16_t again[CELLS];
 
 int main(void) {
     uint16_t rows[ROWS], scratch[SCRATCH], tokens[TOKENS];
+    uint8_t saved[BYTES];
     uint32_t loaded = tezhukor_load(file, sizeof file, table, CELLS);
     if (TEZHUKOR_REFUSAL(loaded) != 0) {
         printf("refused %u\n", (unsigned)TEZHUKOR_REFUSAL(loaded));
@@ -39,6 +41,10 @@ int main(void) {
     uint32_t nodes = tezhukor_read(tokens, written, again, CELLS);
     int same = nodes == count && memcmp(table, again, 2 * cells) == 0;
     printf("read back %s\n", same ? "the same" : "another");
+    /* The file's nodes are numbered from the root on, so saving gives its own bytes. */
+    uint32_t bytes = tezhukor_save(context, count, table, cells, saved, BYTES);
+    printf("saved %u bytes, compared %u\n", (unsigned)bytes,
+           (unsigned)tezhukor_compare(file, sizeof file, saved, bytes));
     /* Without a buffer: told, and nothing followed. */
     printf("refused %u\n", (unsigned)tezhukor_decide(context, count, table, cells, NULL, 0, NULL, 0));
     printf("refused %u\n", (unsigned)TEZHUKOR_REFUSAL(tezhukor_load(NULL, 0, NULL, 0)));

@@ -45,7 +45,10 @@ extern "C" {
 #define TEZHUKOR_MOST_NODES 4096
 #define TEZHUKOR_MOST_TOKENS 24576
 
-/* The refusal in a reply of load, write and read; 0 if there is none. */
+/* Bytes that are enough for the tree file of so many nodes. */
+#define TEZHUKOR_FILE_BYTES(nodes) (3 * (2 + (size_t)TEZHUKOR_NODE_CELLS * (nodes)))
+
+/* The refusal in a reply of load, save, compare, write and read; 0 if there is none. */
 #define TEZHUKOR_REFUSAL(reply) ((uint16_t)((reply) >> 16))
 /* Without a refusal: the context and the count in a reply of load. */
 #define TEZHUKOR_CONTEXT(reply) ((uint16_t)((reply) / 8192))
@@ -56,6 +59,19 @@ extern "C" {
  * the count. */
 uint32_t tezhukor_load(const uint8_t *file, size_t file_length, uint16_t *table,
                        size_t table_length);
+
+/* Saves the tree of a table as a tree file, its nodes numbered from the root on, the
+ * first operand's before the second's: one file for one context and tree. Replies the
+ * refusal times 65,536 (3, 4, 6 to 11, then 12 for a buffer shorter than the file), or
+ * the number of bytes. */
+uint32_t tezhukor_save(uint16_t context, uint16_t count, const uint16_t *table,
+                       size_t table_length, uint8_t *file, size_t file_length);
+
+/* Compares two tree files: contexts, then nodes in turn, number by number. Replies the
+ * refusal times 65,536 (1 to 11 of the first, then of the second), or 0 where the
+ * first comes before the second, 1 where they are equal, 2 where it comes after. */
+uint32_t tezhukor_compare(const uint8_t *first, size_t first_length, const uint8_t *second,
+                          size_t second_length);
 
 /* Decides the rows of a table, five cells a node: pair (1 outer, plus 2 inner),
  * precedence, previous operator, next operator, flags; zeros for types and links.

@@ -31,6 +31,30 @@ pub fn load(file: &[u8], table: &mut [u16]) -> u32 {
     unsafe { library::tezhukor_load(file.as_ptr(), file.len(), table.as_mut_ptr(), table.len()) }
 }
 
+/// Saves the tree of a table as a tree file, its nodes numbered from the root on;
+/// [`file_bytes`](model::sizes::file_bytes) are enough. What is done is the number of
+/// bytes.
+pub fn save(context: u16, count: u16, table: &[u16], file: &mut [u8]) -> u32 {
+    // SAFETY: as above.
+    unsafe {
+        library::tezhukor_save(
+            context,
+            count,
+            table.as_ptr(),
+            table.len(),
+            file.as_mut_ptr(),
+            file.len(),
+        )
+    }
+}
+
+/// Compares two tree files. What is done is 0 where the first comes before the second,
+/// 1 where they are equal, 2 where it comes after.
+pub fn compare(first: &[u8], second: &[u8]) -> u32 {
+    // SAFETY: pointers and lengths are those of slices, which are only read.
+    unsafe { library::tezhukor_compare(first.as_ptr(), first.len(), second.as_ptr(), second.len()) }
+}
+
 /// Decides the rows of a table, [`ROW_CELLS`](model::sizes::ROW_CELLS) cells a node, with
 /// [`SCRATCH_CELLS`](model::sizes::SCRATCH_CELLS) of scratch a node. The reply is 0 or the
 /// refusal.

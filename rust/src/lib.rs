@@ -53,6 +53,7 @@ mod tree;
 #[doc(inline)]
 pub use model::{codes, forms, sizes};
 pub use refusal::Refusal;
+use std::cmp::Ordering;
 pub use tree::{Node, Row, Tree};
 
 /// The rows of a tree file, node 1 first.
@@ -79,6 +80,22 @@ pub fn rows(file: &[u8]) -> Result<Vec<Row>, Refusal> {
 /// ```
 pub fn tokens(file: &[u8]) -> Result<Vec<u16>, Refusal> {
     Tree::load(file)?.tokens()
+}
+
+/// How one tree file stands to another: contexts first, then nodes in turn, number by
+/// number. Equal are only files of equal bytes. A refusal is the first file's, or else
+/// the second's.
+///
+/// ```
+/// use std::cmp::Ordering::*;
+/// let (path, lit) = ([0, 1, 26, 0, 0, 0, 0], [0, 1, 20, 0, 0, 0, 0]);
+/// assert_eq!(tezhukor::cmp(&path, &lit), Ok(Greater));
+/// assert_eq!(tezhukor::cmp(&path, &path), Ok(Equal));
+/// assert_eq!(tezhukor::cmp(&[0, 0], &[]), Err(tezhukor::Refusal::Count));
+/// assert_eq!(tezhukor::cmp(&path, &[]), Err(tezhukor::Refusal::Header));
+/// ```
+pub fn cmp(first: &[u8], second: &[u8]) -> Result<Ordering, Refusal> {
+    Ok(boundary::done(boundary::compare(first, second))?.cmp(&1))
 }
 
 /// The tree file of a token list's reading.

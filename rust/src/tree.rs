@@ -1,7 +1,7 @@
 //! Accepted trees.
 
 use crate::{boundary, Refusal};
-use model::sizes::{MOST_CELLS, NODE_CELLS, ROW_CELLS, SCRATCH_CELLS, TOKENS_PER_NODE};
+use model::sizes::{file_bytes, MOST_CELLS, NODE_CELLS, ROW_CELLS, SCRATCH_CELLS, TOKENS_PER_NODE};
 use model::table;
 
 /// A node: its form ([`crate::forms`]), attributes, detail, and the numbers of its
@@ -152,8 +152,32 @@ impl Tree {
         Ok(tokens)
     }
 
-    /// The tree file.
+    /// The tree file: one for each context and tree, however its nodes are numbered
+    /// here. In the file they are numbered from the root on, the first operand's before
+    /// the second's.
     pub fn to_file(&self) -> Vec<u8> {
-        table::numbers([self.context, self.count()].iter().chain(&self.cells))
+        let mut file = vec![0; file_bytes(self.count().into())];
+        let reply = boundary::save(self.context, self.count(), &self.cells, &mut file);
+        // The table is accepted and the buffer long enough: nothing is refused.
+        file.truncate(boundary::done(reply).map_or(0, usize::from));
+        file
+    }
+
+    /// The tree with its nodes numbered as in its file: equal for trees that are equal
+    /// but for the numbering.
+    ///
+    /// ```
+    /// use tezhukor::Tree;
+    /// // a + b: its operands numbered in order, and the other way round.
+    /// let tree = Tree::load(&[0, 3, 5, 0, 0, 2, 3, 26, 0, 0, 0, 0, 20, 0, 0, 0, 0])?;
+    /// let other = Tree::load(&[0, 3, 5, 0, 0, 3, 2, 20, 0, 0, 0, 0, 26, 0, 0, 0, 0])?;
+    /// assert_ne!(tree, other);
+    /// assert_eq!(tree, other.canonical());
+    /// assert_eq!(tree.to_file(), other.to_file());
+    /// # Ok::<(), tezhukor::Refusal>(())
+    /// ```
+    pub fn canonical(&self) -> Tree {
+        // What is saved is accepted, with the same context.
+        Tree::load(&self.to_file()).unwrap_or_else(|_| self.clone())
     }
 }

@@ -22,6 +22,6 @@ fn example() {
     let _ = std::fs::remove_file(&program);
     assert!(output.status.success());
     let printed = String::from_utf8_lossy(&output.stdout);
-    let meant = "node 3 needs a pair\ntokens 32 1 35 32 1 32 36\nread back the same\nrefused 12\nrefused 2\n";
+    let meant = "node 3 needs a pair\ntokens 32 1 35 32 1 32 36\nread back the same\nsaved 27 bytes, compared 1\nrefused 12\nrefused 2\n";
     assert_eq!(printed, meant);
 }

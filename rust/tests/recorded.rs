@@ -4,6 +4,7 @@
 
 use model::lent::Lent;
 use model::recorded::{records, u16s, Record};
+use model::table;
 use tezhukor::sizes::{
     CONTEXT_UNIT, MOST_CELLS, NODE_CELLS, REFUSAL_UNIT, ROW_CELLS, SCRATCH_CELLS, TOKEN_CELLS,
 };
@@ -31,7 +32,8 @@ fn files() {
             let tree = Tree::load(&record.bytes);
             assert_eq!(tree.as_ref().err().map_or(0, |refusal| refusal.number()), record.refusal);
             if let Ok(tree) = tree {
-                assert_eq!(tree.to_file(), record.bytes);
+                let table = table::read(&record.bytes).expect("a tree file");
+                assert_eq!(tree.to_file(), table::write(&table.numbered()));
             }
         }
     }

@@ -217,6 +217,52 @@ fn refusals() {
     assert_eq!(printed(&["check", "-"], &block, 0), "accepted: 1 nodes, context 0, not plain\n");
 }
 
+/// One file for one tree: numbered otherwise, in another context, and another tree.
+#[test]
+fn archive() {
+    let sum = [0, 3, 5, 0, 0, 2, 3, 26, 0, 0, 0, 0, 20, 0, 0, 0, 0];
+    let turned = [0, 3, 5, 0, 0, 3, 2, 20, 0, 0, 0, 0, 26, 0, 0, 0, 0];
+    let statement = [&[1], &sum[1..]].concat();
+    assert_eq!(sheet(&["canonical", "-"], &turned).stdout, sum);
+    assert_eq!(sheet(&["canonical", "-"], &sum).stdout, sum);
+    let folder = Scratch::new("archive");
+    let inside = folder.0.join("inside");
+    std::fs::create_dir_all(&inside).expect("a folder");
+    let at = |name: &str| folder.0.join(name).to_str().expect("text").to_string();
+    for (name, bytes) in [
+        ("a", &sum[..]),
+        ("b", &turned),
+        ("c", &statement),
+        ("d", &[0, 1, 26, 0, 0, 0, 0]),
+        ("inside/a", &sum),
+    ] {
+        std::fs::write(at(name), bytes).expect("a file");
+    }
+    assert_eq!(printed(&["compare", &at("a"), &at("b")], b"", 0), "before\n");
+    assert_eq!(printed(&["compare", &at("b"), &at("a")], b"", 0), "after\n");
+    assert_eq!(printed(&["compare", &at("a"), &at("inside/a")], b"", 0), "equal\n");
+    assert_eq!(printed(&["compare", &at("c"), &at("d")], b"", 0), "after\n");
+    let same = format!("{}\n{}\n{}\n", at("a"), at("b"), at("inside/a"));
+    assert_eq!(printed(&["doubles", folder.name()], b"", 0), same);
+    assert_eq!(printed(&["doubles", &at("c"), &at("d")], b"", 0), "no doubles\n");
+    let two = format!("{}\n{}\n", at("a"), at("b"));
+    let again = format!("{two}\n{}\n{}\n", at("d"), at("d"));
+    assert_eq!(printed(&["doubles", &at("d"), &at("a"), &at("b"), &at("d")], b"", 0), again);
+    // Refused files are told, and the others listed.
+    std::fs::write(at("e"), [0, 1, 26]).expect("a file");
+    let output = sheet(&["doubles", folder.name(), "/nowhere/at/all"], b"");
+    assert_eq!(output.status.code(), Some(2));
+    assert_eq!(String::from_utf8_lossy(&output.stdout), same);
+    let message = String::from_utf8_lossy(&output.stderr).to_string();
+    assert!(message.contains(&format!("{}: refused (5)", at("e"))), "{message}");
+    assert!(message.contains("/nowhere/at/all"), "{message}");
+    let refused = printed(&["compare", &at("a"), &at("e")], b"", 1);
+    assert!(refused.starts_with(&format!("sheet: {}: refused (5)", at("e"))), "{refused}");
+    let first = printed(&["compare", &at("e"), "-"], b"", 1);
+    assert!(first.starts_with(&format!("sheet: {}: refused (5)", at("e"))), "{first}");
+    let _ = std::fs::remove_dir_all(&folder.0);
+}
+
 #[test]
 fn usage() {
     let usage = printed(&["help"], b"", 0);
@@ -225,6 +271,9 @@ fn usage() {
         &["rows"],
         &["sow", "x"],
         &["rows", "a", "b"],
+        &["canonical"],
+        &["compare", "a"],
+        &["doubles"],
         &["--names"],
         &["show", "--names"],
         &["rows", "--names", "a", "b"],

@@ -42,5 +42,14 @@ pub const REFUSAL_UNIT: u32 = 65_536;
 /// The reply to a file that is loaded is its context times this, and the count.
 pub const CONTEXT_UNIT: u16 = 8_192;
 
+/// The most bytes of a number in a tree file.
+pub const NUMBER_BYTES: usize = 3;
+
+/// Bytes that are enough for the tree file of so many nodes: context, count, and the
+/// numbers of each node.
+pub const fn file_bytes(nodes: usize) -> usize {
+    NUMBER_BYTES * (2 + NODE_CELLS * nodes)
+}
+
 /// Cells of the largest table.
 pub const MOST_CELLS: usize = NODE_CELLS * MOST_NODES;

@@ -2,6 +2,7 @@
 
 use crate::forms::{self, Class};
 use crate::sizes::{LAST_CONTEXT, MOST_FILE_BYTES, MOST_NODES, NODE_CELLS};
+use std::cmp::Ordering;
 
 /// Where the cells of a node stand.
 pub const FORM: usize = 0;
@@ -19,6 +20,29 @@ pub struct NodeTable {
 }
 
 impl NodeTable {
+    /// The tree with its nodes numbered from the root on: parents before operands, and
+    /// the first operand's nodes before the second's.
+    pub fn numbered(&self) -> NodeTable {
+        let mut numbers = vec![0; usize::from(self.count) + 1];
+        let (mut met, mut waiting) = (Vec::new(), vec![1]);
+        while let Some(number) = waiting.pop() {
+            let node = node(&self.cells, number);
+            met.push(node);
+            numbers[usize::from(number)] = met.len() as u16;
+            waiting.extend(node.operands.iter().rev().filter(|&&operand| operand != 0));
+        }
+        let cells = met.iter().flat_map(|node| {
+            let [first, second] = node.operands.map(|operand| numbers[usize::from(operand)]);
+            [node.form, node.attributes, node.detail, first, second]
+        });
+        NodeTable { context: self.context, count: self.count, cells: cells.collect() }
+    }
+
+    /// How the file of this table stands to another's: contexts, then number by number.
+    pub fn cmp(&self, other: &NodeTable) -> Ordering {
+        self.context.cmp(&other.context).then_with(|| self.cells.cmp(&other.cells))
+    }
+
     /// The tree in so many parentheses.
     pub fn in_parens(&self, pairs: u16) -> NodeTable {
         let mut cells: Vec<u16> =

@@ -1,4 +1,4 @@
-//! The exports of the static libraries: of `answers` the first four, of `asked` the
+//! The exports of the static libraries: of `answers` the first six, of `asked` the
 //! others. They are declared here only.
 
 extern "C" {
@@ -7,6 +7,22 @@ extern "C" {
         file_length: usize,
         table: *mut u16,
         table_length: usize,
+    ) -> u32;
+
+    pub fn tezhukor_save(
+        context: u16,
+        count: u16,
+        table: *const u16,
+        table_length: usize,
+        file: *mut u8,
+        file_length: usize,
+    ) -> u32;
+
+    pub fn tezhukor_compare(
+        first: *const u8,
+        first_length: usize,
+        second: *const u8,
+        second_length: usize,
     ) -> u32;
 
     pub fn tezhukor_decide(

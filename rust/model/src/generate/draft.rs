@@ -3,7 +3,7 @@
 use super::dice::Dice;
 use crate::forms::*;
 use crate::sizes::NODE_CELLS;
-use crate::table::NodeTable;
+use crate::table::{node, Node, NodeTable};
 
 /// Form, attributes and detail of a node.
 #[derive(Copy, Clone, PartialEq, Eq, Debug)]
@@ -72,6 +72,17 @@ impl Draft {
     /// A draft with its root.
     pub fn new(root: Label) -> Self {
         Draft { nodes: vec![DraftNode { label: root, operands: [None, None] }] }
+    }
+
+    /// The draft of an accepted table.
+    pub fn of(table: &NodeTable) -> Self {
+        let operand = |number: u16| usize::from(number).checked_sub(1);
+        let nodes = (1..=table.count).map(|number| {
+            let Node { form, attributes, detail, operands } = node(&table.cells, number);
+            let label = Label { form, attributes, detail };
+            DraftNode { label, operands: operands.map(operand) }
+        });
+        Draft { nodes: nodes.collect() }
     }
 
     /// Puts a node into a place and gives its position.

@@ -2,7 +2,8 @@
 
 use crate::answer::{words, Answer};
 use crate::names::Names;
-use crate::{blame, lexer, locate, show, why, USAGE};
+use crate::{blame, doubles, lexer, locate, show, why, USAGE};
+use std::cmp::Ordering;
 use std::ffi::{OsStr, OsString};
 use std::fmt::Write;
 use std::io::{IsTerminal, Read};
@@ -29,6 +30,9 @@ pub fn run(arguments: &[OsString]) -> Result<Answer, Answer> {
         (Some("rows"), [file], None) => rows(file),
         (Some("tokens"), [file], None) => tokens(file),
         (Some("check"), [file], None) => check(file),
+        (Some("canonical"), [file], None) => Ok(Answer::done(load(file)?.to_file())),
+        (Some("compare"), [first, second], None) => compare(first, second),
+        (Some("doubles"), [_, ..], None) => doubles::listed(rest),
         (Some("help" | "--help" | "-h"), _, None) => Ok(Answer::done(USAGE)),
         _ => Err(Answer::usage()),
     }
@@ -117,11 +121,38 @@ fn check(file: &OsStr) -> Result<Answer, Answer> {
     )))
 }
 
+/// How the first file stands to the second.
+fn compare(first: &OsStr, second: &OsStr) -> Result<Answer, Answer> {
+    let (one, two) = (tree_bytes(first)?, tree_bytes(second)?);
+    let order = tezhukor::cmp(&one, &two).map_err(|refusal| {
+        let (file, bytes) = match Tree::load(&one) {
+            Err(_) => (first, &one),
+            Ok(_) => (second, &two),
+        };
+        let place = blame::place(refusal, bytes);
+        Answer::refused(format!("{}: {}", file.to_string_lossy(), words(refusal, &place)))
+    })?;
+    Ok(Answer::done(match order {
+        Ordering::Less => "before\n",
+        Ordering::Equal => "equal\n",
+        Ordering::Greater => "after\n",
+    }))
+}
+
 /// Loads a tree file, or says what is wrong with it and where.
 fn load(file: &OsStr) -> Result<Tree, Answer> {
-    let bytes = bytes_of(file, FILE_BYTES)?;
-    Tree::load(&bytes)
-        .map_err(|refusal| Answer::refused(words(refusal, &blame::place(refusal, &bytes))))
+    let bytes = tree_bytes(file)?;
+    loaded(&bytes).map_err(Answer::refused)
+}
+
+/// The tree of a file's bytes, or what is wrong with them and where.
+pub fn loaded(bytes: &[u8]) -> Result<Tree, String> {
+    Tree::load(bytes).map_err(|refusal| words(refusal, &blame::place(refusal, bytes)))
+}
+
+/// The bytes of a tree file, or of the beginning of one that is too long.
+pub fn tree_bytes(file: &OsStr) -> Result<Vec<u8>, Answer> {
+    bytes_of(file, FILE_BYTES)
 }
 
 /// At most so many bytes of a file, or of standard input.

@@ -3,6 +3,7 @@
 mod answer;
 mod blame;
 mod commands;
+mod doubles;
 mod lexer;
 mod locate;
 mod names;
@@ -25,6 +26,13 @@ sheet: where a printed Rust expression needs parentheses
                                      precedence, previous and next operator, flags
   sheet tokens FILE                  the tokens of a plain tree
   sheet check FILE                   accepted, or what is wrong and at which node
+  sheet canonical FILE               the one file of its context and tree, whatever
+                                     numbers the nodes have, on standard output
+  sheet compare FILE FILE            whether the first comes before the second, after
+                                     it, or is equal: contexts, then number by number
+  sheet doubles FILE..               the files that hold the same tree in the same
+                                     context, a line each, with an empty line between
+                                     trees; a folder stands for the files in it
 
 FILE is a tree file; - is standard input. Tree files hold no names and literals:
 `read --names OUT` writes them to OUT, a line each, in order of occurrence, and
