@@ -1,11 +1,13 @@
 -- Laws of bytes put into a buffer. Assumes nothing.
 use mathlib.Core.Path.{_≡_, refl, sym, _∙_}
+use mathlib.Core.Bool.{true, false}
 use mathlib.Core.List.{List, [], _∷_, _++_}
 use Prim.Native.Nat.{ℕ, suc, _+_, _*_, _≤_, _<_}
 use native.Mathlib.Omega.{arith}
 use native.Mathlib.Numerals.{towards-suc}
 use lib.ListN.{length, getD, set, take, length-append, length-set}
-use borrow.Author.Tests.{lt-ltb, le-ltb}
+use lib.Dec.{ltb}
+use borrow.Author.Tests.{ltb-false, le-ltb}
 use Rattle.laws.specs.Lists.{over}
 use Rattle.laws.proofs.Choice.{pick-true, pick-false}
 use Rattle.laws.proofs.Lists.{sets-append, sets-over}
@@ -56,6 +58,10 @@ module _ (context count : ℕ) (numbers : List ℕ) where
   pub whole-most : length whole ≤ 6 + 3 * length numbers
   whole-most = let m = all-most (context ∷ count ∷ numbers) in omega arith
 
+  -- a buffer with room for it has room for its parts
+  pub room-first : (lent : ℕ) → ltb lent (length whole) ≡ false → length whole ≤ lent
+  room-first lent e = ltb-false lent (length whole) e
+
   -- one after the other
   pub put-whole : {before one two after : List ℕ} {second body next : ℕ} → Put before 0 (bytesOf context) one second → Put one second (bytesOf count) two body → Put two body (allBytes numbers) after next
       → length whole ≤ length before → after ≡ over whole before
@@ -64,9 +70,9 @@ module _ (context count : ℕ) (numbers : List ℕ) where
 
 -- what is answered and stored
 module _ (bytes buffer : List ℕ) where
-  pub no-room : length buffer < length bytes → (Refused 12 ≡ stored bytes (length buffer)) × (buffer ≡ storedAfter bytes buffer)
+  pub no-room : ltb (length buffer) (length bytes) ≡ true → (Refused 12 ≡ stored bytes (length buffer)) × (buffer ≡ storedAfter bytes buffer)
   unfolding stored storedAfter
-  no-room h = (sym (pick-true _ _ (lt-ltb _ _ h)), sym (pick-true _ _ (lt-ltb _ _ h)))
+  no-room e = (sym (pick-true _ _ e), sym (pick-true _ _ e))
 
   pub has-room : length bytes ≤ length buffer → (n : ℕ) → n ≡ length bytes → (after : List ℕ) → after ≡ over bytes buffer → (Bytes n ≡ stored bytes (length buffer)) × (after ≡ storedAfter bytes buffer)
   unfolding stored storedAfter

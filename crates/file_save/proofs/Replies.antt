@@ -2,22 +2,23 @@
 use mathlib.Core.Path.{_≡_, refl, sym, _∙_}
 use mathlib.Core.Bool.{Bool, true, false}
 use mathlib.Core.List.{List, [], _∷_}
-use Prim.Native.Nat.{ℕ, _*_, _≤_}
+use Prim.Native.Nat.{ℕ, _*_, _≤_, _<_}
 use native.Mathlib.Omega.{arith}
 use lib.Dec.{ltb}
-use lib.ListN.{length, take}
+use lib.ListN.{length, take, replicate, length-replicate}
 use lib.Seq.{take-at, length-take-le}
-use borrow.Author.Tests.{eq-eqb, ne-eqb, le-ltb}
+use borrow.Author.Tests.{eq-eqb, ne-eqb}
 use Rattle.laws.specs.Lists.{over}
-use Rattle.laws.proofs.Choice.{pick-true, pick-false, or-next}
+use Rattle.laws.proofs.Choice.{pick-true, pick-false}
 use Rattle.laws.proofs.Lists.{length-over}
-use Rattle.tree.specs.Trees.{Tree, treeAt, levels}
+use Rattle.tree.specs.Trees.{Tree, treeAt}
 use Rattle.tree_rules.specs.Refusals.{refusal, refuse, firstOf, Accepted}
 use Rattle.tree_rules.proofs.First.{stop, skip, no-more}
-use Rattle.tree_rules.proofs.Accepted.{count-bounds, levels-bound}
-use Rattle.tree_numbering.specs.Numbered.{size, numbered, tooLarge}
-use Rattle.tree_numbering.specs.Renumbering.{tooShort, renumberedAfter}
+use Rattle.tree_rules.proofs.Accepted.{count-bounds}
+use Rattle.tree_numbering.specs.Numbered.{size, numbered}
+use Rattle.tree_numbering.specs.Accepting.{numberingRefusal, numberedAfter}
 use Rattle.tree_numbering.proofs.Holds.{length-numbered}
+use Rattle.tree_numbering.proofs.Accepting.{is-accepted, is-over, is-refusal}
 use Rattle.tree_numbering.proofs.Sizes.{size-accepted}
 use Rattle.file_bytes.specs.Bytes.{allBytes}
 use Rattle.file_save.specs.declared.Saved.{Saved}
@@ -33,7 +34,7 @@ module _ (context count : ℕ) (cells : List ℕ) where
     unfolding saveRefusal
     refuses = rw (← is) (pick-false _ _ (ne-eqb n 0 some))
 
-    pub refused-table : (Refused n ≡ saved context count cells (length buffer)) × (buffer ≡ savedAfter context count cells buffer)
+    refused-table : (Refused n ≡ saved context count cells (length buffer)) × (buffer ≡ savedAfter context count cells buffer)
     unfolding saved savedAfter
     refused-table = rw refuses (sym (pick-false _ _ (ne-eqb n 0 some)), sym (pick-false _ _ (ne-eqb n 0 some)))
 
@@ -75,38 +76,61 @@ module _ (context count : ℕ) (cells : List ℕ) where
     is-size : size tree ≡ count
     is-size = size-accepted context count cells ok
 
-    not-large : tooLarge tree ≡ false
-    unfolding tooLarge
-    not-large =
-        let k = count-bounds context count cells ok in
-        let s = is-size in
-        or-next _ (le-ltb 4096 (size tree) (omega arith)) ∙ le-ltb 128 (levels tree) (levels-bound context count cells ok)
-
-    module _ (own after : List ℕ) (room : 5 * count ≤ length own) (is : after ≡ renumberedAfter tree own) where
-      are-cells : after ≡ over (numbered tree) own
-      unfolding renumberedAfter tooShort
-      are-cells =
-          let s = is-size in
-          is ∙ pick-false _ _ (or-next _ not-large ∙ le-ltb (length own) (5 * size tree) (omega arith))
-
+    module _ (own after : List ℕ) (room : 5 * count ≤ length own) (are-cells : after ≡ over (numbered tree) own) where
       long : length (numbered tree) ≡ 5 * count
       long = let s = is-size in length-numbered tree ∙ omega arith
 
-      pub own-room : 5 * count ≤ length after
+      own-room : 5 * count ≤ length after
       own-room = let l = long in rw (are-cells, length-over (numbered tree) own (omega arith)) room
 
-      pub part-length : length (take (5 * count) after) ≡ 5 * count
+      part-length : length (take (5 * count) after) ≡ 5 * count
       part-length = length-take-le (5 * count) after own-room
 
-      pub part-few : length (take (5 * count) after) ≤ 20480
+      part-few : length (take (5 * count) after) ≤ 20480
       part-few = let l = part-length in let k = count-bounds context count cells ok in omega arith
 
       is-file : allBytes (context ∷ count ∷ take (5 * count) after) ≡ fileOf context count cells
       unfolding file over
       is-file = rw (are-cells, take-at (numbered tree) _ (5 * count) long, is-size)
 
-      pub saved-by : (buffer last : List ℕ) (r : Saved)
+      saved-by : (buffer last : List ℕ) (r : Saved)
           → (r ≡ stored (allBytes (context ∷ count ∷ take (5 * count) after)) (length buffer)) × (last ≡ storedAfter (allBytes (context ∷ count ∷ take (5 * count) after)) buffer)
           → (r ≡ saved context count cells (length buffer)) × (last ≡ savedAfter context count cells buffer)
       saved-by buffer last r e =
           (e .0 ∙ rw is-file (sym (saved-is (length buffer))), e .1 ∙ rw is-file (sym (after-is buffer)))
+
+-- ---- an array of our own with room for every accepted table
+
+module _ (context count : ℕ) (cells own : List ℕ) (room : Accepted context count cells → 5 * count ≤ length own) where
+  pub number-refused : (buffer : List ℕ) (n : ℕ) → n ≡ numberingRefusal context count cells (length own) → (n ≡ 0 → ⊥)
+      → (Refused n ≡ saved context count cells (length buffer)) × (buffer ≡ savedAfter context count cells buffer)
+  number-refused buffer n e h = refused-table context count cells buffer n (is-refusal context count cells own room n e h) h
+
+  module _ (done : 0 ≡ numberingRefusal context count cells (length own)) (after : List ℕ) (is : after ≡ numberedAfter context count cells own) where
+    ok : Accepted context count cells
+    ok = is-accepted context count cells own done
+
+    over-own : after ≡ over (numbered (treeAt cells count 1)) own
+    over-own = is ∙ is-over context count cells own done
+
+    pub number-room : 5 * count ≤ length after
+    number-room = own-room context count cells ok own after (room ok) over-own
+
+    pub number-length : 5 * count ≡ length (take (5 * count) after)
+    number-length = sym (part-length context count cells ok own after (room ok) over-own)
+
+    pub number-few : length (take (5 * count) after) ≤ 20480
+    number-few = part-few context count cells ok own after (room ok) over-own
+
+    pub number-saved : (buffer last : List ℕ) (r : Saved)
+        → (r ≡ stored (allBytes (context ∷ count ∷ take (5 * count) after)) (length buffer)) × (last ≡ storedAfter (allBytes (context ∷ count ∷ take (5 * count) after)) buffer)
+        → (r ≡ saved context count cells (length buffer)) × (last ≡ savedAfter context count cells buffer)
+    number-saved buffer last r e = saved-by context count cells ok own after (room ok) over-own buffer last r e
+
+-- fewer than 64 nodes in 320 cells
+pub small-room : (context count : ℕ) (cells : List ℕ) → count < 64 → Accepted context count cells → 5 * count ≤ length (replicate {A = ℕ} 320 0)
+small-room context count cells h ok = rw (length-replicate {A = ℕ} 320 0) (omega arith)
+
+-- and any in 20,480
+pub large-room : (context count : ℕ) (cells : List ℕ) → Accepted context count cells → 5 * count ≤ length (replicate {A = ℕ} 20480 0)
+large-room context count cells ok = let k = count-bounds context count cells ok in rw (length-replicate {A = ℕ} 20480 0) (omega arith)

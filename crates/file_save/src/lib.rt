@@ -1,11 +1,10 @@
 // Trees as tree files: one file for one tree.
-use tree_numbering::renumber;
-use tree_one_pass::check;
+use tree_numbering::accepted::number;
 ghost use mathlib.Core.Path.{_≡_};
 ghost use mathlib.Core.List.{_∷_};
 ghost use Prim.Native.Nat.{_+_, _*_, _≤_, _<_};
+ghost use lib.Dec.{ltb};
 ghost use lib.ListN.{length};
-ghost use Rattle.tree_rules.specs.Refusals.{Accepted};
 ghost use Rattle.file_bytes.specs.Bytes.{bytesOf, allBytes};
 ghost use Rattle.file_save.specs.Saves.{saved, savedAfter};
 ghost use Rattle.file_save.specs.Stores.{Put, stored, storedAfter};
@@ -82,42 +81,58 @@ fn put_all(file: &mut [u8], from: usize, numbers: &[u16]) -> usize
 
 // ---- files
 
+// Whether so many bytes are too few for a context, a count and the numbers of the nodes. They are counted only where three bytes a number might be too many.
+fn is_short(context: u16, count: u16, numbers: &[u16], lent: usize) -> bool
+    requires { ⌜ length (now numbers) ≤ 20480 ⌝ }
+    ensures { λ r. ⌜ r ≡ ltb lent (length (allBytes (context ∷ count ∷ now (numbers .entry)))) ⌝ }
+{
+    if 6 + 3 * numbers.len() <= lent {
+        return false;
+    }
+    let bytes = long(context) + long(count) + all_long(numbers);
+    lent < bytes
+}
+
 // A context, a count and the numbers of the nodes as a file, where the buffer has room for it. Nothing is stored before that is known.
 fn store(context: u16, count: u16, numbers: &[u16], file: &mut [u8]) -> Saved
     requires { ⌜ length (now numbers) ≤ 20480 ⌝ }
     ensures { λ r. ⌜ r ≡ stored (allBytes (context ∷ count ∷ now (numbers .entry))) (length (now (file .entry))) ⌝ }
     ensures { λ r. ⌜ now (file .exit) ≡ storedAfter (allBytes (context ∷ count ∷ now (numbers .entry))) (now (file .entry)) ⌝ }
 {
-    let bytes = long(context) + long(count) + all_long(numbers);
-    if file.len() < bytes {
+    if is_short(context, count, numbers, file.len()) {
         return Saved::Refused(12);
     }
     let second = put(file, 0, context);
     let body = put(file, second, count);
-    put_all(file, body, numbers);
-    Saved::Bytes(bytes as u16)
+    let end = put_all(file, body, numbers);
+    Saved::Bytes(end as u16)
 }
 
 // A table of fewer than 64 nodes, with an array that is quickly made for their numbering.
 fn save_small(context: u16, count: u16, table: &[u16], file: &mut [u8]) -> Saved
-    requires { ⌜ Accepted context count (now table) × (count < 64) ⌝ }
+    requires { ⌜ count < 64 ⌝ }
     ensures { λ r. ⌜ r ≡ saved context count (now (table .entry)) (length (now (file .entry))) ⌝ }
     ensures { λ r. ⌜ now (file .exit) ≡ savedAfter context count (now (table .entry)) (now (file .entry)) ⌝ }
 {
     let mut own = [0u16; 320];
-    renumber(table, count, 1, &mut own);
+    let refused = number(context, count, table, &mut own);
+    if refused != 0 {
+        return Saved::Refused(refused);
+    }
     let cells = 5 * (count as usize);
     store(context, count, &own[..cells], file)
 }
 
-// The same for up to 4,096 nodes.
+// The same for any count.
 fn save_large(context: u16, count: u16, table: &[u16], file: &mut [u8]) -> Saved
-    requires { ⌜ Accepted context count (now table) ⌝ }
     ensures { λ r. ⌜ r ≡ saved context count (now (table .entry)) (length (now (file .entry))) ⌝ }
     ensures { λ r. ⌜ now (file .exit) ≡ savedAfter context count (now (table .entry)) (now (file .entry)) ⌝ }
 {
     let mut own = [0u16; 20480];
-    renumber(table, count, 1, &mut own);
+    let refused = number(context, count, table, &mut own);
+    if refused != 0 {
+        return Saved::Refused(refused);
+    }
     let cells = 5 * (count as usize);
     store(context, count, &own[..cells], file)
 }
@@ -127,10 +142,6 @@ pub fn save(context: u16, count: u16, table: &[u16], file: &mut [u8]) -> Saved
     ensures reply { λ r. ⌜ r ≡ saved context count (now (table .entry)) (length (now (file .entry))) ⌝ }
     ensures file { λ r. ⌜ now (file .exit) ≡ savedAfter context count (now (table .entry)) (now (file .entry)) ⌝ }
 {
-    let refused = check(context, count, table);
-    if refused != 0 {
-        return Saved::Refused(refused);
-    }
     if count < 64 {
         return save_small(context, count, table, file);
     }

@@ -3,3 +3,4 @@ pub mod Holds
 pub mod Stores
 pub mod Nodes
 pub mod Replies
+pub mod Accepting

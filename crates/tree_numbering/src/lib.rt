@@ -1,4 +1,6 @@
 // Trees numbered anew.
+pub mod accepted; // accepted.rt: the trees of accepted tables
+
 use tree::columns;
 use tree::offsets;
 use tree::sizes;

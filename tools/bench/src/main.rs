@@ -4,6 +4,7 @@
 //!     cargo run --release                         nanoseconds a node
 //!     cargo run --release -- turns                the same, with cold trees
 //!     cargo run --release -- instructions         instructions a node, with valgrind
+//!     cargo run --release -- files                load, save and compare (files.rs)
 //!     cargo run --release -- nests [FOLDER]       nests of 4 to 126 levels
 //!     cargo run --release -- slowest [FOLDER]     the slowest trees that a search finds
 //!     cargo run --release -- reads FILE..         reads of the table a node, with valgrind
@@ -41,6 +42,7 @@
 //! the rounds' ratios count.
 
 mod clock;
+mod files;
 mod nests;
 mod reads;
 mod sets;
@@ -62,6 +64,7 @@ fn main() -> ExitCode {
         [] => time_all(GROUP_NODES),
         ["turns"] => time_all(u64::MAX),
         ["instructions"] => count_all(),
+        ["files"] => files::time_files(),
         ["nests"] => nests::time_nests(None),
         ["nests", folder] => nests::time_nests(Some(folder)),
         ["slowest"] => nests::search_slowest(None),
@@ -85,7 +88,7 @@ fn main() -> ExitCode {
 }
 
 fn usage() -> ExitCode {
-    eprintln!("usage: bench [turns | instructions | nests [FOLDER] | slowest [FOLDER] | reads FILE.. | run SET SIDE TIMES], sets and sides from 0 on");
+    eprintln!("usage: bench [turns | instructions | files | nests [FOLDER] | slowest [FOLDER] | reads FILE.. | run SET SIDE TIMES], sets and sides from 0 on");
     ExitCode::FAILURE
 }
 

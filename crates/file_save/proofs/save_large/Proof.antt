@@ -1,53 +1,48 @@
 -- `file_save::save_large` meets its contract. Assumes nothing.
-use mathlib.Core.Path.{sym}
-use mathlib.Core.List.{List}
-use Prim.Native.Nat.{ℕ, _*_, _≤_}
-use native.Mathlib.Omega.{arith}
-use lib.ListN.{length, replicate, length-replicate}
-use Rattle.tree_rules.specs.Refusals.{Accepted}
-use Rattle.tree_rules.proofs.Accepted.{count-bounds}
-use Rattle.file_save.proofs.Replies.{own-room, part-length, part-few, saved-by}
+use mathlib.Core.Path.{sym, _∙_}
+use lib.ListN.{replicate}
+use Rattle.file_save.proofs.Replies.{number-refused, number-room, number-length, number-few, number-saved, large-room}
 use borrow.Author.Needs.{needs}
 use Rattle.file_save.proofs.save_large.Statement.{statement}
 use Rattle.file_save.proofs.save_large.Tie as tie
 
--- the array has room for the nodes of an accepted table
-room : (context count : ℕ) (cells : List ℕ) → Accepted context count cells → 5 * count ≤ length (replicate {A = ℕ} 20480 0)
-room context count cells ok = let k = count-bounds context count cells ok in rw (length-replicate {A = ℕ} 20480 0) (omega arith)
+slice-aggregate-number : tie.Need-slice-aggregate-number
+slice-aggregate-number c = search needs
 
-slice-aggregate-renumber : tie.Need-slice-aggregate-renumber
-slice-aggregate-renumber c = search needs
+number-requires : tie.Need-number-requires
+number-requires c κs = search needs
 
-renumber-requires : tie.Need-renumber-requires
-renumber-requires c κs = search needs
+returns : tie.Need-returns
+returns c = number-refused _ _ _ (replicate 20480 0) (large-room _ _ _) _ _ (c .before .before .number .ensures .0) (c .if1 .taken)
 
 mul-cells : tie.Need-mul-cells
 mul-cells c = search needs
 
 array-share-prefix-own : tie.Need-array-share-prefix-own
-array-share-prefix-own c = own-room _ _ _ (c .before .before .before .before .before .pre) _ _ (room _ _ _ (c .before .before .before .before .before .pre)) (c .before .renumber .ensures .1)
+array-share-prefix-own c = number-room _ _ _ _ (large-room _ _ _) (sym (c .if1 .left) ∙ c .before .before .number .ensures .0) _ (c .before .before .number .ensures .1)
 
 slice-aggregate-store : tie.Need-slice-aggregate-store
-slice-aggregate-store c = sym (part-length _ _ _ (c .before .before .before .before .before .before .pre) _ _ (room _ _ _ (c .before .before .before .before .before .before .pre)) (c .before .before .renumber .ensures .1))
+slice-aggregate-store c = number-length _ _ _ _ (large-room _ _ _) (sym (c .before .if1 .left) ∙ c .before .before .before .number .ensures .0) _ (c .before .before .before .number .ensures .1)
 
 store-requires : tie.Need-store-requires
-store-requires c κs = part-few _ _ _ (c .before .before .before .before .before .before .before .pre) _ _ (room _ _ _ (c .before .before .before .before .before .before .before .pre)) (c .before .before .before .renumber .ensures .1)
+store-requires c κs = number-few _ _ _ _ (large-room _ _ _) (sym (c .before .before .if1 .left) ∙ c .before .before .before .before .number .ensures .0) _ (c .before .before .before .before .number .ensures .1)
 
 same-length : tie.Need-same-length
 same-length c = search needs
 
-returns : tie.Need-returns
-returns c = saved-by _ _ _ (c .before .before .before .before .before .before .before .before .before .before .pre) _ _ (room _ _ _ (c .before .before .before .before .before .before .before .before .before .before .pre)) (c .before .before .before .before .before .before .renumber .ensures .1) _ _ _ (c .before .before .store .ensures)
+returns-2 : tie.Need-returns-2
+returns-2 c = number-saved _ _ _ _ (large-room _ _ _) (sym (c .before .before .before .before .before .if1 .left) ∙ c .before .before .before .before .before .before .before .number .ensures .0) _ (c .before .before .before .before .before .before .before .number .ensures .1) _ _ _ (c .before .before .store .ensures)
 
 pub save-large-spec : {M : Type 1} → statement M
 save-large-spec =
     tie.close
     (tie.spec
-    slice-aggregate-renumber
-    renumber-requires
+    slice-aggregate-number
+    number-requires
+    returns
     mul-cells
     array-share-prefix-own
     slice-aggregate-store
     store-requires
     same-length
-    returns)
+    returns-2)
