@@ -7,6 +7,7 @@ use native.Mathlib.Omega.{arith}
 use lib.Dec.{ltb}
 use lib.ListN.{length, getD}
 use borrow.Author.Tests.{ltb-false}
+use Rattle.tree.specs.Sizes.{nodeCells}
 use Rattle.laws.proofs.Choice.{or-false, true-not-false}
 use Rattle.tree_rules.proofs.First.{passed}
 use Rattle.file_numbers.specs.Numbers.{followed, restOf}
@@ -66,12 +67,12 @@ module _ (file : List ℕ) (lent : ℕ) (ok : fileRefusal file lent ≡ 0) (smal
       let l = numbers-length 2 file (valuesIn (header file)) (bytesAfter (header file)) e in
       e ∙ ap (λ (vs : List ℕ). numbers vs (bytesAfter (header file))) (two-values (valuesIn (header file)) l)
 
-  body-is : numbersOf (5 * countIn file) (bytesAfter (header file)) ≡ numbers (cellsIn file) []
+  body-is : numbersOf (nodeCells * countIn file) (bytesAfter (header file)) ≡ numbers (cellsIn file) []
   unfolding body cellsIn
   body-is = formed-is (body file) (passes .formed) ∙ ap (numbers (cellsIn file)) (passes .ended)
 
   pub whole-file : file ≡ allBytes (contextIn file ∷ countIn file ∷ cellsIn file)
   whole-file =
       let h = only-numbers 2 file _ _ small header-is in
-      let b = only-numbers (5 * countIn file) (bytesAfter (header file)) _ _ (below-numbers 2 file _ _ small header-is) body-is in
+      let b = only-numbers (nodeCells * countIn file) (bytesAfter (header file)) _ _ (below-numbers 2 file _ _ small header-is) body-is in
       h ∙ ap (λ (r : List ℕ). allBytes (contextIn file ∷ countIn file ∷ []) ++ r) (b ∙ append-nil (allBytes (cellsIn file))) ∙ sym (all-append (contextIn file ∷ countIn file ∷ []) (cellsIn file))

@@ -7,6 +7,7 @@ use native.Mathlib.Omega.{arith}
 use lib.Dec.{eqb, ltb}
 use lib.ListN.{length}
 use borrow.Author.Tests.{eq-eqb, ne-eqb, ltb-false, lt-ltb, le-ltb}
+use Rattle.tree.specs.Sizes.{nodeCells, mostFileBytes}
 use Rattle.laws.specs.Choice.{pick}
 use Rattle.laws.proofs.Choice.{pick-true, pick-false, or-false}
 use Rattle.tree_rules.proofs.First.{passed}
@@ -44,7 +45,7 @@ nothing-refused file context count e = sym (are-header file mostCells context co
 
 module _ (file : List ℕ) (ok : checksOf file ≡ 0) where
   record Passes : Type 0 where
-    short : length file ≤ 65536
+    short : length file ≤ mostFileBytes
     headed : Formed (header file)
     formed : Formed (body file)
 
@@ -56,7 +57,7 @@ module _ (file : List ℕ) (ok : checksOf file ≡ 0) where
       let r3 = passed 3 _ _ (omega arith) (r2 .1) in
       let r4 = passed 4 _ _ (omega arith) (r3 .1) in
       let r5 = passed 5 _ _ (omega arith) (r4 .1) in
-      record { short = ltb-false 65536 (length file) (r1 .0); headed = r2 .0; formed = or-false (isBroken (body file)) _ (r5 .0) .0 }
+      record { short = ltb-false mostFileBytes (length file) (r1 .0); headed = r2 .0; formed = or-false (isBroken (body file)) _ (r5 .0) .0 }
 
   is-run : Formed (run file 0 2)
   unfolding header
@@ -78,10 +79,10 @@ module _ (file : List ℕ) (ok : checksOf file ≡ 0) where
         record { is-context = sym (b .is-context); is-count = sym (b .is-count); is-body = b .is-body }
 
   -- the nodes' numbers, from their place on
-  pub nodes-formed : (h : Head) → HeadOf file h → Formed (run file (h .nodes) (5 * h .count))
+  pub nodes-formed : (h : Head) → HeadOf file h → Formed (run file (h .nodes) (nodeCells * h .count))
   nodes-formed h e = rw (e .is-body) at (passes .formed)
 
-  pub nodes-are : (h : Head) → HeadOf file h → cellsIn file ≡ valuesIn (run file (h .nodes) (5 * h .count))
+  pub nodes-are : (h : Head) → HeadOf file h → cellsIn file ≡ valuesIn (run file (h .nodes) (nodeCells * h .count))
   unfolding cellsIn
   nodes-are h e = rw (e .is-body)
 
@@ -99,7 +100,7 @@ module _ (first second : List ℕ) (one two : Head) (p : HeadOf first one) (q : 
   context-after h = sym (by-contexts ∙ pick-false _ _ (le-ltb (one .context) (two .context) (omega arith)) ∙ pick-true _ _ (lt-ltb (two .context) (one .context) h))
 
   pub by-nodes : checksOf first ≡ 0 → checksOf second ≡ 0 → two .context ≤ one .context → one .context ≤ two .context → (r : Order)
-      → r ≡ inOrder (valuesIn (run first (one .nodes) (5 * one .count))) (valuesIn (run second (two .nodes) (5 * two .count)))
+      → r ≡ inOrder (valuesIn (run first (one .nodes) (nodeCells * one .count))) (valuesIn (run second (two .nodes) (nodeCells * two .count)))
       → r ≡ inOrder (keyOf first) (keyOf second)
   by-nodes ok fine h j r e =
       e

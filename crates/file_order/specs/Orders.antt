@@ -1,7 +1,8 @@
 -- Document 02, Paper 2: the order on tree files, and what comparing two of them answers.
 use mathlib.Core.List.{List, [], _∷_}
-use Prim.Native.Nat.{ℕ}
+use Prim.Native.Nat.{ℕ, _*_}
 use lib.Dec.{eqb, ltb}
+use Rattle.tree.specs.Sizes.{nodeCells, mostNodes}
 use Rattle.laws.specs.Choice.{pick}
 use Rattle.file_loader.specs.Files.{contextIn, cellsIn, fileRefusal}
 use Rattle.file_order.specs.declared.Order.{Order}
@@ -11,7 +12,7 @@ use Rattle.file_order.specs.declared.Compared.the-variants.{Refused, Ord
 
 -- the cells of a table with room for every count
 abbrev pub mostCells : ℕ
-mostCells = 20480
+mostCells = nodeCells * mostNodes
 
 -- "contexts first, then nodes in turn, number by number": the count is not compared
 unfoldable pub keyOf : List ℕ → List ℕ

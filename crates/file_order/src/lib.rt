@@ -3,6 +3,7 @@ use file_loader::Loaded;
 use file_loader::load;
 use file_numbers::Number;
 use file_numbers::number_at;
+use tree::sizes;
 ghost use mathlib.Core.Path.{_≡_};
 ghost use mathlib.Core.Bool.{false};
 ghost use Rattle.file_loader.specs.Several.{isBroken, valuesIn};
@@ -30,7 +31,7 @@ pub enum Compared {
 fn check(file: &[u8]) -> u16
     ensures { λ r. ⌜ r ≡ checksOf (now (file .entry)) ⌝ }
 {
-    let mut own = [0u16; 20480];
+    let mut own = [0u16; sizes::NODE_CELLS * sizes::MOST_NODES];
     let answer = load(file, &mut own);
     let Loaded::Refused(refusal) = answer else {
         return 0;
@@ -123,8 +124,8 @@ fn compare_accepted(first: &[u8], second: &[u8]) -> Order
     if two.context < one.context {
         return Order::After;
     }
-    let many = 5 * (one.count as usize);
-    let others = 5 * (two.count as usize);
+    let many = sizes::NODE_CELLS * (one.count as usize);
+    let others = sizes::NODE_CELLS * (two.count as usize);
     compare_numbers(first, one.nodes, many, second, two.nodes, others)
 }
 

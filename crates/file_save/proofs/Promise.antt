@@ -5,6 +5,7 @@ use Prim.Native.Nat.{ℕ, _+_, _*_, _≤_}
 use native.Mathlib.Omega.{arith}
 use lib.ListN.{length, drop, length-append}
 use lib.Seq.{drop-at, drop-length}
+use Rattle.tree.specs.Sizes.{nodeCells, mostNodes, mostFileBytes}
 use Rattle.laws.specs.Lists.{over}
 use Rattle.tree.specs.Trees.{Tree, treeAt}
 use Rattle.tree_rules.specs.Refusals.{Accepted}
@@ -34,7 +35,7 @@ module _ (context count : ℕ) (cells : List ℕ) (ok : Accepted context count c
   is-size : size tree ≡ count
   is-size = size-accepted context count cells ok
 
-  bounds : (1 ≤ count) × (count ≤ 4096) × (5 * count ≤ length cells)
+  bounds : (1 ≤ count) × (count ≤ mostNodes) × (nodeCells * count ≤ length cells)
   bounds = count-bounds context count cells ok
 
   -- ---- the numbers of the file
@@ -60,7 +61,7 @@ module _ (context count : ℕ) (cells : List ℕ) (ok : Accepted context count c
   unfolding file
   parts = rw is-size (all-append head (numbered tree))
 
-  pub short-enough : length (fileOf context count cells) ≤ 65536
+  pub short-enough : length (fileOf context count cells) ≤ mostFileBytes
   short-enough =
       let s = is-size in
       let k = bounds in
@@ -74,9 +75,9 @@ module _ (context count : ℕ) (cells : List ℕ) (ok : Accepted context count c
   unfolding header
   header-read = rw parts (all-read head (allBytes (numbered tree)) small-head)
 
-  body-read : numbersOf (5 * count) (allBytes (numbered tree)) ≡ numbers (numbered tree) []
+  body-read : numbersOf (nodeCells * count) (allBytes (numbered tree)) ≡ numbers (numbered tree) []
   body-read =
-      let l : length (numbered tree) ≡ 5 * count = length-numbered tree ∙ ap (λ (n : ℕ). 5 * n) is-size in
+      let l : length (numbered tree) ≡ nodeCells * count = length-numbered tree ∙ ap (λ (n : ℕ). nodeCells * n) is-size in
       let r = rw append-nil at (all-read (numbered tree) [] small-tree) in
       rw l at r
 
@@ -116,7 +117,7 @@ module _ (context count : ℕ) (cells : List ℕ) (ok : Accepted context count c
       after-is context others other fine buffer ∙ rw same (sym (after-is context count cells ok buffer)),
     )
 
-  module _ (table : List ℕ) (room : 5 * count ≤ length table) where
+  module _ (table : List ℕ) (room : nodeCells * count ≤ length table) where
     pub loads-back : (loaded (fileOf context count cells) (length table) ≡ Loads context count) × (loadedTable (fileOf context count cells) table ≡ over (numbered tree) table)
     loads-back =
         let k = bounds in
@@ -124,7 +125,7 @@ module _ (context count : ℕ) (cells : List ℕ) (ok : Accepted context count c
         let end = length (fileOf context count cells) in
         let rest : drop at (fileOf context count cells) ≡ allBytes (numbered tree) = rw parts (drop-at (allBytes head) (allBytes (numbered tree)) at refl) in
         let none : drop end (fileOf context count cells) ≡ [] = drop-length (fileOf context count cells) in
-        let l : length (numbered tree) ≡ 5 * count = length-numbered tree ∙ ap (λ (n : ℕ). 5 * n) is-size in
+        let l : length (numbered tree) ≡ nodeCells * count = length-numbered tree ∙ ap (λ (n : ℕ). nodeCells * n) is-size in
         let a = accepted-nodes (fileOf context count cells) table context count at (begun (fileOf context count cells) context count at short-enough (header-read ∙ rw rest))
         (context-most context count cells ok)
         (fits-count count (length table) (k .0) (k .1) room)

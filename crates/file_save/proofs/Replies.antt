@@ -8,6 +8,7 @@ use lib.Dec.{ltb}
 use lib.ListN.{length, take, replicate, length-replicate}
 use lib.Seq.{take-at, length-take-le}
 use borrow.Author.Tests.{eq-eqb, ne-eqb}
+use Rattle.tree.specs.Sizes.{nodeCells, mostNodes}
 use Rattle.laws.specs.Lists.{over}
 use Rattle.laws.proofs.Choice.{pick-true, pick-false}
 use Rattle.laws.proofs.Lists.{length-over}
@@ -76,32 +77,32 @@ module _ (context count : ℕ) (cells : List ℕ) where
     is-size : size tree ≡ count
     is-size = size-accepted context count cells ok
 
-    module _ (own after : List ℕ) (room : 5 * count ≤ length own) (are-cells : after ≡ over (numbered tree) own) where
-      long : length (numbered tree) ≡ 5 * count
+    module _ (own after : List ℕ) (room : nodeCells * count ≤ length own) (are-cells : after ≡ over (numbered tree) own) where
+      long : length (numbered tree) ≡ nodeCells * count
       long = let s = is-size in length-numbered tree ∙ omega arith
 
-      own-room : 5 * count ≤ length after
+      own-room : nodeCells * count ≤ length after
       own-room = let l = long in rw (are-cells, length-over (numbered tree) own (omega arith)) room
 
-      part-length : length (take (5 * count) after) ≡ 5 * count
-      part-length = length-take-le (5 * count) after own-room
+      part-length : length (take (nodeCells * count) after) ≡ nodeCells * count
+      part-length = length-take-le (nodeCells * count) after own-room
 
-      part-few : length (take (5 * count) after) ≤ 20480
+      part-few : length (take (nodeCells * count) after) ≤ nodeCells * mostNodes
       part-few = let l = part-length in let k = count-bounds context count cells ok in omega arith
 
-      is-file : allBytes (context ∷ count ∷ take (5 * count) after) ≡ fileOf context count cells
+      is-file : allBytes (context ∷ count ∷ take (nodeCells * count) after) ≡ fileOf context count cells
       unfolding file over
-      is-file = rw (are-cells, take-at (numbered tree) _ (5 * count) long, is-size)
+      is-file = rw (are-cells, take-at (numbered tree) _ (nodeCells * count) long, is-size)
 
       saved-by : (buffer last : List ℕ) (r : Saved)
-          → (r ≡ stored (allBytes (context ∷ count ∷ take (5 * count) after)) (length buffer)) × (last ≡ storedAfter (allBytes (context ∷ count ∷ take (5 * count) after)) buffer)
+          → (r ≡ stored (allBytes (context ∷ count ∷ take (nodeCells * count) after)) (length buffer)) × (last ≡ storedAfter (allBytes (context ∷ count ∷ take (nodeCells * count) after)) buffer)
           → (r ≡ saved context count cells (length buffer)) × (last ≡ savedAfter context count cells buffer)
       saved-by buffer last r e =
           (e .0 ∙ rw is-file (sym (saved-is (length buffer))), e .1 ∙ rw is-file (sym (after-is buffer)))
 
 -- ---- an array of our own with room for every accepted table
 
-module _ (context count : ℕ) (cells own : List ℕ) (room : Accepted context count cells → 5 * count ≤ length own) where
+module _ (context count : ℕ) (cells own : List ℕ) (room : Accepted context count cells → nodeCells * count ≤ length own) where
   pub number-refused : (buffer : List ℕ) (n : ℕ) → n ≡ numberingRefusal context count cells (length own) → (n ≡ 0 → ⊥)
       → (Refused n ≡ saved context count cells (length buffer)) × (buffer ≡ savedAfter context count cells buffer)
   number-refused buffer n e h = refused-table context count cells buffer n (is-refusal context count cells own room n e h) h
@@ -113,24 +114,24 @@ module _ (context count : ℕ) (cells own : List ℕ) (room : Accepted context c
     over-own : after ≡ over (numbered (treeAt cells count 1)) own
     over-own = is ∙ is-over context count cells own done
 
-    pub number-room : 5 * count ≤ length after
+    pub number-room : nodeCells * count ≤ length after
     number-room = own-room context count cells ok own after (room ok) over-own
 
-    pub number-length : 5 * count ≡ length (take (5 * count) after)
+    pub number-length : nodeCells * count ≡ length (take (nodeCells * count) after)
     number-length = sym (part-length context count cells ok own after (room ok) over-own)
 
-    pub number-few : length (take (5 * count) after) ≤ 20480
+    pub number-few : length (take (nodeCells * count) after) ≤ nodeCells * mostNodes
     number-few = part-few context count cells ok own after (room ok) over-own
 
     pub number-saved : (buffer last : List ℕ) (r : Saved)
-        → (r ≡ stored (allBytes (context ∷ count ∷ take (5 * count) after)) (length buffer)) × (last ≡ storedAfter (allBytes (context ∷ count ∷ take (5 * count) after)) buffer)
+        → (r ≡ stored (allBytes (context ∷ count ∷ take (nodeCells * count) after)) (length buffer)) × (last ≡ storedAfter (allBytes (context ∷ count ∷ take (nodeCells * count) after)) buffer)
         → (r ≡ saved context count cells (length buffer)) × (last ≡ savedAfter context count cells buffer)
     number-saved buffer last r e = saved-by context count cells ok own after (room ok) over-own buffer last r e
 
 -- fewer than 64 nodes in 320 cells
-pub small-room : (context count : ℕ) (cells : List ℕ) → count < 64 → Accepted context count cells → 5 * count ≤ length (replicate {A = ℕ} 320 0)
+pub small-room : (context count : ℕ) (cells : List ℕ) → count < 64 → Accepted context count cells → nodeCells * count ≤ length (replicate {A = ℕ} 320 0)
 small-room context count cells h ok = rw (length-replicate {A = ℕ} 320 0) (omega arith)
 
 -- and any in 20,480
-pub large-room : (context count : ℕ) (cells : List ℕ) → Accepted context count cells → 5 * count ≤ length (replicate {A = ℕ} 20480 0)
-large-room context count cells ok = let k = count-bounds context count cells ok in rw (length-replicate {A = ℕ} 20480 0) (omega arith)
+pub large-room : (context count : ℕ) (cells : List ℕ) → Accepted context count cells → nodeCells * count ≤ length (replicate {A = ℕ} (nodeCells * mostNodes) 0)
+large-room context count cells ok = let k = count-bounds context count cells ok in rw (length-replicate {A = ℕ} (nodeCells * mostNodes) 0) (omega arith)

@@ -3,6 +3,7 @@ use mathlib.Core.Path.{_≡_}
 use mathlib.Core.List.{List}
 use Prim.Native.Nat.{ℕ, _*_, _≤_}
 use lib.ListN.{length}
+use Rattle.tree.specs.Sizes.{nodeCells, mostFileBytes}
 use Rattle.laws.specs.Lists.{over}
 use Rattle.tree.specs.Trees.{treeAt}
 use Rattle.tree_rules.specs.Refusals.{Accepted}
@@ -20,15 +21,15 @@ pub record OneFile (context count : ℕ) (cells : List ℕ) : Type 0 where
   pub other-file : (kind others : ℕ) (other : List ℕ) → Accepted kind others other → fileOf kind others other ≡ fileOf context count cells
       → (kind ≡ context) × (treeAt other others 1 ≡ treeAt cells count 1)
   -- "Loading the output" into any table with room for it gives the context, the count and the numbered tree,
-  pub loads-back : (table : List ℕ) → 5 * count ≤ length table
+  pub loads-back : (table : List ℕ) → nodeCells * count ≤ length table
       → (loaded (fileOf context count cells) (length table) ≡ Loads context count)
       × (loadedTable (fileOf context count cells) table ≡ over (numbered (treeAt cells count 1)) table)
   -- "and writing once more changes nothing."
-  pub saved-again : (table : List ℕ) → 5 * count ≤ length table → (buffer : List ℕ)
+  pub saved-again : (table : List ℕ) → nodeCells * count ≤ length table → (buffer : List ℕ)
       → (saved context count (loadedTable (fileOf context count cells) table) (length buffer) ≡ saved context count cells (length buffer))
       × (savedAfter context count (loadedTable (fileOf context count cells) table) buffer ≡ savedAfter context count cells buffer)
   -- No output is longer than a tree file may be.
-  pub file-short-enough : length (fileOf context count cells) ≤ 65536
+  pub file-short-enough : length (fileOf context count cells) ≤ mostFileBytes
 
 abbrev pub Promise : Type 0
 Promise = (context count : ℕ) (cells : List ℕ) → Accepted context count cells → OneFile context count cells

@@ -1,10 +1,12 @@
 // Trees as tree files: one file for one tree.
+use tree::sizes;
 use tree_numbering::accepted::number;
 ghost use mathlib.Core.Path.{_≡_};
 ghost use mathlib.Core.List.{_∷_};
 ghost use Prim.Native.Nat.{_+_, _*_, _≤_, _<_};
 ghost use lib.Dec.{ltb};
 ghost use lib.ListN.{length};
+ghost use Rattle.tree.specs.Sizes.{nodeCells, mostNodes};
 ghost use Rattle.file_bytes.specs.Bytes.{bytesOf, allBytes};
 ghost use Rattle.file_save.specs.Saves.{saved, savedAfter};
 ghost use Rattle.file_save.specs.Stores.{Put, stored, storedAfter};
@@ -34,7 +36,7 @@ fn long(value: u16) -> usize
 
 // How many bytes several numbers take.
 fn all_long(numbers: &[u16]) -> usize
-    requires { ⌜ length (now numbers) ≤ 20480 ⌝ }
+    requires { ⌜ length (now numbers) ≤ nodeCells * mostNodes ⌝ }
     ensures { λ r. ⌜ r ≡ length (allBytes (now (numbers .entry))) ⌝ }
 {
     let mut bytes = 0;
@@ -83,7 +85,7 @@ fn put_all(file: &mut [u8], from: usize, numbers: &[u16]) -> usize
 
 // Whether so many bytes are too few for a context, a count and the numbers of the nodes. They are counted only where three bytes a number might be too many.
 fn is_short(context: u16, count: u16, numbers: &[u16], lent: usize) -> bool
-    requires { ⌜ length (now numbers) ≤ 20480 ⌝ }
+    requires { ⌜ length (now numbers) ≤ nodeCells * mostNodes ⌝ }
     ensures { λ r. ⌜ r ≡ ltb lent (length (allBytes (context ∷ count ∷ now (numbers .entry)))) ⌝ }
 {
     if 6 + 3 * numbers.len() <= lent {
@@ -95,7 +97,7 @@ fn is_short(context: u16, count: u16, numbers: &[u16], lent: usize) -> bool
 
 // A context, a count and the numbers of the nodes as a file, where the buffer has room for it. Nothing is stored before that is known.
 fn store(context: u16, count: u16, numbers: &[u16], file: &mut [u8]) -> Saved
-    requires { ⌜ length (now numbers) ≤ 20480 ⌝ }
+    requires { ⌜ length (now numbers) ≤ nodeCells * mostNodes ⌝ }
     ensures { λ r. ⌜ r ≡ stored (allBytes (context ∷ count ∷ now (numbers .entry))) (length (now (file .entry))) ⌝ }
     ensures { λ r. ⌜ now (file .exit) ≡ storedAfter (allBytes (context ∷ count ∷ now (numbers .entry))) (now (file .entry)) ⌝ }
 {
@@ -114,12 +116,12 @@ fn save_small(context: u16, count: u16, table: &[u16], file: &mut [u8]) -> Saved
     ensures { λ r. ⌜ r ≡ saved context count (now (table .entry)) (length (now (file .entry))) ⌝ }
     ensures { λ r. ⌜ now (file .exit) ≡ savedAfter context count (now (table .entry)) (now (file .entry)) ⌝ }
 {
-    let mut own = [0u16; 320];
+    let mut own = [0u16; sizes::NODE_CELLS * 64];
     let refused = number(context, count, table, &mut own);
     if refused != 0 {
         return Saved::Refused(refused);
     }
-    let cells = 5 * (count as usize);
+    let cells = sizes::NODE_CELLS * (count as usize);
     store(context, count, &own[..cells], file)
 }
 
@@ -128,12 +130,12 @@ fn save_large(context: u16, count: u16, table: &[u16], file: &mut [u8]) -> Saved
     ensures { λ r. ⌜ r ≡ saved context count (now (table .entry)) (length (now (file .entry))) ⌝ }
     ensures { λ r. ⌜ now (file .exit) ≡ savedAfter context count (now (table .entry)) (now (file .entry)) ⌝ }
 {
-    let mut own = [0u16; 20480];
+    let mut own = [0u16; sizes::NODE_CELLS * sizes::MOST_NODES];
     let refused = number(context, count, table, &mut own);
     if refused != 0 {
         return Saved::Refused(refused);
     }
-    let cells = 5 * (count as usize);
+    let cells = sizes::NODE_CELLS * (count as usize);
     store(context, count, &own[..cells], file)
 }
 

@@ -8,6 +8,7 @@ use lib.Dec.{ltb}
 use lib.ListN.{length}
 use lib.Seq.{sets}
 use borrow.Author.Tests.{eq-eqb, ne-eqb, lt-ltb, le-ltb}
+use Rattle.tree.specs.Sizes.{nodeCells, mostNodes}
 use Rattle.laws.specs.Lists.{over}
 use Rattle.laws.proofs.Choice.{pick-true, pick-false}
 use Rattle.laws.proofs.Lists.{sets-over}
@@ -34,26 +35,26 @@ module _ (context count : ℕ) (cells out : List ℕ) where
   refused n e h = kept n (pick-false _ _ (ne-eqb _ 0 (λ z. h (e ∙ z))) ∙ sym e) h
 
   module _ (ok : Accepted context count cells) where
-    only-12 : numberingRefusal context count cells (length out) ≡ firstOf (refuse 12 (ltb (length out) (5 * count)) ∷ [])
+    only-12 : numberingRefusal context count cells (length out) ≡ firstOf (refuse 12 (ltb (length out) (nodeCells * count)) ∷ [])
     unfolding numberingRefusal numberingRefusal12
     only-12 = pick-true _ _ (eq-eqb _ 0 ok)
 
-    pub short : length out < 5 * count → Numbers 12 out
+    pub short : length out < nodeCells * count → Numbers 12 out
     short h = kept 12 (only-12 ∙ stop _ _ (lt-ltb _ _ h)) (λ z. omega arith)
 
     -- room for the tree, which has as many nodes as the table
-    pub has-room : 5 * count ≤ length out → (0 + size (treeAt cells count 1) ≤ 4096) × (5 * (0 + size (treeAt cells count 1)) ≤ length out)
+    pub has-room : nodeCells * count ≤ length out → (0 + size (treeAt cells count 1) ≤ mostNodes) × (nodeCells * (0 + size (treeAt cells count 1)) ≤ length out)
     has-room h =
         let s = size-accepted context count cells ok in
         let k = count-bounds context count cells ok in
         (omega arith, omega arith)
 
-    pub stored : 5 * count ≤ length out → (after : List ℕ) → after ≡ sets out (5 * 0) (cellsFrom 1 (treeAt cells count 1)) → Numbers 0 after
+    pub stored : nodeCells * count ≤ length out → (after : List ℕ) → after ≡ sets out (nodeCells * 0) (cellsFrom 1 (treeAt cells count 1)) → Numbers 0 after
     unfolding numberedAfter numbered
     stored h after e =
         let s = size-accepted context count cells ok in
         let l = length-numbered (treeAt cells count 1) in
-        let z = only-12 ∙ skip _ _ (le-ltb (length out) (5 * count) h) ∙ no-more in
+        let z = only-12 ∙ skip _ _ (le-ltb (length out) (nodeCells * count) h) ∙ no-more in
         (sym z, e ∙ sets-over (numbered (treeAt cells count 1)) out (omega arith) ∙ sym (pick-true _ _ (eq-eqb _ 0 z)))
 
   -- ---- for callers
@@ -72,10 +73,10 @@ module _ (context count : ℕ) (cells out : List ℕ) where
   is-over z = pick-true _ _ (eq-eqb _ 0 (sym z))
 
   -- a refusal is the table's where there is room for every accepted one
-  pub is-refusal : (Accepted context count cells → 5 * count ≤ length out) → (n : ℕ) → n ≡ numberingRefusal context count cells (length out) → (n ≡ 0 → ⊥) → n ≡ refusal context count cells
+  pub is-refusal : (Accepted context count cells → nodeCells * count ≤ length out) → (n : ℕ) → n ≡ numberingRefusal context count cells (length out) → (n ≡ 0 → ⊥) → n ≡ refusal context count cells
   unfolding numberingRefusal
   is-refusal room n e h = go (ℕ-discrete (refusal context count cells) 0)
     where
       go : Dec (refusal context count cells ≡ 0) → n ≡ refusal context count cells
-      go (yes z) = absurd (h (e ∙ only-12 z ∙ skip _ _ (le-ltb (length out) (5 * count) (room z)) ∙ no-more))
+      go (yes z) = absurd (h (e ∙ only-12 z ∙ skip _ _ (le-ltb (length out) (nodeCells * count) (room z)) ∙ no-more))
       go (no z) = e ∙ pick-false _ _ (ne-eqb _ 0 z)

@@ -4,6 +4,7 @@ use mathlib.Core.List.{List, [], _∷_}
 use Prim.Native.Nat.{ℕ, _*_}
 use lib.Dec.{eqb, ltb}
 use lib.ListN.{length}
+use Rattle.tree.specs.Sizes.{nodeCells}
 use Rattle.laws.specs.Choice.{pick}
 use Rattle.laws.specs.Lists.{over}
 use Rattle.tree.specs.Trees.{treeAt}
@@ -12,7 +13,7 @@ use Rattle.tree_numbering.specs.Numbered.{numbered}
 
 -- 12. "A lent buffer is too short": five cells a node; `lent` is the lent table's length
 unfoldable pub numberingRefusal12 : ℕ → ℕ → Bool
-numberingRefusal12 count lent = ltb lent (5 * count)
+numberingRefusal12 count lent = ltb lent (nodeCells * count)
 
 -- the first that applies: the table's refusals, then 12; or 0
 unfoldable pub numberingRefusal : ℕ → ℕ → List ℕ → ℕ → ℕ

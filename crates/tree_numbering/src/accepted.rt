@@ -1,5 +1,6 @@
 // The tree of an accepted table, numbered anew: as large as the table says, so that nothing is counted first.
 use super::number_from;
+use tree::sizes;
 use tree_one_pass::check;
 ghost use mathlib.Core.Path.{_≡_};
 ghost use lib.ListN.{length};
@@ -14,7 +15,7 @@ pub fn number(context: u16, count: u16, table: &[u16], out: &mut [u16]) -> u16
     if refused != 0 {
         return refused;
     }
-    if out.len() < 5 * (count as usize) {
+    if out.len() < sizes::NODE_CELLS * (count as usize) {
         return 12;
     }
     number_from(table, count, 1, 0, out);

@@ -9,6 +9,7 @@ use native.Mathlib.Decide.{decLe}
 use lib.Dec.{eqb, ltb}
 use lib.ListN.{length, length-append}
 use borrow.Author.Tests.{eq-eqb, ne-eqb, lt-leb, le-ltb}
+use Rattle.tree.specs.Sizes.{nodeCells, mostNodes, mostLevels}
 use Rattle.laws.specs.Choice.{pick}
 use Rattle.laws.specs.Each.{some}
 use Rattle.laws.proofs.Choice.{or-false}
@@ -95,11 +96,11 @@ module _ (t : Tree) (rest : List ℕ) where
   unfolding refusal8
   numbered-8 = rw (none-some (badOrder table (size t)) (size t) in-order, none-some (badOwner table (size t)) (size t) one-owner)
 
-  module _ (few : size t ≤ 4096) where
+  module _ (few : size t ≤ mostNodes) where
     whole : treeAt table (size t) 1 ≡ t
     whole = numbered-tree t rest (omega arith)
 
-    pub numbered-11 : refusal11 table (size t) ≡ ltb 128 (levels t)
+    pub numbered-11 : refusal11 table (size t) ≡ ltb mostLevels (levels t)
     unfolding refusal11
     numbered-11 = rw whole
 
@@ -120,9 +121,9 @@ module _ (t : Tree) (rest : List ℕ) where
       room =
           let l = length-append (numbered t) rest in
           let m = length-numbered t in
-          rw (ne-eqb (size t) 0 (λ e. let s = some-size in omega arith), le-ltb 4096 (size t) few, le-ltb (length table) (5 * size t) (omega arith))
+          rw (ne-eqb (size t) 0 (λ e. let s = some-size in omega arith), le-ltb mostNodes (size t) few, le-ltb (length table) (nodeCells * size t) (omega arith))
 
-      module _ (context : ℕ) (known : context ≤ 3) (keeps : Sound t) (flat : levels t ≤ 128) (outputs : someNode (λ l a b. outputBroken l a) t ≡ false) where
+      module _ (context : ℕ) (known : context ≤ 3) (keeps : Sound t) (flat : levels t ≤ mostLevels) (outputs : someNode (λ l a b. outputBroken l a) t ≡ false) where
         pub numbered-accepted : Accepted context (size t) table
         unfolding refusal nodeRefusals firstOf pick refusal3 refusal7
         numbered-accepted =
@@ -140,7 +141,7 @@ module _ (t : Tree) (rest : List ℕ) where
               numbered-10,
               outputs,
               numbered-11,
-              le-ltb 128 (levels t) flat,
+              le-ltb mostLevels (levels t) flat,
             )
 
 -- ---- an accepted table's tree

@@ -9,6 +9,7 @@ use native.Mathlib.Decide.{decLe, ℕ-discrete}
 use lib.Dec.{eqb}
 use lib.ListN.{drop}
 use borrow.Author.Tests.{eq-eqb, ne-eqb}
+use Rattle.tree.specs.Sizes.{nodeCells}
 use Rattle.laws.specs.Choice.{pick}
 use Rattle.laws.specs.Each.{some}
 use Rattle.tree.specs.Table.{firstAt, secondAt}
@@ -30,12 +31,12 @@ none-some f (suc n) h = rw (none-some f n (λ i p q. h i p (omega arith)), h (su
 
 module _ (cells : List ℕ) where
   abbrev pub Holds : ℕ → Tree → List ℕ → Type 0
-  Holds j t rest = drop (5 * j) cells ≡ cellsFrom (suc j) t ++ rest
+  Holds j t rest = drop (nodeCells * j) cells ≡ cellsFrom (suc j) t ++ rest
 
   -- a node's five cells, and where those of its operands begin
   record Parts (j : ℕ) (l : Label) (a b : Tree) (rest : List ℕ) : Type 0 where
     after : List ℕ
-    own : drop (5 * j) cells ≡ l .form ∷ l .attributes ∷ l .detail ∷ numberOf a (suc (suc j)) ∷ numberOf b (suc (suc j) + size a) ∷ after
+    own : drop (nodeCells * j) cells ≡ l .form ∷ l .attributes ∷ l .detail ∷ numberOf a (suc (suc j)) ∷ numberOf b (suc (suc j) + size a) ∷ after
     one : Holds (suc j) a (cellsFrom (suc (suc j + size a)) b ++ rest)
     two : Holds (suc j + size a) b rest
 

@@ -1,6 +1,8 @@
 -- `file_save::save_large` meets its contract. Assumes nothing.
+use Prim.Native.Nat.{_*_}
 use mathlib.Core.Path.{sym, _∙_}
 use lib.ListN.{replicate}
+use Rattle.tree.specs.Sizes.{nodeCells, mostNodes}
 use Rattle.file_save.proofs.Replies.{number-refused, number-room, number-length, number-few, number-saved, large-room}
 use borrow.Author.Needs.{needs}
 use Rattle.file_save.proofs.save_large.Statement.{statement}
@@ -13,7 +15,7 @@ number-requires : tie.Need-number-requires
 number-requires c κs = search needs
 
 returns : tie.Need-returns
-returns c = number-refused _ _ _ (replicate 20480 0) (large-room _ _ _) _ _ (c .before .before .number .ensures .0) (c .if1 .taken)
+returns c = number-refused _ _ _ (replicate (nodeCells * mostNodes) 0) (large-room _ _ _) _ _ (c .before .before .number .ensures .0) (c .if1 .taken)
 
 mul-cells : tie.Need-mul-cells
 mul-cells c = search needs
