@@ -6,6 +6,7 @@ use native.Mathlib.Omega.{arith}
 use borrow.Author.Needs.{needs}
 use lib.ListN.{length, getD, take, length-append}
 use lib.Seq.{take-length}
+use Rattle.laws.proofs.Calls.{free}
 use Rattle.file_bytes.specs.Bytes.{bytesOf, allBytes}
 use Rattle.file_bytes.proofs.Several.{all-most, all-next, part-long}
 use Rattle.file_save.proofs.all_long.Statement.{statement}
@@ -16,19 +17,6 @@ Inv-loop numbers bytes₀ done₀ bytes done = (done ≤ length numbers) × (byt
 
 abbrev μ-loop : tie.MeasureT-loop
 μ-loop numbers bytes₀ done₀ bytes done = length numbers - done
-
-loop-holds : tie.Need-loop-holds Inv-loop μ-loop
-unfolding allBytes
-loop-holds c = (omega arith, refl)
-
-mul-long : tie.Need-mul-long Inv-loop μ-loop
-mul-long c = search needs
-
-shared-slice-read-long : tie.Need-shared-slice-read-long Inv-loop μ-loop
-shared-slice-read-long c = omega arith
-
-long-requires : tie.Need-long-requires Inv-loop μ-loop
-long-requires c κs = search needs
 
 -- what one number more takes
 module _ (numbers : List ℕ) (done bytes more : ℕ) (h : done < length numbers) (e : bytes ≡ length (allBytes (take done numbers))) (f : more ≡ length (bytesOf (getD numbers done 0))) where
@@ -51,12 +39,6 @@ add-bytes c =
     let m = not-many (c .before .before .before .before .before .args .numbers .now) (l .done) (l .bytes) (c .long .result) (omega arith) (l .inv .1) (c .long .ensures) in
     omega arith
 
-add-done : tie.Need-add-done Inv-loop μ-loop
-add-done c = omega arith
-
-loop-less : tie.Need-loop-less Inv-loop μ-loop
-loop-less c = omega arith
-
 loop-again : tie.Need-loop-again Inv-loop μ-loop
 loop-again c =
     let l = c .before .before .before .loop in
@@ -69,17 +51,7 @@ returns c =
     l .inv .1 ∙ rw (e, take-length (c .before .before .before .args .numbers .now))
 
 pub all-long-spec : {M : Type 1} → statement M
+unfolding allBytes
 all-long-spec =
-    tie.close
-    (tie.spec
-    Inv-loop
-    μ-loop
-    loop-holds
-    mul-long
-    shared-slice-read-long
-    long-requires
-    add-bytes
-    add-done
-    loop-less
-    loop-again
-    returns)
+    tie.close (tie.spec Inv-loop μ-loop (λ c. (omega arith, refl)) (λ c. search needs) (λ c. omega arith) free add-bytes
+    (λ c. omega arith) (λ c. omega arith) loop-again returns)

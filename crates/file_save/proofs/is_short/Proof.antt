@@ -4,36 +4,16 @@ use native.Mathlib.Omega.{arith}
 use lib.Dec.{ltb}
 use lib.ListN.{length}
 use borrow.Author.Tests.{le-ltb}
+use Rattle.laws.proofs.Calls.{free}
 use Rattle.file_save.proofs.Putting.{whole, whole-long, whole-most}
 use borrow.Author.Needs.{needs}
 use Rattle.file_save.proofs.is_short.Statement.{statement}
 use Rattle.file_save.proofs.is_short.Tie as tie
 
-mul-if1 : tie.Need-mul-if1
-mul-if1 c = search needs
-
-add-if1 : tie.Need-add-if1
-add-if1 c = search needs
-
 returns : tie.Need-returns
 returns c =
     let m = whole-most (c .before .before .args .context) (c .before .before .args .count) (c .before .before .args .numbers .now) in
     sym (le-ltb (c .before .before .args .lent) (length (whole (c .before .before .args .context) (c .before .before .args .count) (c .before .before .args .numbers .now))) (omega arith))
-
-long-requires : tie.Need-long-requires
-long-requires c κs = search needs
-
-long-requires-2 : tie.Need-long-requires-2
-long-requires-2 c κs = search needs
-
-add-bytes : tie.Need-add-bytes
-add-bytes c = let l = whole-long (c .before .before .before .before .args .context) (c .before .before .before .before .args .count) (c .before .before .before .before .args .numbers .now) in let m = whole-most (c .before .before .before .before .args .context) (c .before .before .before .before .args .count) (c .before .before .before .before .args .numbers .now) in omega arith
-
-all-long-requires : tie.Need-all-long-requires
-all-long-requires c κs = search needs
-
-add-bytes-2 : tie.Need-add-bytes-2
-add-bytes-2 c = let l = whole-long (c .before .before .before .before .before .args .context) (c .before .before .before .before .before .args .count) (c .before .before .before .before .before .args .numbers .now) in let m = whole-most (c .before .before .before .before .before .args .context) (c .before .before .before .before .before .args .count) (c .before .before .before .before .before .args .numbers .now) in omega arith
 
 returns-2 : tie.Need-returns-2
 returns-2 c =
@@ -45,14 +25,8 @@ returns-2 c =
 
 pub is-short-spec : {M : Type 1} → statement M
 is-short-spec =
-    tie.close
-    (tie.spec
-    mul-if1
-    add-if1
-    returns
-    long-requires
-    long-requires-2
-    add-bytes
-    all-long-requires
-    add-bytes-2
+    tie.close (tie.spec (λ c. search needs) (λ c. search needs) returns free free
+    (λ c. let l = whole-long (c .before .before .before .before .args .context) (c .before .before .before .before .args .count) (c .before .before .before .before .args .numbers .now) in let m = whole-most (c .before .before .before .before .args .context) (c .before .before .before .before .args .count) (c .before .before .before .before .args .numbers .now) in omega arith)
+    (λ c κs. search needs)
+    (λ c. let l = whole-long (c .before .before .before .before .before .args .context) (c .before .before .before .before .before .args .count) (c .before .before .before .before .before .args .numbers .now) in let m = whole-most (c .before .before .before .before .before .args .context) (c .before .before .before .before .before .args .count) (c .before .before .before .before .before .args .numbers .now) in omega arith)
     returns-2)

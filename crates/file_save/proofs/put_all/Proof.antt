@@ -18,16 +18,6 @@ Inv-loop file₀ from numbers at₀ done₀ file at done = (done ≤ length numb
 abbrev μ-loop : tie.MeasureT-loop
 μ-loop file₀ from numbers at₀ done₀ file at done = length numbers - done
 
-loop-holds : tie.Need-loop-holds Inv-loop μ-loop
-unfolding allBytes
-loop-holds c = (omega arith, put-none _ _)
-
-mul-put : tie.Need-mul-put Inv-loop μ-loop
-mul-put c = search needs
-
-shared-slice-read-put : tie.Need-shared-slice-read-put Inv-loop μ-loop
-shared-slice-read-put c = omega arith
-
 put-requires : tie.Need-put-requires Inv-loop μ-loop
 put-requires c κs =
     let l = c .before .before .before .loop in
@@ -37,20 +27,11 @@ put-requires c κs =
     let p = part-long (a .numbers .now) (suc (l .done)) in
     omega (arith, l .inv .1 .ends, l .inv .1 .room)
 
-add-done : tie.Need-add-done Inv-loop μ-loop
-add-done c = omega arith
-
-loop-less : tie.Need-loop-less Inv-loop μ-loop
-loop-less c = omega arith
-
 loop-again : tie.Need-loop-again Inv-loop μ-loop
 loop-again c =
     let l = c .before .before .before .before .before .before .loop in
     let a = c .before .before .before .before .before .before .before .before .before .args in
     (omega arith, put-next (a .numbers .now) (l .done) (omega arith) (l .inv .1) (c .before .before .put .ensures))
-
-same-length : tie.Need-same-length Inv-loop μ-loop
-same-length c = c .before .loop .inv .1 .room
 
 returns : tie.Need-returns Inv-loop μ-loop
 returns c =
@@ -60,17 +41,7 @@ returns c =
     rw (e, take-length (a .numbers .now)) at (l .inv .1)
 
 pub put-all-spec : {M : Type 1} → statement M
+unfolding allBytes
 put-all-spec =
-    tie.close
-    (tie.spec
-    Inv-loop
-    μ-loop
-    loop-holds
-    mul-put
-    shared-slice-read-put
-    put-requires
-    add-done
-    loop-less
-    loop-again
-    same-length
-    returns)
+    tie.close (tie.spec Inv-loop μ-loop (λ c. (omega arith, put-none _ _)) (λ c. search needs) (λ c. omega arith)
+    put-requires (λ c. omega arith) (λ c. omega arith) loop-again (λ c. c .before .loop .inv .1 .room) returns)

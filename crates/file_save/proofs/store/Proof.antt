@@ -6,12 +6,6 @@ use borrow.Author.Needs.{needs}
 use Rattle.file_save.proofs.store.Statement.{statement}
 use Rattle.file_save.proofs.store.Tie as tie
 
-is-short-requires : tie.Need-is-short-requires
-is-short-requires c κs = search needs
-
-returns : tie.Need-returns
-returns c = no-room _ _ (sym (c .before .is-short .ensures) ∙ c .if1 .taken)
-
 put-requires : tie.Need-put-requires
 put-requires c κs =
     let r = room-first (c .before .before .before .before .before .args .context) (c .before .before .before .before .before .args .count) (c .before .before .before .before .before .args .numbers .now) _ (sym (c .before .before .is-short .ensures) ∙ c .before .if1 .left) in
@@ -43,9 +37,6 @@ cast-t16 c =
     let r = c .before .before .put-all .ensures in
     omega (arith, p .ends, q .ends, r .ends)
 
-same-length : tie.Need-same-length
-same-length c = search needs
-
 returns-2 : tie.Need-returns-2
 returns-2 c =
     let h = room-first (c .before .before .before .before .before .before .before .before .before .before .before .before .before .before .before .before .args .context) (c .before .before .before .before .before .before .before .before .before .before .before .before .before .before .before .before .args .count) (c .before .before .before .before .before .before .before .before .before .before .before .before .before .before .before .before .args .numbers .now) _ (sym (c .before .before .before .before .before .before .before .before .before .before .before .before .before .is-short .ensures) ∙ c .before .before .before .before .before .before .before .before .before .before .before .before .if1 .left) in
@@ -57,13 +48,5 @@ returns-2 c =
 
 pub store-spec : {M : Type 1} → statement M
 store-spec =
-    tie.close
-    (tie.spec
-    is-short-requires
-    returns
-    put-requires
-    put-requires-2
-    put-all-requires
-    cast-t16
-    same-length
-    returns-2)
+    tie.close (tie.spec (λ c κs. search needs) (λ c. no-room _ _ (sym (c .before .is-short .ensures) ∙ c .if1 .taken))
+    put-requires put-requires-2 put-all-requires cast-t16 (λ c. search needs) returns-2)

@@ -7,14 +7,7 @@ use borrow.Author.Needs.{needs}
 use Rattle.answers.proofs.archive.tezhukor_compare.Statement.{statement}
 use Rattle.answers.proofs.archive.tezhukor_compare.Tie as tie
 
-compare-requires : tie.Need-compare-requires
-compare-requires c κs = search needs
-
-compared-number-requires : tie.Need-compared-number-requires
-compared-number-requires c κs = search needs
-
-returns : tie.Need-returns
-returns c = c .compared-number .ensures ∙ ap (λ (x : Compared). oneNumber (comparedInNumbers x)) (c .before .compare .ensures)
-
 pub tezhukor-compare-spec : {M : Type 1} → statement M
-tezhukor-compare-spec = tie.close (tie.spec compare-requires compared-number-requires returns)
+tezhukor-compare-spec =
+    tie.close (tie.spec (λ c κs. search needs) (λ c κs. search needs)
+    (λ c. c .compared-number .ensures ∙ ap (λ (x : Compared). oneNumber (comparedInNumbers x)) (c .before .compare .ensures)))

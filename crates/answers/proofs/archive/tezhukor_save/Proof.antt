@@ -7,17 +7,7 @@ use borrow.Author.Needs.{needs}
 use Rattle.answers.proofs.archive.tezhukor_save.Statement.{statement}
 use Rattle.answers.proofs.archive.tezhukor_save.Tie as tie
 
-save-requires : tie.Need-save-requires
-save-requires c κs = search needs
-
-saved-number-requires : tie.Need-saved-number-requires
-saved-number-requires c κs = search needs
-
-same-length : tie.Need-same-length
-same-length c = search needs
-
-returns : tie.Need-returns
-returns c = let w = c .before .before .before .save .ensures in (c .saved-number .ensures ∙ ap (λ (x : Saved). oneNumber (savedInNumbers x)) (w .0), w .1)
-
 pub tezhukor-save-spec : {M : Type 1} → statement M
-tezhukor-save-spec = tie.close (tie.spec save-requires saved-number-requires same-length returns)
+tezhukor-save-spec =
+    tie.close (tie.spec (λ c κs. search needs) (λ c κs. search needs) (λ c. search needs)
+    (λ c. let w = c .before .before .before .save .ensures in (c .saved-number .ensures ∙ ap (λ (x : Saved). oneNumber (savedInNumbers x)) (w .0), w .1)))
