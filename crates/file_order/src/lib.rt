@@ -31,7 +31,7 @@ pub enum Compared {
 fn check(file: &[u8]) -> u16
     ensures { λ r. ⌜ r ≡ checksOf (now (file .entry)) ⌝ }
 {
-    let mut own = [0u16; sizes::NODE_CELLS * sizes::MOST_NODES];
+    let mut own = [0u16; sizes::NODE_CELLS * (sizes::MOST_NODES as usize)];
     let answer = load(file, &mut own);
     let Loaded::Refused(refusal) = answer else {
         return 0;

@@ -128,9 +128,9 @@ module _ (context count : ℕ) (cells own : List ℕ) (room : Accepted context c
         → (r ≡ saved context count cells (length buffer)) × (last ≡ savedAfter context count cells buffer)
     number-saved buffer last r e = saved-by context count cells ok own after (room ok) over-own buffer last r e
 
--- fewer than 64 nodes in 320 cells
-pub small-room : (context count : ℕ) (cells : List ℕ) → count < 64 → Accepted context count cells → nodeCells * count ≤ length (replicate {A = ℕ} 320 0)
-small-room context count cells h ok = rw (length-replicate {A = ℕ} 320 0) (omega arith)
+-- fewer than 64 nodes in the cells of 64
+pub small-room : (context count : ℕ) (cells : List ℕ) → count < 64 → Accepted context count cells → nodeCells * count ≤ length (replicate {A = ℕ} (nodeCells * 64) 0)
+small-room context count cells h ok = rw (length-replicate {A = ℕ} (nodeCells * 64) 0) (omega arith)
 
 -- and any in 20,480
 pub large-room : (context count : ℕ) (cells : List ℕ) → Accepted context count cells → nodeCells * count ≤ length (replicate {A = ℕ} (nodeCells * mostNodes) 0)

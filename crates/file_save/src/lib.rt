@@ -130,7 +130,7 @@ fn save_large(context: u16, count: u16, table: &[u16], file: &mut [u8]) -> Saved
     ensures { λ r. ⌜ r ≡ saved context count (now (table .entry)) (length (now (file .entry))) ⌝ }
     ensures { λ r. ⌜ now (file .exit) ≡ savedAfter context count (now (table .entry)) (now (file .entry)) ⌝ }
 {
-    let mut own = [0u16; sizes::NODE_CELLS * sizes::MOST_NODES];
+    let mut own = [0u16; sizes::NODE_CELLS * (sizes::MOST_NODES as usize)];
     let refused = number(context, count, table, &mut own);
     if refused != 0 {
         return Saved::Refused(refused);
