@@ -31,6 +31,7 @@ ROOTS = [
     'token_writer/Writes',
     'token_reader/Reading',
     'answers/Replies',
+    'answers/Bindings',
 ]
 
 # What the promises are checked against: not cited by them.

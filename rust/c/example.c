@@ -45,6 +45,9 @@ int main(void) {
     uint32_t bytes = tezhukor_save(context, count, table, cells, saved, BYTES);
     printf("saved %u bytes, compared %u\n", (unsigned)bytes,
            (unsigned)tezhukor_compare(file, sizeof file, saved, bytes));
+    /* The minus, 1, has the level of sums and leans left. */
+    uint16_t minus = tezhukor_binding(1);
+    printf("level %u, lean %u\n", (unsigned)TEZHUKOR_LEVEL(minus), (unsigned)TEZHUKOR_LEAN(minus));
     /* Without a buffer: told, and nothing followed. */
     printf("refused %u\n", (unsigned)tezhukor_decide(context, count, table, cells, NULL, 0, NULL, 0));
     printf("refused %u\n", (unsigned)TEZHUKOR_REFUSAL(tezhukor_load(NULL, 0, NULL, 0)));

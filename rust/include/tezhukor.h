@@ -92,6 +92,15 @@ uint32_t tezhukor_write(uint16_t context, uint16_t count, const uint16_t *table,
 uint32_t tezhukor_read(const uint16_t *tokens, size_t tokens_length, uint16_t *table,
                        size_t table_length);
 
+/* How an operator binds: its level, the precedence from Jump 0 to Unambiguous 15, times
+ * 4, plus which way it leans: 0 left, 1 right, 2 neither. Operators are 0 to 27, as in
+ * a Binary's detail, 28 for `=` and 29 for a Range's. Replies 65,535 for any other
+ * number. */
+#define TEZHUKOR_NO_OPERATOR 65535
+#define TEZHUKOR_LEVEL(binding) ((uint16_t)((binding) / 4))
+#define TEZHUKOR_LEAN(binding) ((uint16_t)((binding) % 4))
+uint16_t tezhukor_binding(uint16_t operator_number);
+
 #ifdef __cplusplus
 }
 #endif

@@ -130,3 +130,11 @@ pub fn read_here(tokens: &[u16], table: &mut [u16]) -> u32 {
         library::tezhukor_read(tokens.as_ptr(), tokens.len(), table.as_mut_ptr(), table.len())
     }
 }
+
+/// How an operator binds: its level times [`LEVEL_UNIT`](model::sizes::LEVEL_UNIT), and
+/// its lean, 0 left, 1 right, 2 neither; [`NO_OPERATOR`](model::sizes::NO_OPERATOR) for a
+/// number that is no operator's.
+pub fn binding(operator: u16) -> u16 {
+    // SAFETY: the function demands nothing of its argument.
+    unsafe { library::tezhukor_binding(operator) }
+}

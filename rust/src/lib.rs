@@ -46,10 +46,12 @@
 //! Names and literals travel beside the tree, in order of occurrence; tree files hold
 //! none. Nests that double the time of each level in prettyplease do not here.
 
+mod binding;
 pub mod boundary;
 mod refusal;
 mod tree;
 
+pub use binding::{Binding, Lean};
 #[doc(inline)]
 pub use model::{codes, forms, sizes};
 pub use refusal::Refusal;

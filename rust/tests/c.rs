@@ -22,6 +22,14 @@ fn example() {
     let _ = std::fs::remove_file(&program);
     assert!(output.status.success());
     let printed = String::from_utf8_lossy(&output.stdout);
-    let meant = "node 3 needs a pair\ntokens 32 1 35 32 1 32 36\nread back the same\nsaved 27 bytes, compared 1\nrefused 12\nrefused 2\n";
-    assert_eq!(printed, meant);
+    let meant = [
+        "node 3 needs a pair",
+        "tokens 32 1 35 32 1 32 36",
+        "read back the same",
+        "saved 27 bytes, compared 1",
+        "level 11, lean 0",
+        "refused 12",
+        "refused 2",
+    ];
+    assert_eq!(printed.lines().collect::<Vec<_>>(), meant);
 }

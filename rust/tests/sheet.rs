@@ -65,7 +65,8 @@ fn first_example() {
     assert_eq!(
         why,
         "node 3 `station - start`, right operand of node 1, Binary `-`: precedence Sum (11), \
-         the owner's Sum (11); the owner's test asks for it: it groups what is not above Sum (11)\n"
+         the owner's Sum (11); the owner's test asks for it: it groups what is not above Sum (11); \
+         `-` leans left: of operators of its level the left one comes first\n"
     );
     assert_eq!(printed(&["check", "-"], &file, 0), "accepted: 5 nodes, context 0, plain\n");
     let rows =
@@ -152,6 +153,42 @@ fn reasons() {
     // A struct in a condition.
     let condition = [3, 3, 5, 0, 12, 2, 3, 26, 0, 0, 0, 0, 32, 0, 0, 0, 0];
     assert!(printed(&["why", "-"], &condition, 0).contains("part 4"));
+}
+
+/// Where the lean of an operator asks for a pair, it is said.
+#[test]
+fn leans() {
+    let why = |text| printed(&["why", "-"], &tree_of(text), 0);
+    let comparisons =
+        "comparisons lean to neither side, so a comparison under a comparison always \
+                       stands in parentheses";
+    assert!(why("(left < right) == wet").contains(comparisons));
+    assert!(why("wet == (left < right)").contains(comparisons));
+    assert!(why("a - (b - c)").contains("`-` leans left: "));
+    assert!(why("a - (b + c)").contains("`-` leans left: "));
+    assert!(why("(a = b) = c").contains("`=` leans right: "));
+    assert!(why("(a += b) -= c").contains("`-=` leans right: "));
+    // A level that is another's asks for the pair whatever the lean.
+    for text in ["(a + b) * c", "(a = b) + c", "(a || b) == c", "(x as usize) < y", "(s.f)(x)"] {
+        assert!(!why(text).contains(" lean"), "{text}");
+    }
+    // A range left of another's dots.
+    let ranges = [0, 3, 27, 0, 0, 2, 0, 27, 0, 0, 3, 0, 26, 0, 0, 0, 0];
+    assert!(printed(&["why", "-"], &ranges, 0).contains("ranges lean to neither side"));
+}
+
+/// A second comparison is told from what has no reading for another reason.
+#[test]
+fn chains() {
+    for (text, column) in [("a == b == c", 8), ("a < b < c", 7), ("f(a, b >= c + 1 != d)", 17)] {
+        let message = printed(&["read", text], b"", 1);
+        let meant =
+            "sheet: refused (15): comparisons do not chain, so one of them needs parentheses";
+        assert!(message.starts_with(&format!("{meant} (line 1, column {column})")), "{message}");
+    }
+    for text in ["a == == b", "a + < b", "x as T<A == b", "a b == c", "f(a,,) == b"] {
+        assert!(!printed(&["read", text], b"", 1).contains("chain"), "{text}");
+    }
 }
 
 /// An error names the rule and points at the place.

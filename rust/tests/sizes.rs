@@ -7,7 +7,7 @@ use tezhukor::sizes::*;
 use tezhukor::{codes, Refusal};
 
 /// The numbers by name.
-const SIZES: [(&str, usize); 11] = [
+const SIZES: [(&str, usize); 14] = [
     ("NODE_CELLS", NODE_CELLS),
     ("ROW_CELLS", ROW_CELLS),
     ("SCRATCH_CELLS", SCRATCH_CELLS),
@@ -19,6 +19,9 @@ const SIZES: [(&str, usize); 11] = [
     ("MOST_FILE_BYTES", MOST_FILE_BYTES),
     ("LAST_CODE", LAST_CODE as usize),
     ("MOST_CELLS", MOST_CELLS),
+    ("LAST_OPERATOR", LAST_OPERATOR as usize),
+    ("NO_OPERATOR", NO_OPERATOR as usize),
+    ("LEVEL_UNIT", LEVEL_UNIT as usize),
 ];
 
 fn root() -> PathBuf {
@@ -101,9 +104,9 @@ fn the_header_agrees() {
         })
         .collect();
     defined.sort();
-    let meant = ["MOST_NODES", "MOST_TOKENS", "NODE_CELLS", "ROW_CELLS", "SCRATCH_CELLS"];
+    let cells = ["NODE_CELLS", "NO_OPERATOR", "ROW_CELLS", "SCRATCH_CELLS", "TOKENS_PER_NODE"];
     let names: Vec<&str> = defined.iter().map(|found| found.0).collect();
-    assert_eq!(names, [&meant[..], &["TOKENS_PER_NODE"]].concat());
+    assert_eq!(names, [&["MOST_NODES", "MOST_TOKENS"], &cells[..]].concat());
     assert!(defined.iter().all(|found| SIZES.contains(found)), "{defined:?}");
 }
 

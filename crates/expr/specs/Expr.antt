@@ -8,13 +8,37 @@ use Rattle.tree.specs.Forms.{ExprAssign, ExprAwait, ExprBinary, ExprBreak, Expr
 use Rattle.tree.specs.Trees.{Label, Tree}
 use Rattle.tree.specs.Walks.{atRoot}
 use Rattle.precedence.specs.declared.Precedence.{Precedence}
-use Rattle.precedence.specs.declared.Precedence.the-variants.{Jump, Assign, Range, Let, Compare, Cast, Prefix, Unambiguous}
-use Rattle.precedence.specs.Precedences.{same, ofBinop}
+use Rattle.precedence.specs.declared.Precedence.the-variants.{Jump, Range, Let, Cast, Prefix, Unambiguous}
+use Rattle.precedence.specs.declared.Lean.{Lean}
+use Rattle.precedence.specs.declared.Lean.the-variants.{Left, Right, Neither}
+use Rattle.precedence.specs.declared.Binding.{Binding}
+use Rattle.precedence.specs.Precedences.{assigns, ranges, binopBinding}
 use Rattle.classify.specs.Classify.{leadingLabel}
 use Rattle.fixup.specs.declared.context.FixupContext.{FixupContext}
 use Rattle.fixup.specs.Contexts.{NONE}
 use Rattle.expr.specs.declared.Handed.{Handed}
 use Rattle.expr.specs.Handed.{under, upTo, never, grouped, beforeOperator, beforeDot, atEnd, afterPrefix, neither}
+
+-- ---- operators, by level and lean
+
+-- left_needs_group: '<' its level where it leans left, '<=' where it leans to neither side; where it leans right, the crate's '<= Range'
+unfoldable pub leftTest : Lean → Precedence → ℕ
+leftTest Left level = under level
+leftTest Right level = upTo Range
+leftTest Neither level = upTo level
+
+-- right_needs_group: '<=' its level, but never where it leans right
+unfoldable pub rightTest : Lean → Precedence → ℕ
+rightTest Left level = upTo level
+rightTest Right level = never
+rightTest Neither level = upTo level
+
+-- the operand left of an operator, and the one right of it
+abbrev pub leftOf : FixupContext → Bool → Bool → Binding → Handed
+leftOf x begins generics o = beforeOperator x begins generics (o .level) (leftTest (o .lean) (o .level))
+
+abbrev pub rightOf : FixupContext → Bool → Binding → Handed
+rightOf x optional o = atEnd x false optional (o .level) (rightTest (o .lean) (o .level))
 
 -- ---- expr_binary
 
@@ -26,19 +50,11 @@ canBeginExpr op = lookup (line (1 ∷ 2 ∷ 5 ∷ 6 ∷ 8 ∷ 9 ∷ 10 ∷ 13 �
 unfoldable pub canBeginGenerics : ℕ → Bool
 canBeginGenerics op = lookup (line (10 ∷ 13 ∷ []) true ∷ []) false op
 
--- left_needs_group: '<= Range' for an assigning operator, '<=' its own precedence for a comparison, otherwise '<'
-unfoldable pub leftTest : Precedence → ℕ
-leftTest p = pick (same p Assign) (upTo Range) (pick (same p Compare) (upTo p) (under p))
-
--- right_needs_group: never for an assigning operator, otherwise '<=' its own precedence
-unfoldable pub rightTest : Precedence → ℕ
-rightTest p = pick (same p Assign) never (upTo p)
-
 unfoldable pub binaryLeft : FixupContext → ℕ → Handed
-binaryLeft x op = beforeOperator x (canBeginExpr op) (canBeginGenerics op) (ofBinop op) (leftTest (ofBinop op))
+binaryLeft x op = leftOf x (canBeginExpr op) (canBeginGenerics op) (binopBinding op)
 
 unfoldable pub binaryRight : FixupContext → ℕ → Handed
-binaryRight x op = atEnd x false false (ofBinop op) (rightTest (ofBinop op))
+binaryRight x op = rightOf x false (binopBinding op)
 
 -- ---- expr_call: a Field by its member alone ("Field: 0 named, 1 numbered"), anything else by its precedence
 
@@ -50,7 +66,7 @@ callTest t = atRoot (λ l a b. line (ExprField ∷ []) (grouped (eqb (l .detail)
 unfoldable pub firstLines : FixupContext → Label → Tree → Tree → List (Line Handed)
 firstLines x l a b =
     -- expr_assign
-    line (ExprAssign ∷ []) (beforeOperator x false false Assign (upTo Range)) ∷
+    line (ExprAssign ∷ []) (leftOf x false false assigns) ∷
     -- expr_await, expr_field, expr_method_call, expr_try
     line (ExprAwait ∷ ExprField ∷ ExprMethodCall ∷ ExprTry ∷ []) (beforeDot x (under Unambiguous)) ∷
     -- expr_binary
@@ -72,7 +88,7 @@ firstLines x l a b =
     -- expr_paren
     line (ExprParen ∷ []) (neither NONE) ∷
     -- expr_range: the start
-    line (ExprRange ∷ []) (beforeOperator x true false Range (upTo Range)) ∷
+    line (ExprRange ∷ []) (leftOf x true false ranges) ∷
     -- expr_raw_addr, expr_reference, expr_unary
     line (ExprRawAddr ∷ ExprReference ∷ ExprUnary ∷ []) (afterPrefix x Prefix) ∷
     -- expr_return, expr_yield
@@ -88,13 +104,13 @@ handsFirst x t = atRoot (firstLines x) (neither NONE) t
 unfoldable pub secondLines : FixupContext → Label → Tree → Tree → List (Line Handed)
 secondLines x l a b =
     -- expr_assign
-    line (ExprAssign ∷ []) (atEnd x false false Assign never) ∷
+    line (ExprAssign ∷ []) (rightOf x false assigns) ∷
     -- expr_binary
     line (ExprBinary ∷ []) (binaryRight x (l .detail)) ∷
     -- expr_index: the index
     line (ExprIndex ∷ []) (neither NONE) ∷
     -- expr_range: the end
-    line (ExprRange ∷ []) (atEnd x false true Range (upTo Range)) ∷
+    line (ExprRange ∷ []) (rightOf x true ranges) ∷
     []
 
 -- all other forms have no expression there

@@ -1,6 +1,8 @@
 // prettyplease's expr.rs: for each operand the owner's grouping test and the context that it hands down.
 use bools::both;
 use fixup::context::FixupContext;
+use precedence::Binding;
+use precedence::Lean;
 use precedence::Precedence;
 use tree::columns;
 use tree::forms;
@@ -12,7 +14,7 @@ ghost use mathlib.Core.Path.{_≡_};
 ghost use Rattle.tree.specs.Trees.{treeAt};
 ghost use Rattle.tree.specs.Steps.{treeOf};
 ghost use Rattle.expr.specs.Handed.{upTo, grouped, beforeOperator, beforeDot, atEnd, afterPrefix, neither};
-ghost use Rattle.expr.specs.Expr.{canBeginExpr, canBeginGenerics, leftTest, rightTest, binaryLeft, binaryRight, callTest, handsFirst, handsSecond};
+ghost use Rattle.expr.specs.Expr.{leftTest, rightTest, leftOf, rightOf, canBeginExpr, canBeginGenerics, binaryLeft, binaryRight, callTest, handsFirst, handsSecond};
 ghost use Rattle.expr.specs.Steps.{breakTest};
 
 // Which function of fixup.rs gives an operand's precedence.
@@ -139,40 +141,68 @@ fn can_begin_generics(op: u16) -> bool
     }
 }
 
-// expr_binary: left_needs_group.
-fn left_test(binop_prec: Precedence) -> u16
-    ensures { λ r. ⌜ r ≡ leftTest «binop_prec» ⌝ }
+// left_needs_group, by the operator's lean. Left of one that leans right the crate tests against Range's level.
+fn left_test(operator: Binding) -> u16
+    ensures { λ r. ⌜ r ≡ leftTest (operator .lean) (operator .level) ⌝ }
 {
-    if binop_prec.is_same(Precedence::Assign) {
-        return up_to(Precedence::Range);
+    let level = operator.level;
+    let lean = operator.lean;
+    match lean {
+        Lean::Left => level.rank(),
+        Lean::Right => up_to(Precedence::Range),
+        Lean::Neither => up_to(level),
     }
-    if binop_prec.is_same(Precedence::Compare) {
-        return up_to(binop_prec);
-    }
-    binop_prec.rank()
 }
 
-// expr_binary: right_needs_group.
-fn right_test(binop_prec: Precedence) -> u16
-    ensures { λ r. ⌜ r ≡ rightTest «binop_prec» ⌝ }
+// right_needs_group, by the operator's lean.
+fn right_test(operator: Binding) -> u16
+    ensures { λ r. ⌜ r ≡ rightTest (operator .lean) (operator .level) ⌝ }
 {
-    if binop_prec.is_same(Precedence::Assign) {
-        return NEVER;
+    let level = operator.level;
+    let lean = operator.lean;
+    match lean {
+        Lean::Left => up_to(level),
+        Lean::Right => NEVER,
+        Lean::Neither => up_to(level),
     }
-    up_to(binop_prec)
+}
+
+// The operand left of an operator: expr_assign, expr_binary, expr_range.
+fn left_of(
+    fixup: FixupContext,
+    can_begin_expr: bool,
+    can_begin_generics: bool,
+    operator: Binding,
+) -> Handed
+    ensures { λ r. ⌜ r ≡ leftOf fixup «can_begin_expr» «can_begin_generics» operator ⌝ }
+{
+    let level = operator.level;
+    before_operator(
+        fixup,
+        can_begin_expr,
+        can_begin_generics,
+        level,
+        left_test(operator),
+    )
+}
+
+// The operand right of an operator: the same three.
+fn right_of(fixup: FixupContext, optional_operand: bool, operator: Binding) -> Handed
+    ensures { λ r. ⌜ r ≡ rightOf fixup «optional_operand» operator ⌝ }
+{
+    let level = operator.level;
+    at_end(fixup, false, optional_operand, level, right_test(operator))
 }
 
 // expr_binary: the left operand.
 fn binary_left(fixup: FixupContext, op: u16) -> Handed
     ensures { λ r. ⌜ r ≡ binaryLeft fixup op ⌝ }
 {
-    let binop_prec = Precedence::of_binop(op);
-    before_operator(
+    left_of(
         fixup,
         can_begin_expr(op),
         can_begin_generics(op),
-        binop_prec,
-        left_test(binop_prec),
+        Binding::of_binop(op),
     )
 }
 
@@ -180,8 +210,7 @@ fn binary_left(fixup: FixupContext, op: u16) -> Handed
 fn binary_right(fixup: FixupContext, op: u16) -> Handed
     ensures { λ r. ⌜ r ≡ binaryRight fixup op ⌝ }
 {
-    let binop_prec = Precedence::of_binop(op);
-    at_end(fixup, false, false, binop_prec, right_test(binop_prec))
+    right_of(fixup, false, Binding::of_binop(op))
 }
 
 // expr_break: a value whose first token is a label, where the Break has none.
@@ -217,13 +246,7 @@ pub fn first_operand(fixup: FixupContext, table: &[u16], count: u16, node: u16) 
     let none = FixupContext::none();
     match form_at(table, count, node) {
         // expr_assign
-        forms::EXPR_ASSIGN => before_operator(
-            fixup,
-            false,
-            false,
-            Precedence::Assign,
-            up_to(Precedence::Range),
-        ),
+        forms::EXPR_ASSIGN => left_of(fixup, false, false, Binding::of_assign()),
         // expr_await, expr_field, expr_method_call, expr_try
         forms::EXPR_AWAIT | forms::EXPR_FIELD | forms::EXPR_METHOD_CALL | forms::EXPR_TRY => {
             before_dot(fixup, Precedence::Unambiguous.rank())
@@ -276,13 +299,7 @@ pub fn first_operand(fixup: FixupContext, table: &[u16], count: u16, node: u16) 
         // expr_paren
         forms::EXPR_PAREN => neither(none),
         // expr_range: the start
-        forms::EXPR_RANGE => before_operator(
-            fixup,
-            true,
-            false,
-            Precedence::Range,
-            up_to(Precedence::Range),
-        ),
+        forms::EXPR_RANGE => left_of(fixup, true, false, Binding::of_range()),
         // expr_raw_addr, expr_unary
         forms::EXPR_RAW_ADDR | forms::EXPR_UNARY => after_prefix(fixup, Precedence::Prefix),
         // expr_reference
@@ -303,19 +320,13 @@ pub fn second_operand(fixup: FixupContext, table: &[u16], count: u16, node: u16)
     let none = FixupContext::none();
     match form_at(table, count, node) {
         // expr_assign
-        forms::EXPR_ASSIGN => at_end(fixup, false, false, Precedence::Assign, NEVER),
+        forms::EXPR_ASSIGN => right_of(fixup, false, Binding::of_assign()),
         // expr_binary
         forms::EXPR_BINARY => binary_right(fixup, cell(table, node, columns::DETAIL)),
         // expr_index: the index
         forms::EXPR_INDEX => neither(none),
         // expr_range: the end
-        forms::EXPR_RANGE => at_end(
-            fixup,
-            false,
-            true,
-            Precedence::Range,
-            up_to(Precedence::Range),
-        ),
+        forms::EXPR_RANGE => right_of(fixup, true, Binding::of_range()),
         // all other forms have no expression there
         _ => neither(none),
     }

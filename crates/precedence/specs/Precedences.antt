@@ -8,6 +8,9 @@ use Rattle.tree.specs.Forms.{ExprAssign, ExprBinary, ExprBreak, ExprCast, ExprC
 use Rattle.tree.specs.Trees.{Label, Tree}
 use Rattle.tree.specs.Walks.{Ask, answer, first, isThere, walk}
 use Rattle.precedence.specs.declared.Precedence.{Precedence}
+use Rattle.precedence.specs.declared.Lean.{Lean}
+use Rattle.precedence.specs.declared.Lean.the-variants.{Left, Right, Neither}
+use Rattle.precedence.specs.declared.Binding.{Binding}
 use Rattle.precedence.specs.declared.Precedence.the-variants.{Jump, Assign, Range, Or, And, Let, Compare, BitOr, BitXor, BitAnd, Shift, Sum, Product, Cast, Prefix, Unambiguous}
 
 -- document 01: "Precedence numbers follow the enum's order: Jump 0 to Unambiguous 15."
@@ -39,30 +42,55 @@ atMost p q = leb (rankOf p) (rankOf q)
 abbrev pub same : Precedence → Precedence → Bool
 same p q = eqb (rankOf p) (rankOf q)
 
--- ---- operators, by document 01's numbers
+-- ---- operators, by document 01's numbers. Document 02: "The answer for an operator shall hold its level and which way it leans"
 
--- Precedence::of_binop
-unfoldable pub operators : List (Line Precedence)
+-- the enum's order, as for precedences
+abbrev pub leanNumber : Lean → ℕ
+leanNumber Left = 0
+leanNumber Right = 1
+leanNumber Neither = 2
+
+abbrev pub binding : Precedence → Lean → Binding
+binding p s = record { level = p; lean = s }
+
+-- "left, right (assigning operators) or neither (comparisons)"; the levels are of_binop's
+unfoldable pub operators : List (Line Binding)
 operators =
     -- Add, Sub
-    line (0 ∷ 1 ∷ []) Sum ∷
+    line (0 ∷ 1 ∷ []) (binding Sum Left) ∷
     -- Mul, Div, Rem
-    line (2 ∷ 3 ∷ 4 ∷ []) Product ∷
-    line (5 ∷ []) And ∷
-    line (6 ∷ []) Or ∷
-    line (7 ∷ []) BitXor ∷
-    line (8 ∷ []) BitAnd ∷
-    line (9 ∷ []) BitOr ∷
+    line (2 ∷ 3 ∷ 4 ∷ []) (binding Product Left) ∷
+    line (5 ∷ []) (binding And Left) ∷
+    line (6 ∷ []) (binding Or Left) ∷
+    line (7 ∷ []) (binding BitXor Left) ∷
+    line (8 ∷ []) (binding BitAnd Left) ∷
+    line (9 ∷ []) (binding BitOr Left) ∷
     -- Shl, Shr
-    line (10 ∷ 11 ∷ []) Shift ∷
+    line (10 ∷ 11 ∷ []) (binding Shift Left) ∷
     -- Eq, Lt, Le, Ne, Ge, Gt
-    line (12 ∷ 13 ∷ 14 ∷ 15 ∷ 16 ∷ 17 ∷ []) Compare ∷
+    line (12 ∷ 13 ∷ 14 ∷ 15 ∷ 16 ∷ 17 ∷ []) (binding Compare Neither) ∷
     -- the ten assigning operators
-    line (18 ∷ 19 ∷ 20 ∷ 21 ∷ 22 ∷ 23 ∷ 24 ∷ 25 ∷ 26 ∷ 27 ∷ []) Assign ∷
+    line (18 ∷ 19 ∷ 20 ∷ 21 ∷ 22 ∷ 23 ∷ 24 ∷ 25 ∷ 26 ∷ 27 ∷ []) (binding Assign Right) ∷
     []
 
+-- past them the crate's MIN
+abbrev pub binopBinding : ℕ → Binding
+binopBinding op = lookup operators (binding Jump Left) op
+
+-- "Range and `=`, which are no Binary operators, get the same kind of answer: neither, and right."
+abbrev pub assigns : Binding
+assigns = binding Assign Right
+
+abbrev pub ranges : Binding
+ranges = binding Range Neither
+
+-- any of them: 28 is `=`, 29 Range's
+unfoldable pub bindingOf : ℕ → Binding
+bindingOf op = lookup (line (28 ∷ []) assigns ∷ line (29 ∷ []) ranges ∷ []) (binopBinding op) op
+
+-- Precedence::of_binop
 unfoldable pub ofBinop : ℕ → Precedence
-ofBinop op = lookup operators Jump op
+ofBinop op = binopBinding op .level
 
 -- ---- expressions
 

@@ -1,39 +1,48 @@
--- The Rust Reference, 'Expression precedence': the binary operators from strong to weak, by document 01's numbers.
+-- The Rust Reference, 'Expression precedence': the operators from strong to weak and their associativity, by document 01's numbers.
+-- `=` is 28, and Range's operators are 29.
 use mathlib.Core.Bool.{Bool}
 use mathlib.Core.List.{List, [], _∷_}
 use Prim.Native.Nat.{ℕ, suc}
 use lib.Dec.{ltb}
-use Rattle.laws.specs.Choice.{pick, isOneOf}
+use Rattle.laws.specs.Choice.{pick, isOneOf, Line, line, lookup}
+use Rattle.precedence.specs.declared.Lean.{Lean}
+use Rattle.precedence.specs.declared.Lean.the-variants.{Left, Right, Neither}
 
-unfoldable pub strongFirst : List (List ℕ)
+-- "left to right" leans left, "right to left" leans right, and "require parentheses" leans to neither side
+unfoldable pub strongFirst : List (Line Lean)
 strongFirst =
     -- * / %
-    (2 ∷ 3 ∷ 4 ∷ []) ∷
+    line (2 ∷ 3 ∷ 4 ∷ []) Left ∷
     -- + -
-    (0 ∷ 1 ∷ []) ∷
+    line (0 ∷ 1 ∷ []) Left ∷
     -- << >>
-    (10 ∷ 11 ∷ []) ∷
+    line (10 ∷ 11 ∷ []) Left ∷
     -- &
-    (8 ∷ []) ∷
+    line (8 ∷ []) Left ∷
     -- ^
-    (7 ∷ []) ∷
+    line (7 ∷ []) Left ∷
     -- |
-    (9 ∷ []) ∷
+    line (9 ∷ []) Left ∷
     -- == != < > <= >=
-    (12 ∷ 15 ∷ 13 ∷ 17 ∷ 14 ∷ 16 ∷ []) ∷
+    line (12 ∷ 15 ∷ 13 ∷ 17 ∷ 14 ∷ 16 ∷ []) Neither ∷
     -- &&
-    (5 ∷ []) ∷
+    line (5 ∷ []) Left ∷
     -- ||
-    (6 ∷ []) ∷
-    -- += -= *= /= %= &= |= ^= <<= >>=
-    (18 ∷ 19 ∷ 20 ∷ 21 ∷ 22 ∷ 24 ∷ 25 ∷ 23 ∷ 26 ∷ 27 ∷ []) ∷
+    line (6 ∷ []) Left ∷
+    -- .. ..=
+    line (29 ∷ []) Neither ∷
+    -- = += -= *= /= %= &= |= ^= <<= >>=
+    line (28 ∷ 18 ∷ 19 ∷ 20 ∷ 21 ∷ 22 ∷ 24 ∷ 25 ∷ 23 ∷ 26 ∷ 27 ∷ []) Right ∷
     []
 
 -- the place of an operator's level, from 0, the strongest; past the levels, their number
-unfoldable pub placeIn : List (List ℕ) → ℕ → ℕ
+unfoldable pub placeIn : List (Line Lean) → ℕ → ℕ
 placeIn [] op = 0
-placeIn (level ∷ levels) op = pick (isOneOf level op) 0 (suc (placeIn levels op))
+placeIn (line ops lean ∷ levels) op = pick (isOneOf ops op) 0 (suc (placeIn levels op))
 
 -- a binds less strongly than b
 unfoldable pub weaker : ℕ → ℕ → Bool
 weaker a b = ltb (placeIn strongFirst b) (placeIn strongFirst a)
+
+unfoldable pub associativity : ℕ → Lean
+associativity op = lookup strongFirst Left op

@@ -11,7 +11,7 @@ ghost use Rattle.tree.specs.Operands.{formIn};
 ghost use Rattle.tree.specs.Trees.{treeAt};
 ghost use Rattle.tree.specs.Steps.{isPresent, into};
 ghost use Rattle.precedence.specs.declared.Precedence.the-variants.{Unambiguous};
-ghost use Rattle.precedence.specs.Precedences.{rankOf, below, atMost, same, ofBinop, prefixAttrs, closedBy, precedenceOf};
+ghost use Rattle.precedence.specs.Precedences.{rankOf, leanNumber, below, atMost, same, binding, assigns, ranges, binopBinding, bindingOf, ofBinop, prefixAttrs, closedBy, precedenceOf};
 ghost use Rattle.precedence.specs.Steps.{jumpBy, closureBy, ofStep, levelBy};
 
 pub enum Precedence {
@@ -49,10 +49,32 @@ pub enum Precedence {
     Unambiguous,
 }
 
+// Which way an operator leans: a chain of its level is read from the left, from the right, or not at all.
+pub enum Lean {
+    Left,
+    Right,
+    Neither,
+}
+
+// How an operator binds: its level, and which way it leans.
+pub struct Binding {
+    pub level: Precedence,
+    pub lean: Lean,
+}
+
 // What a node says of its precedence: the precedence, or the number of a Group's content, which has it.
 enum Level {
     Of(Precedence),
     Content(u16),
+}
+
+fn leaning(lean: Lean, level: Precedence) -> Binding
+    ensures { λ r. ⌜ r ≡ binding level lean ⌝ }
+{
+    Binding {
+        level: level,
+        lean: lean,
+    }
 }
 
 // Precedence::of for a closed form: its outer attributes bind like a prefix.
@@ -185,19 +207,8 @@ impl Precedence {
     pub fn of_binop(op: u16) -> Precedence
         ensures { λ r. ⌜ r ≡ ofBinop op ⌝ }
     {
-        match op {
-            0..=1 => Precedence::Sum,
-            2..=4 => Precedence::Product,
-            5 => Precedence::And,
-            6 => Precedence::Or,
-            7 => Precedence::BitXor,
-            8 => Precedence::BitAnd,
-            9 => Precedence::BitOr,
-            10..=11 => Precedence::Shift,
-            12..=17 => Precedence::Compare,
-            18..=27 => Precedence::Assign,
-            _ => Precedence::MIN,
-        }
+        let operator = Binding::of_binop(op);
+        operator.level
     }
 
     // The precedence of a node of a table.
@@ -211,6 +222,65 @@ impl Precedence {
                 Level::Of(precedence) => break precedence,
                 Level::Content(next) => at = next,
             }
+        }
+    }
+}
+
+impl Lean {
+    // 0, 1 or 2, in the enum's order.
+    pub fn number(self) -> u16
+        ensures { λ r. ⌜ r ≡ leanNumber self ⌝ }
+    {
+        match self {
+            Lean::Left => 0,
+            Lean::Right => 1,
+            Lean::Neither => 2,
+        }
+    }
+}
+
+impl Binding {
+    // The operator of a Binary, by its number.
+    pub fn of_binop(op: u16) -> Binding
+        ensures { λ r. ⌜ r ≡ binopBinding op ⌝ }
+    {
+        match op {
+            0..=1 => leaning(Lean::Left, Precedence::Sum),
+            2..=4 => leaning(Lean::Left, Precedence::Product),
+            5 => leaning(Lean::Left, Precedence::And),
+            6 => leaning(Lean::Left, Precedence::Or),
+            7 => leaning(Lean::Left, Precedence::BitXor),
+            8 => leaning(Lean::Left, Precedence::BitAnd),
+            9 => leaning(Lean::Left, Precedence::BitOr),
+            10..=11 => leaning(Lean::Left, Precedence::Shift),
+            12..=17 => leaning(Lean::Neither, Precedence::Compare),
+            18..=27 => leaning(Lean::Right, Precedence::Assign),
+            _ => leaning(Lean::Left, Precedence::MIN),
+        }
+    }
+
+    // The `=` of an Assign.
+    pub fn of_assign() -> Binding
+        ensures { λ r. ⌜ r ≡ assigns ⌝ }
+    {
+        leaning(Lean::Right, Precedence::Assign)
+    }
+
+    // The `..` or `..=` of a Range.
+    pub fn of_range() -> Binding
+        ensures { λ r. ⌜ r ≡ ranges ⌝ }
+    {
+        leaning(Lean::Neither, Precedence::Range)
+    }
+
+    // Any operator: 0 to 27 those of Binary, 28 `=`, 29 Range's.
+    pub fn of(operator: u16) -> Binding
+        ensures { λ r. ⌜ r ≡ bindingOf operator ⌝ }
+    {
+        match operator {
+            28 => Binding::of_assign(),
+            29 => Binding::of_range(),
+            _ => Binding::of_binop(operator),
         }
     }
 }

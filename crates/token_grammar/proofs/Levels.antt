@@ -1,5 +1,5 @@
--- The levels: they are the crate's precedences and in the Reference's order, and what the rule of level and lean gives. Assumes nothing.
-use mathlib.Core.Path.{_≡_, refl, sym, subst, ap₂, _∙_}
+-- The levels and leans: they are those of the operators' answers and of the Reference, and what the rule of level and lean gives. Assumes nothing.
+use mathlib.Core.Path.{_≡_, refl, sym, subst, ap, ap₂, _∙_}
 use mathlib.Core.Bool.{Bool, true, false, not, _||_}
 use mathlib.Core.List.{List, [], _∷_}
 use Prim.Native.Nat.{ℕ, _≤_, _<_}
@@ -10,32 +10,52 @@ use borrow.Author.Tests.{eqb-true, le-leb}
 use Rattle.laws.specs.Choice.{pick, lookup}
 use Rattle.precedence.specs.declared.Precedence.the-variants.{Cast, Prefix, Unambiguous}
 use Rattle.precedence.specs.declared.Precedence.the-variants.{Assign as AssignPrecedence}
-use Rattle.precedence.specs.Precedences.{rankOf, operators, ofBinop}
-use Rattle.precedence.specs.Reference.{weaker}
-use Rattle.precedence.proofs.Levels.{levels-agree}
+use Rattle.precedence.specs.declared.Lean.{Lean}
+use Rattle.precedence.specs.declared.Lean.the-variants.{Left, Right, Neither}
+use Rattle.precedence.specs.declared.Binding.{Binding}
+use Rattle.precedence.specs.Precedences.{rankOf, leanNumber, operators, bindingOf, ofBinop}
+use Rattle.precedence.specs.Reference.{weaker, associativity}
+use Rattle.precedence.proofs.Levels.{levels-agree, same-lean, leans-agree, binop-binding}
 use Rattle.token_grammar.specs.Tokens.{Operator, Assign, number}
-use Rattle.token_grammar.specs.Levels.{Kind, assignments, ors, ands, comparisons, bitOrs, bitXors, bitAnds, shifts, sums, products, casts, prefixes, postfixes, kind, level, before, after}
-use Rattle.token_grammar.proofs.Tokens.{allIn, all-in, each-operator, ofOperators}
+use Rattle.token_grammar.specs.Levels.{Kind, assignments, ors, ands, comparisons, bitOrs, bitXors, bitAnds, shifts, sums, products, casts, prefixes, postfixes, kind, level, leansLeft, leansRight, before, after}
+use Rattle.token_grammar.proofs.Tokens.{allIn, all-in, each-operator, ofOperators, number-below}
 
--- ---- the same levels elsewhere
+-- ---- the same levels and leans elsewhere: an operator's answer, and the Reference
 
--- an operator's level is the precedence that of_binop gives; `=`, which is no Binary operator, has that of Assign
+pub operator-level : (o : Operator) → rankOf (bindingOf (number o) .level) ≡ level (kind o)
+unfolding bindingOf operators lookup pick kind
+operator-level o =
+    eqb→eq (rankOf (bindingOf (number o) .level)) (level (kind o)) (each-operator (λ x. eqb (rankOf (bindingOf (number x) .level)) (level (kind x))) tt o)
+
+-- the lean that the two tests of a kind say
+abbrev leanBy : Bool → Bool → Lean
+leanBy true right = Left
+leanBy false true = Right
+leanBy false false = Neither
+
+pub operator-lean : (o : Operator) → bindingOf (number o) .lean ≡ leanBy (leansLeft (kind o)) (leansRight (kind o))
+unfolding bindingOf operators lookup pick kind
+operator-lean o =
+    same-lean (bindingOf (number o) .lean) (leanBy (leansLeft (kind o)) (leansRight (kind o)))
+    (each-operator (λ x. eqb (leanNumber (bindingOf (number x) .lean)) (leanNumber (leanBy (leansLeft (kind x)) (leansRight (kind x))))) tt o)
+
+-- of_binop, which gives nothing for `=`
 pub binop-level : (o : Operator) → number o < number Assign → rankOf (ofBinop (number o)) ≡ level (kind o)
-unfolding ofBinop operators lookup pick kind
-binop-level o h =
-    go (eqb (number o) (number Assign)) refl (each-operator (λ x. pick (eqb (number x) (number Assign)) true (eqb (rankOf (ofBinop (number x))) (level (kind x)))) tt o)
-  where
-    go : (b : Bool) → eqb (number o) (number Assign) ≡ b → T (pick b true (eqb (rankOf (ofBinop (number o))) (level (kind o)))) → rankOf (ofBinop (number o)) ≡ level (kind o)
-    go true e t = absurd (omega (arith, eqb-true (number o) (number Assign) e))
-    go false e t = eqb→eq (rankOf (ofBinop (number o))) (level (kind o)) t
+unfolding ofBinop
+binop-level o h = sym (ap (λ (b : Binding). rankOf (b .level)) (binop-binding (number o) h)) ∙ operator-level o
 
 pub form-levels : (rankOf AssignPrecedence ≡ level (kind Assign)) × (rankOf Cast ≡ level casts) × (rankOf Prefix ≡ level prefixes) × (rankOf Unambiguous ≡ level postfixes)
 unfolding kind lookup pick
 form-levels = (refl, refl, refl, refl)
 
--- one operator's level is below another's exactly where the Reference has it weaker
-pub reference-order : (o p : Operator) → number o < number Assign → number p < number Assign → ltb (level (kind o)) (level (kind p)) ≡ weaker (number o) (number p)
-reference-order o p h k = sym (ap₂ ltb (binop-level o h) (binop-level p k)) ∙ levels-agree (number o) (number p) h k
+-- one operator's level is below another's exactly where the Reference has it weaker, and each leans as its associativity says
+pub reference-order : (o p : Operator) → ltb (level (kind o)) (level (kind p)) ≡ weaker (number o) (number p)
+reference-order o p =
+    sym (ap₂ ltb (operator-level o) (operator-level p))
+    ∙ levels-agree (number o) (number p) (omega (arith, number-below o)) (omega (arith, number-below p))
+
+pub reference-lean : (o : Operator) → associativity (number o) ≡ leanBy (leansLeft (kind o)) (leansRight (kind o))
+reference-lean o = sym (leans-agree (number o) (omega (arith, number-below o))) ∙ operator-lean o
 
 -- ---- what the rule of level and lean gives
 

@@ -32,7 +32,7 @@ use Rattle.token_plain.specs.Trees.{label, operatorLabel, treeOf}
 use Rattle.token_rows.proofs.Contexts.{Calm, calm-none, calm-operator, calm-dot, calm-rightmost}
 use Rattle.token_rows.proofs.Nodes.{Operating, assigning, operating, operated}
 use Rattle.token_rows.proofs.Operands.{Settled}
-use Rattle.token_rows.proofs.Tests.{operator-pair, dot-pair, end-pair, no-pair, generics-is, operator-settled, assign-test, left-test, right-test, call-test}
+use Rattle.token_rows.proofs.Tests.{operator-pair, dot-pair, end-pair, no-pair, generics-is, operator-settled, assign-test, testLeft, testRight, left-test, right-test, call-test}
 
 -- an operand that gets h has a pair where p says so, and the flag g stands over it
 pub record Operand (h : Handed) (a : Expr one) (p g : Bool) : Type 0 where
@@ -63,7 +63,7 @@ module _ (x : FixupContext) (c : Calm x) (s : Settled x) where
       }
 
   before-binary : (o : Operator) → number o < 28 → (a : Expr one) → Operand (binaryLeft x (number o)) a (tooWeakBefore o a) (opensArguments o)
-  unfolding binaryLeft beforeOperator
+  unfolding binaryLeft beforeOperator ofBinop
   before-binary o h a =
       let begins = canBeginExpr (number o) in
       let generics = canBeginGenerics (number o) in
@@ -72,7 +72,7 @@ module _ (x : FixupContext) (c : Calm x) (s : Settled x) where
         calm = calm-operator x c begins generics next;
         settled = operator-settled x o h;
         pair =
-            operator-pair x c a begins generics next (leftTest next) (rw (binop-level o h) (operator-low o))
+            operator-pair x c a begins generics next (testLeft o) (rw (binop-level o h) (operator-low o))
             ∙ left-test o h generics a
             ∙ ap (λ f. ltb (strength f a) (before (kind o))) (generics-is o h);
         flag = generics-is o h;
@@ -97,7 +97,7 @@ module _ (x : FixupContext) (c : Calm x) (s : Settled x) where
   prefix-first refMut a = at-end rank.Prefix 14 a (omega arith)
 
   pub binary-first : (o : Operator) (a b : Expr one) → Operand (handsFirst x (treeOf (binary o a b))) a (tooWeakBefore o a) (opensArguments o)
-  unfolding handsFirst firstLines atRoot lookup pick operatorLabel opensArguments kind
+  unfolding handsFirst firstLines atRoot lookup pick operatorLabel opensArguments kind leftTest
   binary-first o a b = go (operated o)
     where
       go : Operating o → Operand (handsFirst x (treeOf (binary o a b))) a (tooWeakBefore o a) (opensArguments o)
@@ -105,15 +105,15 @@ module _ (x : FixupContext) (c : Calm x) (s : Settled x) where
       go (operating h e) = rw e (before-binary o h a)
 
   pub binary-second : (o : Operator) (a b : Expr one) → Operand (handsSecond x (treeOf (binary o a b))) b (tooWeakAfter o g b) g
-  unfolding handsSecond secondLines atRoot lookup pick operatorLabel binaryRight kind
+  unfolding handsSecond secondLines atRoot lookup pick operatorLabel binaryRight kind rightTest ofBinop
   binary-second o a b = go (operated o)
     where
       go : Operating o → Operand (handsSecond x (treeOf (binary o a b))) b (tooWeakAfter o g b) g
       go (assigning e) = rw e (at-end rank.Assign 0 b (omega arith))
       go (operating h e) =
           rw e
-          (subst (λ n. Operand (atEnd x false false (ofBinop (number o)) (rightTest (ofBinop (number o)))) b (ltb (strength g b) n) g) (right-test o h)
-          (at-end (ofBinop (number o)) (rightTest (ofBinop (number o))) b (rw (binop-level o h) (omega (arith, operator-high o)))))
+          (subst (λ n. Operand (atEnd x false false (ofBinop (number o)) (testRight o)) b (ltb (strength g b) n) g) (right-test o h)
+          (at-end (ofBinop (number o)) (testRight o) b (rw (binop-level o h) (omega (arith, operator-high o)))))
 
   pub cast-first : (a : Expr one) (t : Ty one) → Operand (handsFirst x (treeOf (cast a t))) a (tooWeak (before casts) false a) false
   unfolding handsFirst firstLines atRoot lookup pick

@@ -13,7 +13,7 @@ use Rattle.tree.specs.Trees.{Tree}
 use Rattle.tree.specs.Walks.{atRoot}
 use Rattle.precedence.specs.declared.Precedence.{Precedence}
 use Rattle.precedence.specs.declared.Precedence.the-variants as rank
-use Rattle.precedence.specs.Precedences.{rankOf, same, operators, ofBinop}
+use Rattle.precedence.specs.Precedences.{rankOf, same, operators, binopBinding, ofBinop}
 use Rattle.fixup.specs.declared.context.FixupContext.{FixupContext}
 use Rattle.fixup.specs.Contexts.{NONE, withOperator, withDot, rightmost}
 use Rattle.fixup.specs.Fixup.{parenthesize, effective}
@@ -118,23 +118,30 @@ no-two s h = go (ltb s 2) refl
 pub assign-test : (g : Bool) (a : Expr one) → ltb (strength g a) 3 ≡ ltb (strength g a) 2
 assign-test g a = no-two (strength g a) (strength-no-range g a)
 
-pub left-test : (o : Operator) → number o < 28 → (g : Bool) (a : Expr one) → ltb (strength g a) (leftTest (ofBinop (number o))) ≡ ltb (strength g a) (before (kind o))
+-- the tests on either side of a Binary operator, by its level and lean
+abbrev pub testLeft : Operator → ℕ
+testLeft o = leftTest (binopBinding (number o) .lean) (ofBinop (number o))
+
+abbrev pub testRight : Operator → ℕ
+testRight o = rightTest (binopBinding (number o) .lean) (ofBinop (number o))
+
+pub left-test : (o : Operator) → number o < 28 → (g : Bool) (a : Expr one) → ltb (strength g a) (testLeft o) ≡ ltb (strength g a) (before (kind o))
 unfolding leftTest ofBinop operators lookup pick kind
 left-test o h g a = go (eqb (level (kind o)) 1) refl
   where
-    go : (b : Bool) → eqb (level (kind o)) 1 ≡ b → ltb (strength g a) (leftTest (ofBinop (number o))) ≡ ltb (strength g a) (before (kind o))
+    go : (b : Bool) → eqb (level (kind o)) 1 ≡ b → ltb (strength g a) (testLeft o) ≡ ltb (strength g a) (before (kind o))
     go true e =
         let own = eqb (level (kind o)) 1 in
-        let l = equal-when own (leftTest (ofBinop (number o))) 3 e (but-assign (λ q. not (eqb (level (kind q)) 1) || eqb (leftTest (ofBinop (number q))) 3) tt o h) in
+        let l = equal-when own (testLeft o) 3 e (but-assign (λ q. not (eqb (level (kind q)) 1) || eqb (testLeft q) 3) tt o h) in
         let r = equal-when own (before (kind o)) 2 e (but-assign (λ q. not (eqb (level (kind q)) 1) || eqb (before (kind q)) 2) tt o h) in
         ap (ltb (strength g a)) l ∙ assign-test g a ∙ sym (ap (ltb (strength g a)) r)
     go false e =
         ap (ltb (strength g a))
-        (equal-unless (eqb (level (kind o)) 1) (leftTest (ofBinop (number o))) (before (kind o)) e (but-assign (λ q. eqb (level (kind q)) 1 || eqb (leftTest (ofBinop (number q))) (before (kind q))) tt o h))
+        (equal-unless (eqb (level (kind o)) 1) (testLeft o) (before (kind o)) e (but-assign (λ q. eqb (level (kind q)) 1 || eqb (testLeft q) (before (kind q))) tt o h))
 
-pub right-test : (o : Operator) → number o < 28 → rightTest (ofBinop (number o)) ≡ lowestRight (leansRight (kind o)) (level (kind o))
+pub right-test : (o : Operator) → number o < 28 → testRight o ≡ lowestRight (leansRight (kind o)) (level (kind o))
 unfolding rightTest ofBinop operators lookup pick kind
-right-test o h = eqb→eq (rightTest (ofBinop (number o))) (lowestRight (leansRight (kind o)) (level (kind o))) (but-assign (λ q. eqb (rightTest (ofBinop (number q))) (lowestRight (leansRight (kind q)) (level (kind q)))) tt o h)
+right-test o h = eqb→eq (testRight o) (lowestRight (leansRight (kind o)) (level (kind o))) (but-assign (λ q. eqb (testRight q) (lowestRight (leansRight (kind q)) (level (kind q)))) tt o h)
 
 -- ---- what is called: a Field by its member alone, anything else by its strength
 

@@ -51,5 +51,14 @@ pub const fn file_bytes(nodes: usize) -> usize {
     NUMBER_BYTES * (2 + NODE_CELLS * nodes)
 }
 
+/// The last number of an operator: Binary's are 0 to 27, 28 is `=`, and this is Range's.
+pub const LAST_OPERATOR: u16 = 29;
+
+/// The answer for a number that is no operator's.
+pub const NO_OPERATOR: u16 = 65_535;
+
+/// The answer for an operator is its level times this, and its lean.
+pub const LEVEL_UNIT: u16 = 4;
+
 /// Cells of the largest table.
 pub const MOST_CELLS: usize = NODE_CELLS * MOST_NODES;

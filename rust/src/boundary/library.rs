@@ -1,4 +1,4 @@
-//! The exports of the static libraries: of `answers` the first six, of `asked` the
+//! The exports of the static libraries: of `answers` the first seven, of `asked` the
 //! others. They are declared here only.
 
 extern "C" {
@@ -51,6 +51,8 @@ extern "C" {
         table: *mut u16,
         table_length: usize,
     ) -> u32;
+
+    pub fn tezhukor_binding(operator: u16) -> u16;
 
     pub fn tezhukor_answer(
         question: u16,

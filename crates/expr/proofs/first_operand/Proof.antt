@@ -7,10 +7,10 @@ use Rattle.tree.specs.Trees.{labelAt}
 use Rattle.tree_shapes.specs.Shapes.{shapeLines, firstInShape}
 use Rattle.tree.proofs.Matches.{root-arm, root-rest}
 use Rattle.tree_shapes.proofs.Shapes.{shape-is}
-use Rattle.precedence.specs.declared.Precedence.the-variants.{Jump, Assign, Range, Cast, Unambiguous}
+use Rattle.precedence.specs.declared.Precedence.the-variants.{Jump, Cast, Unambiguous}
 use Rattle.fixup.specs.Contexts.{NONE}
 use Rattle.expr.specs.Handed.{beforeOperator, beforeDot, atEnd, neither}
-use Rattle.expr.specs.Expr.{binaryLeft, callTest, firstLines, handsFirst}
+use Rattle.expr.specs.Expr.{leftOf, binaryLeft, callTest, firstLines, handsFirst}
 use Rattle.expr.specs.Steps.{breakTest}
 use Rattle.tree.specs.Steps.{treeOf}
 use Rattle.tree.proofs.Walks.{tree-of}
@@ -27,7 +27,7 @@ returns-4 c =
 returns-5 : tie.Need-returns-5
 unfolding handsFirst firstLines shapeLines firstInShape
 returns-5 c =
-    c .before-operator2 .ensures
+    c .before-operator .ensures
     ∙ ap (beforeOperator (c .before .before .before .before .before .before .before .args .fixup) true false Unambiguous) (c .before .call-test .ensures ∙ ap callTest (ap (treeOf (c .before .before .before .before .before .before .before .args .table .now) (c .before .before .before .before .before .before .before .args .count)) (c .before .before .first-at2 .ensures ∙ ap firstInShape (shape-is _ _ _ _ (c .before .before .before .before .form-at .ensures) (8 ∷ []) (c .before .before .before .match .keys5) 0 tt tt)) ∙ tree-of _ _ _))
     ∙ root-arm _ _ _ (firstLines (c .before .before .before .before .before .before .before .args .fixup)) (neither NONE) _ (c .before .before .before .before .form-at .ensures) tt 4 tt (c .before .before .before .match .keys5)
 
@@ -36,17 +36,17 @@ unfolding handsFirst firstLines labelAt
 first-operand-spec =
     tie.close (tie.spec free free free free free free free free free free free free free free free free free free free
     free free free free free free free free free free
-    (λ c. c .before-operator .ensures ∙ ap (beforeOperator (c .before .before .before .before .before .before .args .fixup) false false Assign) (c .before .up-to .ensures) ∙ root-arm _ _ _ (firstLines (c .before .before .before .before .before .before .args .fixup)) (neither NONE) _ (c .before .before .before .form-at .ensures) tt 0 tt (c .before .before .match .keys1))
+    (λ c. c .left-of .ensures ∙ ap (leftOf (c .before .before .before .before .before .before .args .fixup) false false) (c .before .of-assign .ensures) ∙ root-arm _ _ _ (firstLines (c .before .before .before .before .before .before .args .fixup)) (neither NONE) _ (c .before .before .before .form-at .ensures) tt 0 tt (c .before .before .match .keys1))
     (λ c. c .before-dot .ensures ∙ ap (beforeDot (c .before .before .before .before .before .before .args .fixup)) (c .before .rank .ensures) ∙ root-arm _ _ _ (firstLines (c .before .before .before .before .before .before .args .fixup)) (neither NONE) _ (c .before .before .before .form-at .ensures) tt 1 tt (c .before .before .match .keys2))
     (λ c. c .binary-left .ensures ∙ ap (binaryLeft (c .before .before .before .before .before .before .args .fixup)) (c .before .cell .ensures) ∙ root-arm _ _ _ (firstLines (c .before .before .before .before .before .before .args .fixup)) (neither NONE) _ (c .before .before .before .form-at .ensures) tt 2 tt (c .before .before .match .keys3))
     returns-4 returns-5
-    (λ c. c .before-operator3 .ensures ∙ ap (beforeOperator (c .before .before .before .before .before .before .args .fixup) false false Cast) (c .before .rank2 .ensures) ∙ root-arm _ _ _ (firstLines (c .before .before .before .before .before .before .args .fixup)) (neither NONE) _ (c .before .before .before .form-at .ensures) tt 5 tt (c .before .before .match .keys6))
+    (λ c. c .before-operator2 .ensures ∙ ap (beforeOperator (c .before .before .before .before .before .before .args .fixup) false false Cast) (c .before .rank2 .ensures) ∙ root-arm _ _ _ (firstLines (c .before .before .before .before .before .before .args .fixup)) (neither NONE) _ (c .before .before .before .form-at .ensures) tt 5 tt (c .before .before .match .keys6))
     (λ c. c .at-end2 .ensures ∙ root-arm _ _ _ (firstLines (c .before .before .before .before .before .args .fixup)) (neither NONE) _ (c .before .before .form-at .ensures) tt 6 tt (c .before .match .keys7))
     (λ c. c .neither .ensures ∙ root-arm _ _ _ (firstLines (c .before .before .before .before .before .args .fixup)) (neither NONE) _ (c .before .before .form-at .ensures) tt 7 tt (c .before .match .keys8))
-    (λ c. c .before-operator4 .ensures ∙ ap (beforeOperator (c .before .before .before .before .before .before .args .fixup) true false Unambiguous) (c .before .rank3 .ensures) ∙ root-arm _ _ _ (firstLines (c .before .before .before .before .before .before .args .fixup)) (neither NONE) _ (c .before .before .before .form-at .ensures) tt 8 tt (c .before .before .match .keys9))
+    (λ c. c .before-operator3 .ensures ∙ ap (beforeOperator (c .before .before .before .before .before .before .args .fixup) true false Unambiguous) (c .before .rank3 .ensures) ∙ root-arm _ _ _ (firstLines (c .before .before .before .before .before .before .args .fixup)) (neither NONE) _ (c .before .before .before .form-at .ensures) tt 8 tt (c .before .before .match .keys9))
     (λ c. c .after-prefix .ensures ∙ root-arm _ _ _ (firstLines (c .before .before .before .before .before .args .fixup)) (neither NONE) _ (c .before .before .form-at .ensures) tt 9 tt (c .before .match .keys10))
     (λ c. c .neither2 .ensures ∙ ap neither (c .before .before .before .none .ensures) ∙ root-arm _ _ _ (firstLines (c .before .before .before .before .before .args .fixup)) (neither NONE) _ (c .before .before .form-at .ensures) tt 10 tt (c .before .match .keys11))
-    (λ c. c .before-operator5 .ensures ∙ ap (beforeOperator (c .before .before .before .before .before .before .args .fixup) true false Range) (c .before .up-to2 .ensures) ∙ root-arm _ _ _ (firstLines (c .before .before .before .before .before .before .args .fixup)) (neither NONE) _ (c .before .before .before .form-at .ensures) tt 11 tt (c .before .before .match .keys12))
+    (λ c. c .left-of2 .ensures ∙ ap (leftOf (c .before .before .before .before .before .before .args .fixup) true false) (c .before .of-range .ensures) ∙ root-arm _ _ _ (firstLines (c .before .before .before .before .before .before .args .fixup)) (neither NONE) _ (c .before .before .before .form-at .ensures) tt 11 tt (c .before .before .match .keys12))
     (λ c. c .after-prefix2 .ensures ∙ root-arm _ _ _ (firstLines (c .before .before .before .before .before .args .fixup)) (neither NONE) _ (c .before .before .form-at .ensures) tt 12 tt (c .before .match .keys13))
     (λ c. c .after-prefix3 .ensures ∙ root-arm _ _ _ (firstLines (c .before .before .before .before .before .args .fixup)) (neither NONE) _ (c .before .before .form-at .ensures) tt 13 tt (c .before .match .keys14))
     (λ c. c .at-end3 .ensures ∙ root-arm _ _ _ (firstLines (c .before .before .before .before .before .args .fixup)) (neither NONE) _ (c .before .before .form-at .ensures) tt 14 tt (c .before .match .keys15))

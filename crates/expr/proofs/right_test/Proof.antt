@@ -1,13 +1,13 @@
 -- `expr::right_test` meets its contract. Assumes nothing.
-use mathlib.Core.Path.{sym, _∙_}
-use Rattle.laws.proofs.Choice.{pick-true, pick-false}
 use Rattle.laws.proofs.Calls.{free}
 use Rattle.expr.specs.Expr.{rightTest}
+use borrow.Author.Needs.{needs}
 use Rattle.expr.proofs.right_test.Statement.{statement}
 use Rattle.expr.proofs.right_test.Tie as tie
 
 pub right-test-spec : {M : Type 1} → statement M
 unfolding rightTest
 right-test-spec =
-    tie.close (tie.spec free (λ c. sym (pick-true _ _ (sym (c .before .is-same .ensures) ∙ c .if1 .taken))) free
-    (λ c. c .up-to .ensures ∙ sym (pick-false _ _ (sym (c .before .before .is-same .ensures) ∙ c .before .if1 .left))))
+    tie.close (tie.spec (λ c. search needs) free (λ c. search needs) (λ c. search needs) free
+    (λ c. rw (c .before .enum-told .given .1) (c .up-to .ensures)) (λ c. rw (c .enum-told2 .given .1))
+    (λ c. rw (c .before .enum-told3 .given .1) (c .up-to2 .ensures)))

@@ -1,8 +1,8 @@
 //! Where a text is wrong.
 
 use crate::open::{Next, Open};
-use tezhukor::codes::{COMMA, NAME};
-use tezhukor::{Refusal, Tree};
+use tezhukor::codes::{AND_AND, COMMA, EQUALS, NAME};
+use tezhukor::{Binding, Lean, Refusal, Tree};
 
 /// The token from which on there is no reading; behind the last one the text ends
 /// too early.
@@ -18,6 +18,9 @@ pub fn unread(codes: &[u16]) -> Unread {
     let token = lengths.partition_point(|&length| begins_a_reading(&codes[..length]));
     let message = match token == codes.len() {
         true => ends_early(codes),
+        false if chains(codes, token) => {
+            "refused (15): comparisons do not chain, so one of them needs parentheses"
+        }
         false => "refused (15): nothing that begins like this has a reading, from here on",
     };
     Unread { token, message: message.to_string() }
@@ -31,6 +34,16 @@ fn begins_a_reading(codes: &[u16]) -> bool {
         let list = [codes, name, &closing[..]].concat();
         Tree::read(&list) != Err(Refusal::NoReading)
     })
+}
+
+/// Whether the token is a comparison where an operator may stand that leans to a side: it
+/// is another comparison that keeps it from there.
+fn chains(codes: &[u16], token: usize) -> bool {
+    let is_comparison = |code| {
+        code < EQUALS && Binding::of(code).is_some_and(|binding| binding.lean == Lean::Neither)
+    };
+    let with_and = [&codes[..token], &[AND_AND]].concat();
+    is_comparison(codes[token]) && begins_a_reading(&with_and)
 }
 
 fn ends_early(codes: &[u16]) -> &'static str {

@@ -5,7 +5,7 @@ use crate::show::{self, Shown};
 use crate::words;
 use tezhukor::boundary::questions::{self, Context, Handed, InContext, Place};
 use tezhukor::forms::{Side, *};
-use tezhukor::{Node, Row, Tree};
+use tezhukor::{Binding, Node, Row, Tree};
 
 /// The flag of a context that says: the next operator can begin generic arguments.
 const GENERICS: u16 = 1 << 9;
@@ -191,7 +191,31 @@ impl Operand<'_> {
             true => "; only the generics flag makes it so, for `<` or `<<` behind a type name",
             false => "",
         };
-        format!("the owner's test asks for it: {}{only}", self.test())
+        format!("the owner's test asks for it: {}{}{only}", self.test(), self.lean())
+    }
+
+    /// The number of the owner's operator, where it has one between its operands.
+    fn owners_operator(&self) -> Option<u16> {
+        let owner = self.tree.node(self.owner?.0)?;
+        match owner.form {
+            BINARY => Some(owner.detail),
+            ASSIGN => Some(Binding::ASSIGN),
+            RANGE => Some(Binding::RANGE),
+            _ => None,
+        }
+    }
+
+    /// Which way the owner's operator leans, where it is that which asks for the pair: on
+    /// an operand of its own level.
+    fn lean(&self) -> String {
+        let Some(operator) = self.owners_operator() else {
+            return String::new();
+        };
+        let binding = Binding::of(operator);
+        match binding.filter(|binding| binding.level == self.row.precedence) {
+            None => String::new(),
+            Some(binding) => format!("; {}", words::lean(operator, binding)),
+        }
     }
 
     /// Which operand of which owner.

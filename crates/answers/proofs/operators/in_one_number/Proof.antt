@@ -1,0 +1,19 @@
+-- `answers::operators::in_one_number` meets its contract. Assumes nothing.
+use Prim.Native.Nat.{_≤_}
+use native.Mathlib.Omega.{arith}
+use Rattle.laws.proofs.Calls.{free}
+use Rattle.precedence.specs.declared.Lean.{Lean}
+use Rattle.precedence.specs.declared.Lean.the-variants.{Left, Right, Neither}
+use Rattle.precedence.specs.Precedences.{leanNumber}
+use Rattle.row_pack.proofs.Cells.{rank-bound}
+use borrow.Author.Needs.{needs}
+use Rattle.answers.proofs.operators.in_one_number.Statement.{statement}
+use Rattle.answers.proofs.operators.in_one_number.Tie as tie
+
+lean-most : (s : Lean) → leanNumber s ≤ 2
+lean-most Left = omega arith
+lean-most Right = omega arith
+lean-most Neither = omega arith
+
+pub in-one-number-spec : {M : Type 1} → statement M
+in-one-number-spec = tie.close (tie.spec free (λ c. ?) free (λ c. ?) (λ c. ?))
