@@ -16,4 +16,8 @@ lean-most Right = omega arith
 lean-most Neither = omega arith
 
 pub in-one-number-spec : {M : Type 1} → statement M
-in-one-number-spec = tie.close (tie.spec free (λ c. ?) free (λ c. ?) (λ c. ?))
+in-one-number-spec =
+    tie.close (tie.spec free
+    (λ c. let h = rank-bound (c .before .args .operator .level) in let e = c .rank .ensures in search needs) free
+    (λ c. let h = rank-bound (c .before .before .args .operator .level) in let k = lean-most (c .before .before .args .operator .lean) in let e = c .before .rank .ensures in let f = c .number .ensures in search needs)
+    (λ c. rw (c .before .rank .ensures, c .number .ensures)))
