@@ -1,5 +1,5 @@
-//! The exports of the static libraries: of `answers` the first seven, of `asked` the
-//! others. They are declared here only.
+//! The exports of the static libraries: of `answers` the first seven, of
+//! `answers_asked` the others. They are declared here only.
 
 extern "C" {
     pub fn tezhukor_load(

@@ -1,5 +1,5 @@
-//! The four functions of the boundary on random bytes, damaged files, damaged tables
-//! and token lists, with every buffer length around each boundary.
+//! Loading, deciding, writing and reading on random bytes, damaged files, damaged
+//! tables and token lists, with every buffer length around each boundary.
 //!
 //! Each reply and each lent cell is compared with what the library's definitions say,
 //! as they are stated a second time by `model` (tree files, refusals, tokens, and all
