@@ -1,5 +1,5 @@
-// Goes through the recorded files and replies in the file `files`, loads each file with `tree_file`, and prints how
-// many replies agree with the recorded ones. Then the same with the file `rows` and the rows that `walk` decides,
+// Goes through the recorded files and replies in the file `files`, loads each file with `file_loader`, and prints how
+// many replies agree with the recorded ones. Then the same with the file `rows` and the rows that `row_walk` decides,
 // with `readings` and what `token_reader` reads, and with `tokens` and what `token_writer` writes.
 mod cells;
 mod judge;

@@ -36,6 +36,6 @@ walkVisits h (node l a b) =
     + walkVisits (handsFirst (ownContext h (node l a b)) (node l a b)) a
     + walkVisits (handsSecond (ownContext h (node l a b)) (node l a b)) b
 
--- the visits of `walk::decide` on an accepted table
+-- the visits of `row_walk::decide` on an accepted table
 abbrev pub decideVisits : ℕ → ℕ → List ℕ → ℕ
 decideVisits context count cells = walkVisits (rootHanded context) (treeAt cells count 1)

@@ -1,4 +1,4 @@
--- A parse tree without its parentheses. Nothing here is to be believed: plain/proofs/Parens says that its tree is the tree without Parens.
+-- A parse tree without its parentheses. Nothing here is to be believed: token_plain/proofs/Parens says that its tree is the tree without Parens.
 use Rattle.token_grammar.specs.Types.{Sort}
 use Rattle.token_grammar.specs.Expressions.{Expr, atom, paren, prefix, binary, cast, member, try, index, call, method, noArguments, arguments, lastArgument, moreArguments}
 

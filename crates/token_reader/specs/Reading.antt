@@ -34,7 +34,7 @@ countOrLarge t = pick (tooLarge t) (Refused 16) (Nodes (size t))
 unfoldable pub readTable : Tree → List ℕ → List ℕ
 readTable t table = pick (tooLarge t) table (over (numbered t) table)
 
--- The reply and the table afterwards. A token list has a reading or has none (`read-or-not` in plain/proofs/Readings), and at most one
+-- The reply and the table afterwards. A token list has a reading or has none (`read-or-not` in token_plain/proofs/Readings), and at most one
 -- (`one-reading` there): both are fixed for every input (`answers-one` in proofs/Function).
 pub record Answers (codes table : List ℕ) (reply : Reply) (after : List ℕ) : Type 0 where
   pub short : readRefusal12 (length table) ≡ true → (reply ≡ Refused 12) × (after ≡ table)

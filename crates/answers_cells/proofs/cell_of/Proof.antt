@@ -1,4 +1,4 @@
--- `cells::cell_of` meets its contract. Assumes nothing.
+-- `answers_cells::cell_of` meets its contract. Assumes nothing.
 use mathlib.Core.Path.{sym, _∙_}
 use Rattle.laws.proofs.Keys.{arm, rest}
 use Rattle.answers_cells.specs.CellQuestions.{cells, cellOf}

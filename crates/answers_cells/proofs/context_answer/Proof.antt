@@ -1,4 +1,4 @@
--- `cells::context_answer` meets its contract. Assumes nothing.
+-- `answers_cells::context_answer` meets its contract. Assumes nothing.
 use mathlib.Core.Path.{sym, ap, _∙_}
 use Rattle.laws.proofs.Keys.{arm, rest}
 use Rattle.answers_cells.specs.CellQuestions.{cellOf, contextQuestions, contextAnswered}

@@ -1,4 +1,4 @@
--- `cells::handed_answer` meets its contract. Assumes nothing.
+-- `answers_cells::handed_answer` meets its contract. Assumes nothing.
 use mathlib.Core.Path.{sym, ap, _∙_}
 use Rattle.laws.proofs.Keys.{arm, rest}
 use Rattle.answers_cells.specs.CellQuestions.{handedCell, handedQuestions, handedAnswered}

@@ -1,4 +1,4 @@
--- `cells::side_number` meets its contract. Assumes nothing.
+-- `answers_cells::side_number` meets its contract. Assumes nothing.
 use mathlib.Core.Path.{sym, ap}
 use Rattle.answers_cells.specs.CellQuestions.{sideNumber}
 use borrow.Author.Needs.{needs}

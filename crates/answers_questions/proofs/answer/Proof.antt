@@ -1,4 +1,4 @@
--- `questions::answer` meets its contract. Assumes nothing.
+-- `answers_questions::answer` meets its contract. Assumes nothing.
 use mathlib.Core.Path.{sym, ap, _∙_}
 use Rattle.bools.specs.Bits.{bitOf}
 use Rattle.laws.proofs.Keys.{arm, rest}

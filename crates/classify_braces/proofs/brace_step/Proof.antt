@@ -1,4 +1,4 @@
--- `braces::brace_step` meets its contract. Assumes nothing.
+-- `classify_braces::brace_step` meets its contract. Assumes nothing.
 use mathlib.Core.Path.{refl, ap, _∙_}
 use mathlib.Core.Bool.{false}
 use mathlib.Core.List.{[], _∷_}

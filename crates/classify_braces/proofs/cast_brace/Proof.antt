@@ -1,4 +1,4 @@
--- `braces::cast_brace` meets its contract. Assumes nothing.
+-- `classify_braces::cast_brace` meets its contract. Assumes nothing.
 use Rattle.laws.proofs.Calls.{free}
 use Rattle.tree.specs.Walks.{walk}
 use Rattle.classify_braces.specs.Braces.{typeTrailingBrace}

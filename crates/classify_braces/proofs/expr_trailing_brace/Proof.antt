@@ -1,4 +1,4 @@
--- `braces::expr_trailing_brace` meets its contract: each step goes to a later node with the same answer. Assumes nothing.
+-- `classify_braces::expr_trailing_brace` meets its contract: each step goes to a later node with the same answer. Assumes nothing.
 use mathlib.Core.Path.{refl}
 use mathlib.Core.Bool.{false}
 use native.Mathlib.Omega.{arith}

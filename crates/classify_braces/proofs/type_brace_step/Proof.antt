@@ -1,4 +1,4 @@
--- `braces::type_brace_step` meets its contract. Assumes nothing.
+-- `classify_braces::type_brace_step` meets its contract. Assumes nothing.
 use mathlib.Core.Path.{refl, sym, ap, ap₂, _∙_}
 use mathlib.Core.Bool.{false}
 use mathlib.Core.List.{[], _∷_}

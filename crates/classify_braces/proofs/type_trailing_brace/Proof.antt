@@ -1,4 +1,4 @@
--- `braces::type_trailing_brace` meets its contract: each step goes to a later node with the same answer. Assumes nothing.
+-- `classify_braces::type_trailing_brace` meets its contract: each step goes to a later node with the same answer. Assumes nothing.
 use mathlib.Core.Path.{refl}
 use mathlib.Core.Bool.{false}
 use native.Mathlib.Omega.{arith}

@@ -1,4 +1,4 @@
--- `tree_file::load` meets its contract. Assumes nothing.
+-- `file_loader::load` meets its contract. Assumes nothing.
 use mathlib.Core.Path.{_≡_, refl, sym, _∙_, subst}
 use native.Mathlib.Omega.{arith}
 use Rattle.laws.proofs.Calls.{free}

@@ -1,4 +1,4 @@
--- `tree_file::load_nodes` meets its contract. Assumes nothing.
+-- `file_loader::load_nodes` meets its contract. Assumes nothing.
 use mathlib.Core.Path.{_≡_, refl, sym, ap, _∙_}
 use Prim.Native.Nat.{ℕ, _*_, _≤_}
 use native.Mathlib.Omega.{arith}

@@ -1,4 +1,4 @@
--- `tree_file::read_body` meets its contract. Assumes nothing.
+-- `file_loader::read_body` meets its contract. Assumes nothing.
 use mathlib.Core.Path.{_≡_, refl, sym, _∙_}
 use mathlib.Core.List.{_++_, _∷_, []}
 use Prim.Native.Nat.{suc, _+_, _-_, _≤_}

@@ -1,4 +1,4 @@
--- `tree_file::read_header` meets its contract. Assumes nothing.
+-- `file_loader::read_header` meets its contract. Assumes nothing.
 use mathlib.Core.Path.{_≡_, refl, sym, _∙_}
 use mathlib.Core.List.{[]}
 use native.Mathlib.Omega.{arith}

@@ -1,4 +1,4 @@
--- `tree_file::store` meets its contract. Assumes nothing.
+-- `file_loader::store` meets its contract. Assumes nothing.
 use mathlib.Core.Path.{_≡_, refl, sym, _∙_}
 use Prim.Native.Nat.{suc, _+_, _-_, _≤_}
 use native.Mathlib.Omega.{arith}

@@ -1,4 +1,4 @@
--- `numbers::number_at` meets its contract. Assumes nothing.
+-- `file_numbers::number_at` meets its contract. Assumes nothing.
 use Rattle.laws.proofs.Calls.{free}
 use Rattle.file_numbers.proofs.Groups.{nothing-left, one-byte, cut-after-one, zero-second, two-bytes, cut-after-two, zero-third, high-third, three-bytes}
 use borrow.Author.Needs.{needs}

@@ -1,4 +1,4 @@
--- `look::ends_in_path` meets its contract. Assumes nothing.
+-- `fixup_look::ends_in_path` meets its contract. Assumes nothing.
 use Rattle.laws.proofs.Calls.{free}
 use Rattle.tree.specs.Walks.{walk}
 use Rattle.classify.specs.Classify.{trailingPath}

@@ -1,4 +1,4 @@
--- `look::is_cast_to_path` meets its contract. Assumes nothing.
+-- `fixup_look::is_cast_to_path` meets its contract. Assumes nothing.
 use mathlib.Core.Path.{ap, _∙_}
 use mathlib.Core.List.{[], _∷_}
 use Rattle.laws.proofs.Calls.{free}

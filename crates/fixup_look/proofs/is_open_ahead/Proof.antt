@@ -1,4 +1,4 @@
--- `look::is_open_ahead` meets its contract. Assumes nothing.
+-- `fixup_look::is_open_ahead` meets its contract. Assumes nothing.
 use mathlib.Core.Path.{sym, ap, _∙_}
 use mathlib.Core.Bool.{not}
 use mathlib.Core.List.{[], _∷_}

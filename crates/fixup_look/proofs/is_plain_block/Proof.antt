@@ -1,4 +1,4 @@
--- `look::is_plain_block` meets its contract. Assumes nothing.
+-- `fixup_look::is_plain_block` meets its contract. Assumes nothing.
 use mathlib.Core.Path.{ap₂, _∙_}
 use mathlib.Core.Bool.{_&&_}
 use Prim.Native.Nat.{ℕ}

@@ -1,4 +1,4 @@
--- `look::is_struct` meets its contract. Assumes nothing.
+-- `fixup_look::is_struct` meets its contract. Assumes nothing.
 use Rattle.laws.proofs.Calls.{free}
 use Rattle.tree.proofs.Matches.{root-arm, root-rest}
 use Rattle.fixup_look.specs.Looks.{isStruct}

@@ -1,4 +1,4 @@
--- `look::looks` meets its contract. Assumes nothing.
+-- `fixup_look::looks` meets its contract. Assumes nothing.
 use mathlib.Core.Path.{ap}
 use mathlib.Core.Bool.{not}
 use borrow.Author.Needs.{needs}

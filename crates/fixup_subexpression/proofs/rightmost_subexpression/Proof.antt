@@ -1,4 +1,4 @@
--- `subexpression::rightmost_subexpression` meets its contract. Assumes nothing.
+-- `fixup_subexpression::rightmost_subexpression` meets its contract. Assumes nothing.
 use mathlib.Core.Path.{ap, _∙_}
 use Rattle.tree.specs.Trees.{treeAt}
 use Rattle.fixup_scan.specs.Scans.{rightmostPrecedence}

@@ -1,4 +1,4 @@
--- `pack::context_of` meets its contract. Assumes nothing.
+-- `row_pack::context_of` meets its contract. Assumes nothing.
 use mathlib.Core.Path.{_≡_}
 use Prim.Native.Nat.{ℕ, _%_}
 use native.Mathlib.Nat.{div-one}

@@ -1,4 +1,4 @@
--- `pack::flags` meets its contract. Assumes nothing.
+-- `row_pack::flags` meets its contract. Assumes nothing.
 use native.Mathlib.Omega.{arith}
 use borrow.Author.Needs.{needs}
 use Rattle.row_pack.specs.Cells.{ofBits, flagsOf}

@@ -1,4 +1,4 @@
--- `pack::precedence_of` meets its contract. Assumes nothing.
+-- `row_pack::precedence_of` meets its contract. Assumes nothing.
 use mathlib.Core.Path.{sym}
 use Rattle.laws.proofs.Keys.{arm, rest}
 use Rattle.precedence.specs.declared.Precedence.the-variants.{Jump}

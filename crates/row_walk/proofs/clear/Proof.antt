@@ -1,4 +1,4 @@
--- `walk::clear` meets its contract. Assumes nothing.
+-- `row_walk::clear` meets its contract. Assumes nothing.
 use mathlib.Core.Path.{_≡_, refl, sym, _∙_}
 use Prim.Native.Nat.{ℕ, suc, _+_, _-_, _≤_}
 use native.Mathlib.Omega.{arith}

@@ -1,4 +1,4 @@
--- `walk::context_numbered` meets its contract. Assumes nothing.
+-- `row_walk::context_numbered` meets its contract. Assumes nothing.
 use mathlib.Core.Path.{sym, _∙_}
 use Rattle.laws.proofs.Keys.{arm, rest}
 use Rattle.laws.proofs.Calls.{free}

@@ -1,4 +1,4 @@
--- `walk::decide` meets its contract. Assumes nothing.
+-- `row_walk::decide` meets its contract. Assumes nothing.
 use mathlib.Core.Path.{sym, _∙_}
 use native.Mathlib.Omega.{arith}
 use Rattle.laws.proofs.Calls.{free}

@@ -1,4 +1,4 @@
--- `walk::root_handed` meets its contract. Assumes nothing.
+-- `row_walk::root_handed` meets its contract. Assumes nothing.
 use mathlib.Core.Path.{ap}
 use Rattle.laws.proofs.Calls.{free}
 use Rattle.expr.specs.Handed.{neither}

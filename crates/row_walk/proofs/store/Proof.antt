@@ -1,4 +1,4 @@
--- `walk::store` meets its contract. Assumes nothing.
+-- `row_walk::store` meets its contract. Assumes nothing.
 use mathlib.Core.Path.{refl}
 use native.Mathlib.Omega.{arith}
 use lib.ListN.{length-set}

@@ -1,4 +1,4 @@
--- `follow::goes_on` meets its contract. Assumes nothing.
+-- `token_follow::goes_on` meets its contract. Assumes nothing.
 use mathlib.Core.Path.{_≡_, ap, _∙_}
 use mathlib.Core.Bool.{Bool, false, not, _&&_}
 use Prim.Native.Nat.{ℕ, _≤_, _<_}

@@ -1,4 +1,4 @@
--- `follow::is_barred` meets its contract: its arms are the rows of the table. Assumes nothing.
+-- `token_follow::is_barred` meets its contract: its arms are the rows of the table. Assumes nothing.
 use mathlib.Core.Path.{sym}
 use mathlib.Core.Bool.{false}
 use Rattle.laws.proofs.Keys.{arm, rest}

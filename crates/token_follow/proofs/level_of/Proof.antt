@@ -1,4 +1,4 @@
--- `follow::level_of` meets its contract: its arms are the rows of the table. Assumes nothing.
+-- `token_follow::level_of` meets its contract: its arms are the rows of the table. Assumes nothing.
 use mathlib.Core.Path.{_≡_, sym, _∙_}
 use Prim.Native.Nat.{ℕ, _≤_}
 use native.Mathlib.Omega.{arith}

@@ -1,4 +1,4 @@
--- `follow::level_past` meets its contract: its arms are the rows of the table. Assumes nothing.
+-- `token_follow::level_past` meets its contract: its arms are the rows of the table. Assumes nothing.
 use mathlib.Core.Path.{sym}
 use Rattle.laws.proofs.Keys.{arm, rest}
 use Rattle.token_follow.specs.Tables.{pastLines, levelPast}

@@ -1,4 +1,4 @@
--- `follow::lowest_before` meets its contract: its arms are the rows of the table. Assumes nothing.
+-- `token_follow::lowest_before` meets its contract: its arms are the rows of the table. Assumes nothing.
 use mathlib.Core.Path.{sym}
 use Rattle.laws.proofs.Keys.{arm, rest}
 use Rattle.token_follow.specs.Tables.{beforeLines, beforeOf}

@@ -1,4 +1,4 @@
--- `numbering::levels_at` meets its contract: with each call there are fewer numbers above the node, and none are counted where an operand is absent. Assumes nothing.
+-- `tree_numbering::levels_at` meets its contract: with each call there are fewer numbers above the node, and none are counted where an operand is absent. Assumes nothing.
 use mathlib.Core.Path.{_≡_, sym}
 use native.Mathlib.Omega.{arith}
 use Rattle.laws.proofs.Calls.{free, given-at, given-below}

@@ -1,4 +1,4 @@
--- `numbering::number_from` meets its contract: with each call there are fewer numbers above the node, and none are counted where an operand is absent. Assumes nothing.
+-- `tree_numbering::number_from` meets its contract: with each call there are fewer numbers above the node, and none are counted where an operand is absent. Assumes nothing.
 use native.Mathlib.Omega.{arith}
 use borrow.Author.Needs.{needs}
 use Rattle.laws.proofs.Calls.{free, given-at, given-below}

@@ -1,4 +1,4 @@
--- `numbering::room_after` meets its contract: with each call there are fewer numbers above the node, and none are counted where an operand is absent. Assumes nothing.
+-- `tree_numbering::room_after` meets its contract: with each call there are fewer numbers above the node, and none are counted where an operand is absent. Assumes nothing.
 use native.Mathlib.Omega.{arith}
 use Rattle.laws.proofs.Calls.{free, given-at, given-below}
 use Rattle.tree.proofs.Unfold.{left, left-falls, tree-zero, tree-past}

@@ -1,4 +1,4 @@
--- `numbering::number_after` meets its contract. Assumes nothing.
+-- `tree_numbering::number_after` meets its contract. Assumes nothing.
 use mathlib.Core.Path.{sym, _∙_}
 use native.Mathlib.Numerals.{add-one}
 use borrow.Author.Needs.{needs}

@@ -1,4 +1,4 @@
--- `numbering::renumber` meets its contract. Assumes nothing.
+-- `tree_numbering::renumber` meets its contract. Assumes nothing.
 use native.Mathlib.Omega.{arith}
 use Rattle.laws.proofs.Calls.{free}
 use Rattle.tree.specs.Trees.{treeAt}

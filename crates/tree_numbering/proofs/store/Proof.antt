@@ -1,4 +1,4 @@
--- `numbering::store` meets its contract. Assumes nothing.
+-- `tree_numbering::store` meets its contract. Assumes nothing.
 use Prim.Native.Nat.{_*_}
 use native.Mathlib.Omega.{arith}
 use lib.ListN.{length-set}

@@ -1,4 +1,4 @@
--- `one_pass::all_taken` meets its contract. The invariant of both loops: the nodes up to the one that they have come to are taken. Assumes nothing.
+-- `tree_one_pass::all_taken` meets its contract. The invariant of both loops: the nodes up to the one that they have come to are taken. Assumes nothing.
 use mathlib.Core.Path.{_≡_, sym}
 use mathlib.Core.List.{List}
 use Prim.Native.Nat.{ℕ, _+_, _-_, _≤_, _<_}

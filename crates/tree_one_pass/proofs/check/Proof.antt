@@ -1,4 +1,4 @@
--- `one_pass::check` meets its contract. Assumes nothing.
+-- `tree_one_pass::check` meets its contract. Assumes nothing.
 use mathlib.Core.Path.{sym}
 use borrow.Author.Needs.{needs}
 use Rattle.laws.proofs.Calls.{free}

@@ -1,4 +1,4 @@
--- `one_pass::four_taken` meets its contract. Assumes nothing.
+-- `tree_one_pass::four_taken` meets its contract. Assumes nothing.
 use mathlib.Core.Path.{_≡_, sym}
 use mathlib.Core.List.{List}
 use Prim.Native.Nat.{ℕ, _+_, _≤_, _<_}

@@ -1,4 +1,4 @@
--- `one_pass::is_accepted` meets its contract. Assumes nothing.
+-- `tree_one_pass::is_accepted` meets its contract. Assumes nothing.
 use mathlib.Core.Path.{sym, _∙_}
 use borrow.Author.Tests.{le-ltb}
 use Rattle.laws.proofs.Choice.{true-not-false}

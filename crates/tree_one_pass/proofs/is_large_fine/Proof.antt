@@ -1,4 +1,4 @@
--- `one_pass::is_large_fine` meets its contract. Assumes nothing.
+-- `tree_one_pass::is_large_fine` meets its contract. Assumes nothing.
 use Prim.Native.Nat.{_+_}
 use Rattle.tree_one_pass.proofs.Fine.{none-yet}
 use Rattle.tree.specs.Sizes.{mostNodes}

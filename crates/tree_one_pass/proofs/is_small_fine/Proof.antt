@@ -1,4 +1,4 @@
--- `one_pass::is_small_fine` meets its contract. Assumes nothing.
+-- `tree_one_pass::is_small_fine` meets its contract. Assumes nothing.
 use Rattle.tree_one_pass.proofs.Fine.{none-yet}
 use borrow.Author.Needs.{needs}
 use Rattle.tree_one_pass.proofs.is_small_fine.Statement.{statement}

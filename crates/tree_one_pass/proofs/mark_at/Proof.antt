@@ -1,4 +1,4 @@
--- `one_pass::mark_at` meets its contract. Assumes nothing.
+-- `tree_one_pass::mark_at` meets its contract. Assumes nothing.
 use borrow.Author.Tests.{not-true}
 use Rattle.laws.proofs.Choice.{and-true}
 use Rattle.laws.proofs.Calls.{free}

@@ -1,4 +1,4 @@
--- `places::has_bad_operands` meets its contract. Assumes nothing.
+-- `tree_places::has_bad_operands` meets its contract. Assumes nothing.
 use Rattle.laws.proofs.Calls.{free}
 use Rattle.tree_places.specs.Places.{badOperands}
 use Rattle.tree_places.proofs.has_bad_operands.Statement.{statement}

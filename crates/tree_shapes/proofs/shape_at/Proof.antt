@@ -1,4 +1,4 @@
--- `shapes::shape_at` meets its contract: its arms are the rows of the table. Assumes nothing.
+-- `tree_shapes::shape_at` meets its contract: its arms are the rows of the table. Assumes nothing.
 use mathlib.Core.Path.{_≡_, sym}
 use Rattle.laws.proofs.Keys.{arm, rest}
 use Rattle.laws.proofs.Calls.{free}

@@ -1,4 +1,4 @@
--- `answers::rows::tezhukor_decide` meets its contract, which is that of `walk::decide`. Assumes nothing.
+-- `answers::rows::tezhukor_decide` meets its contract, which is that of `row_walk::decide`. Assumes nothing.
 use borrow.Author.Needs.{needs}
 use Rattle.answers.proofs.rows.tezhukor_decide.Statement.{statement}
 use Rattle.answers.proofs.rows.tezhukor_decide.Tie as tie

@@ -1,4 +1,4 @@
--- `asked::contexts::tezhukor_context` meets its contract. Assumes nothing.
+-- `answers_asked::contexts::tezhukor_context` meets its contract. Assumes nothing.
 use mathlib.Core.Path.{ap₂, _∙_}
 use Rattle.precedence.specs.declared.Precedence.{Precedence}
 use Rattle.fixup.specs.declared.context.FixupContext.{FixupContext}

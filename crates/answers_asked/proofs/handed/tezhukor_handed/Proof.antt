@@ -1,4 +1,4 @@
--- `asked::handed::tezhukor_handed` meets its contract. Assumes nothing.
+-- `answers_asked::handed::tezhukor_handed` meets its contract. Assumes nothing.
 use mathlib.Core.Path.{ap, _∙_}
 use Rattle.fixup.specs.declared.context.FixupContext.{FixupContext}
 use Rattle.answers_cells.specs.CellQuestions.{handedAnswered}

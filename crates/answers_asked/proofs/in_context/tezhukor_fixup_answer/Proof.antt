@@ -1,4 +1,4 @@
--- `asked::in_context::tezhukor_fixup_answer` meets its contract. Assumes nothing.
+-- `answers_asked::in_context::tezhukor_fixup_answer` meets its contract. Assumes nothing.
 use mathlib.Core.Path.{ap, _∙_}
 use Rattle.fixup.specs.declared.context.FixupContext.{FixupContext}
 use Rattle.answers_questions.specs.Questions.{fixupAnswered}

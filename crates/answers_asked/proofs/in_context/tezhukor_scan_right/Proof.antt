@@ -1,4 +1,4 @@
--- `asked::in_context::tezhukor_scan_right` meets its contract. Assumes nothing.
+-- `answers_asked::in_context::tezhukor_scan_right` meets its contract. Assumes nothing.
 use mathlib.Core.Path.{ap, ap₂, _∙_}
 use Rattle.tree.specs.Trees.{treeAt}
 use Rattle.precedence.specs.declared.Precedence.{Precedence}

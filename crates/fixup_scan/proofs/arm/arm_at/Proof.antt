@@ -1,4 +1,4 @@
--- `scan::arm::arm_at` meets its contract. Assumes nothing.
+-- `fixup_scan::arm::arm_at` meets its contract. Assumes nothing.
 use mathlib.Core.Path.{ap, ap₂, _∙_}
 use mathlib.Core.Bool.{Bool, _&&_}
 use mathlib.Core.List.{[], _∷_}

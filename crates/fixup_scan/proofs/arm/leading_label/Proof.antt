@@ -1,4 +1,4 @@
--- `scan::arm::leading_label` meets its contract. Assumes nothing.
+-- `fixup_scan::arm::leading_label` meets its contract. Assumes nothing.
 use Rattle.laws.proofs.Calls.{free}
 use Rattle.tree.specs.Walks.{walk}
 use Rattle.classify.specs.Classify.{leadingLabel}

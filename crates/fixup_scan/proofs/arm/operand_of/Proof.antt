@@ -1,4 +1,4 @@
--- `scan::arm::operand_of` meets its contract. Assumes nothing.
+-- `fixup_scan::arm::operand_of` meets its contract. Assumes nothing.
 use Rattle.laws.proofs.Calls.{free}
 use Rattle.tree.specs.Operands.{presence}
 use borrow.Author.Needs.{needs}

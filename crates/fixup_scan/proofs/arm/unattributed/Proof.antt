@@ -1,4 +1,4 @@
--- `scan::arm::unattributed` meets its contract. Assumes nothing.
+-- `fixup_scan::arm::unattributed` meets its contract. Assumes nothing.
 use borrow.Author.Tests.{eq-eqb, ne-eqb}
 use Rattle.laws.specs.Choice.{pick}
 use Rattle.fixup_scan.proofs.arm.unattributed.Statement.{statement}

@@ -1,4 +1,4 @@
--- `scan::leave::asks_again` meets its contract. Assumes nothing.
+-- `fixup_scan::leave::asks_again` meets its contract. Assumes nothing.
 use borrow.Author.Needs.{needs}
 use Rattle.laws.proofs.Calls.{free}
 use Rattle.fixup_scan.proofs.leave.asks_again.Statement.{statement}

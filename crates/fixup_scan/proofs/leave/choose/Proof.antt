@@ -1,4 +1,4 @@
--- `scan::leave::choose` meets its contract. Assumes nothing.
+-- `fixup_scan::leave::choose` meets its contract. Assumes nothing.
 use Rattle.laws.specs.Choice.{pick}
 use Rattle.fixup_scan.proofs.leave.choose.Statement.{statement}
 use Rattle.fixup_scan.proofs.leave.choose.Tie as tie

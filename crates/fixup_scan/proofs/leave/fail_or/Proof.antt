@@ -1,4 +1,4 @@
--- `scan::leave::fail_or` meets its contract. Assumes nothing.
+-- `fixup_scan::leave::fail_or` meets its contract. Assumes nothing.
 use mathlib.Core.Path.{refl, _∙_}
 use Rattle.laws.proofs.Choice.{pick-by}
 use Rattle.laws.proofs.Calls.{free}

@@ -1,4 +1,4 @@
--- `scan::leave::leaf_scan` meets its contract. Assumes nothing.
+-- `fixup_scan::leave::leaf_scan` meets its contract. Assumes nothing.
 use borrow.Author.Needs.{needs}
 use Rattle.laws.proofs.Calls.{free}
 use Rattle.fixup_scan.proofs.leave.leaf_scan.Statement.{statement}

@@ -1,4 +1,4 @@
--- `scan::leave::leave_by` meets its contract. Assumes nothing.
+-- `fixup_scan::leave::leave_by` meets its contract. Assumes nothing.
 use borrow.Author.Needs.{needs}
 use Rattle.laws.proofs.Calls.{free}
 use Rattle.fixup_scan.proofs.leave.leave_by.Statement.{statement}

@@ -1,4 +1,4 @@
--- `scan::leave::leave_fail` meets its contract. Assumes nothing.
+-- `fixup_scan::leave::leave_fail` meets its contract. Assumes nothing.
 use mathlib.Core.Path.{refl, ap, _∙_}
 use Rattle.laws.proofs.Choice.{pick-by}
 use Rattle.laws.proofs.Calls.{free}

@@ -1,4 +1,4 @@
--- `scan::right::bails_out` meets its contract. Assumes nothing.
+-- `fixup_scan::right::bails_out` meets its contract. Assumes nothing.
 use mathlib.Core.Path.{refl, sym, ap, ap₂, _∙_}
 use mathlib.Core.Bool.{not, _&&_}
 use Rattle.laws.proofs.Choice.{or-by, and-here}

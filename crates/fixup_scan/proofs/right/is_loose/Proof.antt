@@ -1,4 +1,4 @@
--- `scan::right::is_loose` meets its contract. Assumes nothing.
+-- `fixup_scan::right::is_loose` meets its contract. Assumes nothing.
 use mathlib.Core.Path.{sym, ap₂, _∙_}
 use mathlib.Core.Bool.{_||_}
 use Rattle.laws.proofs.Choice.{pick-true, pick-false, or-by}

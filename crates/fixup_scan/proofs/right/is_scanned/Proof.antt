@@ -1,4 +1,4 @@
--- `scan::right::is_scanned` meets its contract. Assumes nothing.
+-- `fixup_scan::right::is_scanned` meets its contract. Assumes nothing.
 use mathlib.Core.Path.{ap, ap₂, _∙_}
 use mathlib.Core.Bool.{Bool, not, _||_}
 use Rattle.laws.proofs.Calls.{free}

@@ -1,4 +1,4 @@
--- `scan::right::right_given` meets its contract. Assumes nothing.
+-- `fixup_scan::right::right_given` meets its contract. Assumes nothing.
 use Rattle.laws.proofs.Choice.{and-by}
 use Rattle.laws.proofs.Calls.{free}
 use Rattle.fixup_scan.proofs.Nodes.{given-unscanned, given-grouped, given-consumed}

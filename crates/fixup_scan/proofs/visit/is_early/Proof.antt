@@ -1,4 +1,4 @@
--- `scan::visit::is_early` meets its contract. Assumes nothing.
+-- `fixup_scan::visit::is_early` meets its contract. Assumes nothing.
 use mathlib.Core.Path.{sym, ap₂, _∙_}
 use mathlib.Core.Bool.{_&&_, _||_}
 use Rattle.laws.proofs.Choice.{pick-true, pick-false}

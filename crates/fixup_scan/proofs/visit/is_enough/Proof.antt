@@ -1,4 +1,4 @@
--- `scan::visit::is_enough` meets its contract. Assumes nothing.
+-- `fixup_scan::visit::is_enough` meets its contract. Assumes nothing.
 use mathlib.Core.Path.{sym, ap, _∙_}
 use mathlib.Core.Bool.{_&&_}
 use lib.Dec.{leb}

@@ -1,4 +1,4 @@
--- `scan::visit::visit_of` meets its contract. Assumes nothing.
+-- `fixup_scan::visit::visit_of` meets its contract. Assumes nothing.
 use mathlib.Core.Path.{refl, ap, _∙_}
 use mathlib.Core.Bool.{Bool, not}
 use Rattle.laws.proofs.Calls.{free}

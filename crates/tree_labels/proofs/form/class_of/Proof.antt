@@ -1,4 +1,4 @@
--- `labels::form::class_of` meets its contract. Assumes nothing.
+-- `tree_labels::form::class_of` meets its contract. Assumes nothing.
 use borrow.Author.Tests.{ne-eqb, le-leb, lt-leb}
 use Rattle.laws.specs.Choice.{pick}
 use Rattle.tree.specs.Forms.{classOf}

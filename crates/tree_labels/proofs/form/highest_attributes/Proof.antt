@@ -1,4 +1,4 @@
--- `labels::form::highest_attributes` meets its contract. Assumes nothing.
+-- `tree_labels::form::highest_attributes` meets its contract. Assumes nothing.
 use borrow.Author.Tests.{eq-eqb, ne-eqb}
 use Rattle.laws.specs.Choice.{pick}
 use Rattle.laws.proofs.Calls.{free}

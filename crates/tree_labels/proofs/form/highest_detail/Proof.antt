@@ -1,4 +1,4 @@
--- `labels::form::highest_detail` meets its contract: its arms are the rows of the table. Assumes nothing.
+-- `tree_labels::form::highest_detail` meets its contract: its arms are the rows of the table. Assumes nothing.
 use mathlib.Core.Path.{_≡_, refl, sym, _∙_}
 use Rattle.laws.proofs.Keys.{arm, rest}
 use Rattle.tree.specs.Forms.{highestDetail, details}

@@ -1,4 +1,4 @@
--- `labels::form::is_allowed` meets its contract. Assumes nothing.
+-- `tree_labels::form::is_allowed` meets its contract. Assumes nothing.
 use borrow.Author.Tests.{eq-eqb, ne-eqb, le-leb, lt-leb}
 use Rattle.laws.proofs.Calls.{free}
 use Rattle.tree.specs.Forms.{allowed}

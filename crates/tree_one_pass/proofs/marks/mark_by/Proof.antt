@@ -1,4 +1,4 @@
--- `one_pass::marks::mark_by` meets its contract. Assumes nothing.
+-- `tree_one_pass::marks::mark_by` meets its contract. Assumes nothing.
 use mathlib.Core.Path.{refl}
 use Rattle.laws.proofs.Calls.{free}
 use Rattle.tree_one_pass.proofs.Codes.{link-closes, plain-closes}

@@ -1,4 +1,4 @@
--- `one_pass::marks::mark_with` meets its contract. Assumes nothing.
+-- `tree_one_pass::marks::mark_with` meets its contract. Assumes nothing.
 use mathlib.Core.Path.{refl}
 use borrow.Author.Needs.{needs}
 use Rattle.laws.proofs.Calls.{free}

@@ -1,4 +1,4 @@
--- `one_pass::marks::opens` meets its contract. Assumes nothing.
+-- `tree_one_pass::marks::opens` meets its contract. Assumes nothing.
 use mathlib.Core.Path.{sym}
 use Rattle.laws.proofs.Choice.{true-not-false}
 use borrow.Author.Needs.{needs}

@@ -1,4 +1,4 @@
--- `one_pass::marks::take` meets its contract. Assumes nothing.
+-- `tree_one_pass::marks::take` meets its contract. Assumes nothing.
 use Rattle.tree_one_pass.specs.Marks.{absent, taken, refused}
 use borrow.Author.Needs.{needs}
 use Rattle.tree_one_pass.proofs.marks.take.Statement.{statement}

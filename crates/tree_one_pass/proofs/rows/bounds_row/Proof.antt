@@ -1,4 +1,4 @@
--- `one_pass::rows::bounds_row` meets its contract. Assumes nothing.
+-- `tree_one_pass::rows::bounds_row` meets its contract. Assumes nothing.
 use mathlib.Core.Path.{refl}
 use mathlib.Core.Bool.{_&&_}
 use mathlib.Core.List.{[], _∷_}

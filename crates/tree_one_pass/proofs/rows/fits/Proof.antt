@@ -1,4 +1,4 @@
--- `one_pass::rows::fits` meets its contract. Assumes nothing.
+-- `tree_one_pass::rows::fits` meets its contract. Assumes nothing.
 use borrow.Author.Needs.{needs}
 use Rattle.tree_one_pass.proofs.Codes.{fits-bit}
 use Rattle.tree_one_pass.proofs.rows.fits.Statement.{statement}

@@ -1,4 +1,4 @@
--- `one_pass::rows::path_row` meets its contract. Assumes nothing.
+-- `tree_one_pass::rows::path_row` meets its contract. Assumes nothing.
 use mathlib.Core.Path.{refl}
 use mathlib.Core.List.{[], _∷_}
 use Prim.Native.Nat.{ℕ}

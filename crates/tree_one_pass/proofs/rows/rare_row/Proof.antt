@@ -1,4 +1,4 @@
--- `one_pass::rows::rare_row` meets its contract. Assumes nothing.
+-- `tree_one_pass::rows::rare_row` meets its contract. Assumes nothing.
 use mathlib.Core.Path.{_≡_, refl, sym, _∙_}
 use mathlib.Core.Bool.{true, not, _&&_}
 use mathlib.Core.List.{[], _∷_}

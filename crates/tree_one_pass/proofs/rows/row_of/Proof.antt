@@ -1,4 +1,4 @@
--- `one_pass::rows::row_of` meets its contract: each arm by one computed test. Assumes nothing.
+-- `tree_one_pass::rows::row_of` meets its contract: each arm by one computed test. Assumes nothing.
 use mathlib.Core.Path.{refl}
 use mathlib.Core.Bool.{not, _&&_}
 use mathlib.Core.List.{[], _∷_}

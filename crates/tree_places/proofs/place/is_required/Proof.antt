@@ -1,4 +1,4 @@
--- `places::place::is_required` meets its contract. Assumes nothing.
+-- `tree_places::place::is_required` meets its contract. Assumes nothing.
 use Rattle.tree_places.specs.Steps.{isRequired}
 use borrow.Author.Needs.{needs}
 use Rattle.tree_places.proofs.place.is_required.Statement.{statement}

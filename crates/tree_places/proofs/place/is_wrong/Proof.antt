@@ -1,4 +1,4 @@
--- `places::place::is_wrong` meets its contract. Assumes nothing.
+-- `tree_places::place::is_wrong` meets its contract. Assumes nothing.
 use mathlib.Core.Path.{sym, _∙_}
 use Rattle.laws.proofs.Calls.{free}
 use Rattle.tree_places.proofs.Places.{wrong-absent, wrong-present}

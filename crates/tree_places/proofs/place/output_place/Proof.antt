@@ -1,4 +1,4 @@
--- `places::place::output_place` meets its contract. Assumes nothing.
+-- `tree_places::place::output_place` meets its contract. Assumes nothing.
 use borrow.Author.Tests.{eq-eqb, ne-eqb}
 use Rattle.laws.specs.Choice.{pick}
 use Rattle.tree_places.proofs.place.output_place.Statement.{statement}

@@ -1,4 +1,4 @@
--- `places::place::wrong_item` meets its contract. Assumes nothing.
+-- `tree_places::place::wrong_item` meets its contract. Assumes nothing.
 use Rattle.laws.proofs.Calls.{free}
 use Rattle.tree_places.specs.Places.{wrongItem}
 use Rattle.tree_places.proofs.place.wrong_item.Statement.{statement}

@@ -1,4 +1,4 @@
--- `places::place::wrong_list` meets its contract. Assumes nothing.
+-- `tree_places::place::wrong_list` meets its contract. Assumes nothing.
 use borrow.Author.Tests.{eq-eqb, ne-eqb, le-leb, lt-leb}
 use Rattle.laws.proofs.Calls.{free}
 use Rattle.tree_places.specs.Places.{wrongList}

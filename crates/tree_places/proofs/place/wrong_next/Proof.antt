@@ -1,4 +1,4 @@
--- `places::place::wrong_next` meets its contract. Assumes nothing.
+-- `tree_places::place::wrong_next` meets its contract. Assumes nothing.
 use borrow.Author.Tests.{le-leb, lt-leb}
 use Rattle.laws.specs.Choice.{pick}
 use Rattle.laws.proofs.Calls.{free}

@@ -1,4 +1,4 @@
--- `places::place::wrong_present` meets its contract. Assumes nothing.
+-- `tree_places::place::wrong_present` meets its contract. Assumes nothing.
 use Rattle.laws.proofs.Calls.{free}
 use Rattle.tree_places.specs.Steps.{wrongPresent}
 use borrow.Author.Needs.{needs}

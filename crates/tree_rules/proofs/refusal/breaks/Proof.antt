@@ -1,4 +1,4 @@
--- `rules::refusal::breaks` meets its contract. Assumes nothing.
+-- `tree_rules::refusal::breaks` meets its contract. Assumes nothing.
 use Rattle.laws.proofs.Calls.{free}
 use Rattle.tree_rules.specs.Passes.{breaks}
 use borrow.Author.Needs.{needs}

@@ -1,4 +1,4 @@
--- `rules::refusal::check` meets its contract. Assumes nothing.
+-- `tree_rules::refusal::check` meets its contract. Assumes nothing.
 use mathlib.Core.Path.{_≡_, sym, _∙_}
 use borrow.Author.Tests.{lt-ltb, le-ltb}
 use Rattle.laws.proofs.Calls.{free}

@@ -1,4 +1,4 @@
--- `rules::refusal::count_owner` meets its contract. Assumes nothing.
+-- `tree_rules::refusal::count_owner` meets its contract. Assumes nothing.
 use borrow.Author.Tests.{le-leb, lt-leb}
 use Rattle.laws.specs.Choice.{pick}
 use Rattle.tree_rules.specs.Passes.{counted}

@@ -1,4 +1,4 @@
--- `rules::refusal::count_owners` meets its contract. Assumes nothing.
+-- `tree_rules::refusal::count_owners` meets its contract. Assumes nothing.
 use mathlib.Core.Path.{_≡_, refl, sym, _∙_}
 use Prim.Native.Nat.{_+_, _-_, _≤_}
 use native.Mathlib.Omega.{arith}

@@ -1,4 +1,4 @@
--- `rules::refusal::has_bad_owner` meets its contract. Assumes nothing.
+-- `tree_rules::refusal::has_bad_owner` meets its contract. Assumes nothing.
 use mathlib.Core.Path.{_≡_, refl, sym, _∙_}
 use mathlib.Core.Bool.{false}
 use Prim.Native.Nat.{_+_, _-_, _≤_}

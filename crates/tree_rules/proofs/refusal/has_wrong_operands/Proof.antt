@@ -1,4 +1,4 @@
--- `rules::refusal::has_wrong_operands` meets its contract. Assumes nothing.
+-- `tree_rules::refusal::has_wrong_operands` meets its contract. Assumes nothing.
 use borrow.Author.Tests.{eq-eqb, ne-eqb}
 use Rattle.laws.proofs.Calls.{free}
 use Rattle.tree_rules.specs.Refusals.{refusal7}

@@ -1,4 +1,4 @@
--- `rules::refusal::is_bad_count` meets its contract. Assumes nothing.
+-- `tree_rules::refusal::is_bad_count` meets its contract. Assumes nothing.
 use borrow.Author.Tests.{ne-eqb, lt-ltb, le-ltb}
 use Rattle.tree_rules.specs.Refusals.{refusal4}
 use borrow.Author.Needs.{needs}

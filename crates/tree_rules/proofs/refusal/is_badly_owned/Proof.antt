@@ -1,4 +1,4 @@
--- `rules::refusal::is_badly_owned` meets its contract. Assumes nothing.
+-- `tree_rules::refusal::is_badly_owned` meets its contract. Assumes nothing.
 use borrow.Author.Tests.{eq-eqb, ne-eqb}
 use borrow.Author.Needs.{needs}
 use Rattle.tree_rules.proofs.refusal.is_badly_owned.Statement.{statement}

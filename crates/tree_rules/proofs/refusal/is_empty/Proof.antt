@@ -1,4 +1,4 @@
--- `rules::refusal::is_empty` meets its contract. Assumes nothing.
+-- `tree_rules::refusal::is_empty` meets its contract. Assumes nothing.
 use mathlib.Core.List.{[], _∷_}
 use Rattle.laws.proofs.Keys.{among, outside}
 use Rattle.laws.proofs.Calls.{free}

@@ -1,4 +1,4 @@
--- `rules::refusal::is_misplaced` meets its contract. Assumes nothing.
+-- `tree_rules::refusal::is_misplaced` meets its contract. Assumes nothing.
 use borrow.Author.Tests.{ne-eqb, le-leb, lt-leb}
 use Rattle.tree_rules.specs.Refusals.{misplaced}
 use Rattle.tree_rules.proofs.refusal.is_misplaced.Statement.{statement}

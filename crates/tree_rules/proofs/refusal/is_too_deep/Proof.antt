@@ -1,4 +1,4 @@
--- `rules::refusal::is_too_deep` meets its contract. Assumes nothing.
+-- `tree_rules::refusal::is_too_deep` meets its contract. Assumes nothing.
 use mathlib.Core.Path.{_≡_, refl, sym, ap, _∙_}
 use Prim.Native.Nat.{_-_, _≤_}
 use native.Mathlib.Omega.{arith}

@@ -1,4 +1,4 @@
--- `rules::refusal::levels_at` meets its contract. Assumes nothing.
+-- `tree_rules::refusal::levels_at` meets its contract. Assumes nothing.
 use mathlib.Core.Path.{_≡_, sym, ap, _∙_}
 use native.Mathlib.Omega.{arith}
 use Rattle.laws.proofs.Calls.{free}

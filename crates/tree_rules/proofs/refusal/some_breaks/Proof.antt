@@ -1,4 +1,4 @@
--- `rules::refusal::some_breaks` meets its contract. Assumes nothing.
+-- `tree_rules::refusal::some_breaks` meets its contract. Assumes nothing.
 use mathlib.Core.Path.{_≡_, refl, sym, _∙_}
 use mathlib.Core.Bool.{false}
 use Prim.Native.Nat.{_+_, _-_, _≤_}

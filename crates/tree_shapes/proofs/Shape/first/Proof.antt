@@ -1,4 +1,4 @@
--- `shapes::Shape::first` meets its contract. Assumes nothing.
+-- `tree_shapes::Shape::first` meets its contract. Assumes nothing.
 use Rattle.tree_shapes.specs.Shapes.{firstInShape}
 use borrow.Author.Needs.{needs}
 use Rattle.tree_shapes.proofs.Shape.first.Statement.{statement}

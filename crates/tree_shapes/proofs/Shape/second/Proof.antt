@@ -1,4 +1,4 @@
--- `shapes::Shape::second` meets its contract. Assumes nothing.
+-- `tree_shapes::Shape::second` meets its contract. Assumes nothing.
 use Rattle.tree_shapes.specs.Shapes.{secondInShape}
 use borrow.Author.Needs.{needs}
 use Rattle.tree_shapes.proofs.Shape.second.Statement.{statement}
