@@ -1,48 +1,26 @@
 -- Laws of bytes put into a buffer. Assumes nothing.
-use mathlib.Core.Path.{_≡_, refl, sym, _∙_}
+use mathlib.Core.Path.{_≡_, sym, _∙_}
 use mathlib.Core.Bool.{true, false}
-use mathlib.Core.List.{List, [], _∷_, _++_}
+use mathlib.Core.List.{List, _∷_}
 use Prim.Native.Nat.{ℕ, suc, _+_, _*_, _≤_, _<_}
 use native.Mathlib.Omega.{arith}
-use native.Mathlib.Numerals.{towards-suc}
-use lib.ListN.{length, getD, set, take, length-append, length-set}
+use lib.ListN.{length, getD, take, length-append}
 use lib.Dec.{ltb}
 use borrow.Author.Tests.{ltb-false, le-ltb}
 use Rattle.laws.specs.Lists.{over}
+use Rattle.laws.specs.Puts.{Put}
 use Rattle.laws.proofs.Choice.{pick-true, pick-false}
-use Rattle.laws.proofs.Lists.{sets-append, sets-over}
+use Rattle.laws.proofs.Putting.{put-more, put-over}
 use Rattle.file_bytes.specs.Bytes.{bytesOf, allBytes}
 use Rattle.file_bytes.proofs.Several.{all-most, all-next}
 use Rattle.file_save.specs.declared.Saved.the-variants.{Refused, Bytes}
-use Rattle.file_save.specs.Stores.{Put, stored, storedAfter}
-
-pub put-none : (before : List ℕ) (at : ℕ) → Put before at [] before at
-put-none before at = record { cells = refl; ends = omega arith; room = refl }
-
--- and then more
-pub put-more : {before after last : List ℕ} {at mid next : ℕ} {first second : List ℕ} → Put before at first after mid → Put after mid second last next → Put before at (first ++ second) last next
-put-more {before} {after} {last} {at} {mid} {next} {first} {second} p q =
-    record {
-      cells = q .cells ∙ rw (p .cells) (sym (sets-append first second before at mid (p .ends)));
-      ends = rw length-append (omega (arith, p .ends, q .ends));
-      room = q .room ∙ p .room;
-    }
+use Rattle.file_save.specs.Stores.{stored, storedAfter}
 
 -- one number more
 pub put-next : {before mid after : List ℕ} {from at next : ℕ} (ns : List ℕ) (j : ℕ) → j < length ns → Put before from (allBytes (take j ns)) mid at → Put mid at (bytesOf (getD ns j 0)) after next → Put before from (allBytes (take (j + 1) ns)) after next
 put-next ns j h p q =
     let s : j + 1 ≡ suc j = omega arith in
     rw (s, all-next ns j h) (put-more p q)
-
--- one, two or three bytes
-pub put-one : (before : List ℕ) (at a : ℕ) → Put before at (a ∷ []) (set before at a) (at + 1)
-put-one before at a = record { cells = refl; ends = refl; room = simp length-set }
-
-pub put-two : (before : List ℕ) (at a b : ℕ) → Put before at (a ∷ b ∷ []) (set (set before at a) (at + 1) b) (at + 2)
-put-two before at a b = record { cells = simp towards-suc; ends = refl; room = simp length-set }
-
-pub put-three : (before : List ℕ) (at a b c : ℕ) → Put before at (a ∷ b ∷ c ∷ []) (set (set (set before at a) (at + 1) b) (at + 2) c) (at + 3)
-put-three before at a b c = record { cells = simp towards-suc; ends = refl; room = simp length-set }
 
 -- ---- a whole file
 
@@ -66,7 +44,7 @@ module _ (context count : ℕ) (numbers : List ℕ) where
   pub put-whole : {before one two after : List ℕ} {second body next : ℕ} → Put before 0 (bytesOf context) one second → Put one second (bytesOf count) two body → Put two body (allBytes numbers) after next
       → length whole ≤ length before → after ≡ over whole before
   unfolding allBytes
-  put-whole {before} p q r h = put-more p (put-more q r) .cells ∙ sets-over whole before h
+  put-whole p q r h = put-over (put-more p (put-more q r)) h
 
 -- what is answered and stored
 module _ (bytes buffer : List ℕ) where

@@ -1,20 +1,12 @@
 -- What the private functions of saving say of each other. Nothing here is to be believed.
-use mathlib.Core.Path.{_≡_}
 use mathlib.Core.List.{List}
-use Prim.Native.Nat.{ℕ, _+_}
+use Prim.Native.Nat.{ℕ}
 use lib.Dec.{ltb}
 use lib.ListN.{length}
-use lib.Seq.{sets}
 use Rattle.laws.specs.Choice.{pick}
 use Rattle.laws.specs.Lists.{over}
 use Rattle.file_save.specs.declared.Saved.{Saved}
 use Rattle.file_save.specs.declared.Saved.the-variants.{Refused, Bytes}
-
--- bytes stand in a buffer from `at` on, and `next` is the place behind them; all else is as before
-pub record Put (before : List ℕ) (at : ℕ) (bytes after : List ℕ) (next : ℕ) : Type 0 where
-  pub cells : after ≡ sets before at bytes
-  pub ends : next ≡ at + length bytes
-  pub room : length after ≡ length before
 
 -- bytes into a buffer of so many: the answer, and the buffer afterwards
 unfoldable pub stored : List ℕ → ℕ → Saved

@@ -6,10 +6,11 @@ ghost use mathlib.Core.List.{_∷_};
 ghost use Prim.Native.Nat.{_+_, _*_, _≤_, _<_};
 ghost use lib.Dec.{ltb};
 ghost use lib.ListN.{length};
+ghost use Rattle.laws.specs.Puts.{Put};
 ghost use Rattle.tree.specs.Sizes.{nodeCells, mostNodes};
 ghost use Rattle.file_bytes.specs.Bytes.{bytesOf, allBytes};
 ghost use Rattle.file_save.specs.Saves.{saved, savedAfter};
-ghost use Rattle.file_save.specs.Stores.{Put, stored, storedAfter};
+ghost use Rattle.file_save.specs.Stores.{stored, storedAfter};
 
 // What saving answers.
 pub enum Saved {

@@ -3,3 +3,4 @@ pub mod Choice
 pub mod Each
 pub mod Keys
 pub mod Lists
+pub mod Putting

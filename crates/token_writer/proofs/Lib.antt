@@ -1,6 +1,5 @@
 pub mod Bounds
 pub mod Plains
-pub mod Putting
 pub mod Replies
 pub mod Spelling
 pub mod Tokens

@@ -8,7 +8,9 @@ use lib.Dec.{eqb}
 use lib.ListN.{length, take, replicate, length-replicate}
 use borrow.Author.Tests.{eq-eqb, ne-eqb, lt-ltb, le-ltb}
 use Rattle.laws.specs.Choice.{pick}
+use Rattle.laws.specs.Puts.{Put}
 use Rattle.laws.proofs.Choice.{pick-true, pick-false, or-here, or-next}
+use Rattle.laws.proofs.Putting.{put-over}
 use Rattle.tree.specs.Sizes.{rowCells, scratchCells, tokensPerNode}
 use Rattle.tree_rules.specs.Refusals.{firstOf, refusal}
 use Rattle.row_walk.specs.Walk.{rowsAfter}
@@ -16,9 +18,8 @@ use Rattle.token_grammar.specs.Tokens.{codesOf}
 use Rattle.token_plain.specs.Plain.{plainTable}
 use Rattle.token_writer.specs.declared.Written.{Written}
 use Rattle.token_writer.specs.declared.Written.the-variants.{Refused, Tokens}
-use Rattle.token_writer.specs.Puts.{Put, codesAt}
+use Rattle.token_writer.specs.Puts.{codesAt}
 use Rattle.token_writer.specs.Writes.{rowsFor, written, writeRefusal12, refusal13, writeRefusal, answered, tokensAfter}
-use Rattle.token_writer.proofs.Putting.{put-over}
 use Rattle.token_writer.proofs.Tokens.{length-codes}
 
 -- ---- the rows
@@ -92,4 +93,4 @@ module _ (context count : ℕ) (cells tokens : List ℕ) where
               let e = eq-eqb _ 0 not-refused in
               let l = length-codes (written count cells) in
               let n : next ≡ length (written count cells) = omega (arith, p .ends) in
-              (ap Tokens n ∙ sym (pick-true _ _ e), put-over tokens (codesOf (written count cells)) last next (omega arith) p ∙ sym (pick-true _ _ e))
+              (ap Tokens n ∙ sym (pick-true _ _ e), put-over p (omega arith) ∙ sym (pick-true _ _ e))

@@ -5,6 +5,8 @@ use mathlib.Core.List.{List, [], _∷_, _++_, append-assoc, append-nil}
 use Prim.Native.Nat.{ℕ, _+_, _≤_}
 use lib.ListN.{length, length-append}
 use Rattle.laws.specs.Choice.{pick}
+use Rattle.laws.specs.Puts.{Put}
+use Rattle.laws.proofs.Putting.{put-none, put-more}
 use Rattle.tree.specs.Table.{firstColumn, secondColumn}
 use Rattle.tree.specs.Trees.{Label, Tree, none, node, labelAt, operandAt, treeAt}
 use Rattle.tree.proofs.Unfold.{unfolds}
@@ -12,8 +14,7 @@ use Rattle.token_grammar.specs.Tokens.{Token, code, LeftParen, RightParen, code
 use Rattle.token_plain.specs.Written.{within, signsOf, tokensAt, hasPair}
 use Rattle.token_writer.specs.declared.signs.Few.{Few}
 use Rattle.token_writer.specs.declared.signs.Signs.{Signs}
-use Rattle.token_writer.specs.Puts.{spelled, Put, Spells, oneIf, codesAt}
-use Rattle.token_writer.proofs.Putting.{put-none, put-more}
+use Rattle.token_writer.specs.Puts.{spelled, Spells, oneIf, codesAt}
 use Rattle.token_writer.proofs.Spelling.{one-if}
 
 -- ---- codes

@@ -2,10 +2,8 @@
 use mathlib.Core.Path.{_≡_}
 use mathlib.Core.Bool.{Bool}
 use mathlib.Core.List.{List, [], _∷_}
-use Prim.Native.Nat.{ℕ, _+_}
+use Prim.Native.Nat.{ℕ}
 use lib.Dec.{eqb}
-use lib.ListN.{length}
-use lib.Seq.{sets}
 use Rattle.laws.specs.Choice.{pick}
 use Rattle.tree.specs.Trees.{treeAt}
 use Rattle.token_grammar.specs.Tokens.{code, operator, Lt, Gt, Name, codesOf}
@@ -15,13 +13,7 @@ use Rattle.token_writer.specs.declared.signs.Few.{Few}
 use Rattle.token_writer.specs.declared.signs.Few.the-variants.{Nothing, One, Two, Three}
 use Rattle.token_writer.specs.declared.signs.Signs.{Signs}
 
--- ---- codes in a buffer
-
--- codes stand in a buffer from `at` on, and `next` is the place behind them; all else is as before
-pub record Put (before : List ℕ) (at : ℕ) (codes after : List ℕ) (next : ℕ) : Type 0 where
-  pub cells : after ≡ sets before at codes
-  pub ends : next ≡ at + length codes
-  pub room : length after ≡ length before
+-- ---- few codes
 
 abbrev pub spelled : Few → List ℕ
 spelled Nothing = []

@@ -14,11 +14,12 @@ use tree_one_pass::check;
 ghost use mathlib.Core.Path.{_≡_};
 ghost use Prim.Native.Nat.{_+_, _*_, _-_, _≤_};
 ghost use lib.ListN.{length, getD, replicate};
+ghost use Rattle.laws.specs.Puts.{Put};
 ghost use Rattle.tree.specs.Sizes.{rowCells, scratchCells};
 ghost use Rattle.tree_rules.specs.Refusals.{refusal};
 ghost use Rattle.token_plain.specs.Written.{hasPair};
 ghost use Rattle.token_grammar.specs.Tokens.{codesOf};
-ghost use Rattle.token_writer.specs.Puts.{spelled, Put, codesAt};
+ghost use Rattle.token_writer.specs.Puts.{spelled, codesAt};
 ghost use Rattle.token_writer.specs.Writes.{written, answered, tokensAfter};
 
 // What writing answers.

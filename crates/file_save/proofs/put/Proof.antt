@@ -1,8 +1,8 @@
 -- `file_save::put` meets its contract. Assumes nothing.
 use native.Mathlib.Omega.{arith}
 use lib.ListN.{length-set}
+use Rattle.laws.proofs.Putting.{put-one, put-two, put-three}
 use Rattle.file_bytes.proofs.Numbers.{one-of, two-of, three-of, some-bytes}
-use Rattle.file_save.proofs.Putting.{put-one, put-two, put-three}
 use borrow.Author.Needs.{needs}
 use Rattle.file_save.proofs.put.Statement.{statement}
 use Rattle.file_save.proofs.put.Tie as tie

@@ -5,10 +5,11 @@ use native.Mathlib.Omega.{arith}
 use borrow.Author.Needs.{needs}
 use lib.ListN.{length, getD, take, length-append}
 use lib.Seq.{take-length}
+use Rattle.laws.specs.Puts.{Put}
+use Rattle.laws.proofs.Putting.{put-none}
 use Rattle.file_bytes.specs.Bytes.{bytesOf, allBytes}
 use Rattle.file_bytes.proofs.Several.{all-next, part-long}
-use Rattle.file_save.specs.Stores.{Put}
-use Rattle.file_save.proofs.Putting.{put-none, put-next}
+use Rattle.file_save.proofs.Putting.{put-next}
 use Rattle.file_save.proofs.put_all.Statement.{statement}
 use Rattle.file_save.proofs.put_all.Tie as tie
 

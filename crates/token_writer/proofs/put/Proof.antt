@@ -1,7 +1,7 @@
 -- `token_writer::put` meets its contract. Assumes nothing.
 use native.Mathlib.Omega.{arith}
 use lib.ListN.{length-set}
-use Rattle.token_writer.proofs.Putting.{put-none, put-one, put-two, put-three}
+use Rattle.laws.proofs.Putting.{put-none, put-one, put-two, put-three}
 use borrow.Author.Needs.{needs}
 use Rattle.token_writer.proofs.put.Statement.{statement}
 use Rattle.token_writer.proofs.put.Tie as tie
