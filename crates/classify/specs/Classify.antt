@@ -1,4 +1,4 @@
--- prettyplease's classify.rs, function by function, on trees; expr_trailing_brace is in crate braces.
+-- prettyplease's classify.rs, function by function, on trees; expr_trailing_brace is in crate classify_braces.
 use mathlib.Core.Bool.{Bool, true, false, not}
 use mathlib.Core.List.{List, [], _∷_}
 use Prim.Native.Nat.{ℕ}

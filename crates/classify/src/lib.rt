@@ -1,4 +1,4 @@
-// prettyplease's classify.rs, but for the brace at an end (crate braces): questions about the ends of an expression, each a walk over node numbers.
+// prettyplease's classify.rs, but for the brace at an end (crate classify_braces): questions about the ends of an expression, each a walk over node numbers.
 use tree::columns;
 use tree::forms;
 use tree::table::Operand;

@@ -3,7 +3,7 @@ use mathlib.Core.Bool.{Bool, true, false, _&&_}
 use mathlib.Core.List.{List, [], _∷_}
 use Prim.Native.Nat.{ℕ}
 use lib.Dec.{eqb}
-use Rattle.laws.specs.Choice.{pick, Line, line, lookup}
+use Rattle.laws.specs.Choice.{Line, line, lookup}
 use Rattle.tree.specs.Forms.{ExprAssign, ExprAwait, ExprBinary, ExprBreak, ExprCall, ExprCast, ExprClosure, ExprField, ExprGroup, ExprIndex, ExprLet, ExprMethodCall, ExprParen, ExprRange, ExprRawAddr, ExprReference, ExprReturn, ExprTry, ExprUnary, ExprYield}
 use Rattle.tree.specs.Trees.{Label, Tree}
 use Rattle.tree.specs.Walks.{atRoot}

@@ -1,4 +1,4 @@
--- The test of expr_break, which a private function answers. No promise cites it.
+-- The test of expr_break, which a private function answers. Nothing here is to be believed.
 use mathlib.Core.Bool.{_&&_}
 use Prim.Native.Nat.{ℕ}
 use lib.Dec.{eqb}

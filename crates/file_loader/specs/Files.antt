@@ -1,5 +1,5 @@
 -- Document 01, 'Tree file' and 'Reply numbers': what a file holds, its refusals, and what loading it answers and stores.
-use mathlib.Core.Bool.{Bool, not, _||_}
+use mathlib.Core.Bool.{Bool, _||_}
 use mathlib.Core.List.{List, [], _∷_}
 use Prim.Native.Nat.{ℕ, _*_}
 use lib.Dec.{eqb, ltb}
@@ -7,7 +7,7 @@ use lib.ListN.{length, getD}
 use Rattle.laws.specs.Choice.{pick}
 use Rattle.laws.specs.Lists.{over}
 use Rattle.tree.specs.Sizes.{nodeCells, mostFileBytes}
-use Rattle.tree_rules.specs.Refusals.{refusal3, refusal4, Refusal, refuse, firstOf, nodeRefusals}
+use Rattle.tree_rules.specs.Refusals.{refusal3, refusal4, refuse, firstOf, nodeRefusals}
 use Rattle.file_loader.specs.declared.Loaded.{Loaded}
 use Rattle.file_loader.specs.declared.Loaded.the-variants.{Refused, Accepted}
 use Rattle.file_loader.specs.Several.{Numbers, numbersOf, isBroken, valuesIn, bytesAfter}

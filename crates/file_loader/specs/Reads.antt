@@ -1,4 +1,4 @@
--- What the loader's steps read, as facts of the file.
+-- What the loader's steps read, as facts of the file. Nothing here is to be believed.
 use mathlib.Core.Bool.{false}
 use mathlib.Core.List.{List, [], _∷_}
 use mathlib.Core.Path.{_≡_}

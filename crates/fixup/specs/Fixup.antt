@@ -1,5 +1,5 @@
 -- prettyplease's fixup.rs: parenthesize, precedence and scan_left, on trees.
-use mathlib.Core.Bool.{Bool, true, false, not, _&&_, _||_}
+use mathlib.Core.Bool.{Bool, true, not, _&&_, _||_}
 use mathlib.Core.List.{List, [], _∷_}
 use Rattle.laws.specs.Choice.{pick, Line, line}
 use Rattle.tree.specs.Forms.{ExprAssign, ExprBinary, ExprCast, ExprRange}

@@ -1,4 +1,4 @@
--- Whether parenthesize has a question to put, and a context with other operators on either side.
+-- Whether parenthesize has a question to put, and a context with other operators on either side. Nothing here is to be believed.
 use mathlib.Core.Bool.{Bool, _||_}
 use Rattle.precedence.specs.declared.Precedence.{Precedence}
 use Rattle.fixup.specs.declared.context.FixupContext.{FixupContext}

@@ -1,4 +1,4 @@
--- One step of Precedence::of over node numbers.
+-- One step of Precedence::of over node numbers. Nothing here is to be believed.
 use mathlib.Core.Bool.{Bool}
 use mathlib.Core.List.{List}
 use Prim.Native.Nat.{ℕ}

@@ -1,4 +1,4 @@
--- What the steps of the walk give: the rows of a node and of its operands in their cells.
+-- What the steps of the walk give: the rows of a node and of its operands in their cells. Nothing here is to be believed.
 use mathlib.Core.List.{List}
 use Prim.Native.Nat.{ℕ}
 use Rattle.tree.specs.Table.{firstColumn, secondColumn}

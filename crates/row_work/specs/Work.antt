@@ -28,7 +28,7 @@ precedenceVisits Neither x t = 0
 unfoldable pub rowVisits : Handed → Tree → ℕ
 rowVisits h t = pick (isExpression t) (precedenceVisits (h .side) (h .fixup) t) 0
 
--- the walk goes as `rowsOf` of crate walk
+-- the walk goes as `rowsOf` of crate row
 unfoldable pub walkVisits : Handed → Tree → ℕ
 walkVisits h none = 0
 walkVisits h (node l a b) =

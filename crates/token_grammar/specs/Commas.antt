@@ -6,7 +6,7 @@ use mathlib.Core.Logic.{_⊎_}
 use Prim.Native.Nat.{ℕ, suc}
 use lib.ListN.{getD}
 use Rattle.tree.specs.Sizes.{listEnd}
-use Rattle.token_grammar.specs.Tokens.{Gt, Token, operator, code, RightParen, Comma}
+use Rattle.token_grammar.specs.Tokens.{Gt, operator, code, RightParen, Comma}
 use Rattle.token_grammar.specs.Types.{Sort, Ty, named, applied, pointing, sign, noTypes, types, lastType, moreTypes}
 use Rattle.token_grammar.specs.Expressions.{Expr, atom, paren, prefix, binary, cast, member, try, index, call, method, noArguments, arguments, lastArgument, moreArguments}
 

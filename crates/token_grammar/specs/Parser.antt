@@ -5,7 +5,7 @@ use Prim.Native.Nat.{ℕ, zero, suc, _*_}
 use lib.Dec.{leb, eqb}
 use lib.ListN.{length}
 use Rattle.laws.specs.Choice.{Line, line, lookup}
-use Rattle.token_grammar.specs.Tokens.{Operator, Sub, Mul, BitAnd, Lt, Gt, number, Token, operator, code, Bang, AndMut, As, Name, Literal, Dot, LeftParen, RightParen, LeftBracket, RightBracket, Comma, Question, StarConst, StarMut, Underscore, NumberedMember, Await}
+use Rattle.token_grammar.specs.Tokens.{Sub, Mul, BitAnd, Lt, Gt, number, Token, operator, code, Bang, AndMut, Name, Literal, LeftParen, RightParen, RightBracket, Comma, StarConst, StarMut, Underscore, NumberedMember, Await}
 use Rattle.token_grammar.specs.Levels.{casts, prefixes, postfixes, kind, level, before, after}
 use Rattle.token_grammar.specs.Bounds.{loosest}
 use Rattle.token_grammar.specs.Next.{Next, stops, operates, castsTo, dots, calls, indexes, tries, nextOf, levelAt}

@@ -1,5 +1,4 @@
 -- The tree that a parse tree is, node by node, and "T without its own parentheses".
-use mathlib.Core.List.{List}
 use Prim.Native.Nat.{ℕ}
 use lib.Dec.{eqb}
 use Rattle.laws.specs.Choice.{pick}

@@ -1,4 +1,4 @@
--- The walks of Walks over node numbers, one step at a time: what private functions do. No promise cites it.
+-- The walks of Walks over node numbers, one step at a time, as the code goes. No promise cites it.
 use mathlib.Core.Bool.{Bool, true, false, _&&_}
 use mathlib.Core.List.{List}
 use Prim.Native.Nat.{ℕ}

@@ -1,4 +1,4 @@
--- What the one pass over the nodes keeps of each: its mark. Private contracts cite this; nothing in it is to be believed.
+-- What the one pass over the nodes keeps of each: its mark. Private contracts cite it. Nothing here is to be believed.
 use mathlib.Core.Path.{_≡_}
 use mathlib.Core.Bool.{false, true, _&&_}
 use mathlib.Core.List.{List}

@@ -1,4 +1,4 @@
--- What the one pass knows of a form: its row, one number. Private contracts cite this; nothing in it is to be believed.
+-- What the one pass knows of a form: its row, one number. Private contracts cite it. Nothing here is to be believed.
 use mathlib.Core.Path.{_≡_}
 use mathlib.Core.Bool.{Bool, false, true, not, _&&_, _||_}
 use mathlib.Core.List.{List, [], _∷_}

@@ -1,4 +1,4 @@
--- What the private functions of places answer. No promise cites it.
+-- What the private functions of places answer. Nothing here is to be believed.
 use mathlib.Core.Bool.{Bool, true, false}
 use mathlib.Core.List.{List}
 use Prim.Native.Nat.{ℕ}

@@ -1,4 +1,4 @@
--- What the passes over the nodes ask of each node, and what they keep in their own arrays.
+-- What the passes over the nodes ask of each node, and what they keep in their own arrays. Nothing here is to be believed.
 use mathlib.Core.Bool.{Bool}
 use mathlib.Core.List.{List}
 use mathlib.Core.Path.{_≡_}

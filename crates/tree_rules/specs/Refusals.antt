@@ -1,5 +1,5 @@
 -- Document 01, 'Reply numbers': the refusals of a context, a count and a node table, each by the sentence above it, and the first that applies.
-use mathlib.Core.Bool.{Bool, true, false, not, _&&_, _||_}
+use mathlib.Core.Bool.{Bool, not, _&&_, _||_}
 use mathlib.Core.List.{List, [], _∷_}
 use mathlib.Core.Path.{_≡_}
 use Prim.Native.Nat.{ℕ, zero, suc, _+_, _*_}
