@@ -2,14 +2,13 @@
 use mathlib.Core.Bool.{Bool}
 use mathlib.Core.List.{List, [], _∷_}
 use Prim.Native.Nat.{ℕ}
+use Rattle.bools.specs.Bits.{bitOf}
 use Rattle.laws.specs.Choice.{Line, line, lookup}
 use Rattle.tree.specs.Trees.{Tree}
 use Rattle.precedence.specs.declared.Precedence.{Precedence}
 use Rattle.precedence.specs.Precedences.{rankOf}
 use Rattle.fixup.specs.declared.context.FixupContext.{FixupContext}
 use Rattle.fixup.specs.Contexts.{NONE, newStmt, newMatchArm, newCondition, withOperator, withDot, rightmost}
-use Rattle.expr.specs.declared.Side.{Side}
-use Rattle.expr.specs.declared.Side.the-variants.{Left, Right, Neither}
 use Rattle.expr.specs.declared.Handed.{Handed}
 use Rattle.expr.specs.Expr.{handsFirst, handsSecond}
 use Rattle.row_pack.specs.Cells.{flagsOf}
@@ -44,16 +43,11 @@ contextAnswered question cell x first second p = lookup (contextQuestions cell x
 
 -- ---- expr.rs: what an operand gets from its owner
 
-abbrev pub sideNumber : Side → ℕ
-sideNumber Left = 0
-sideNumber Right = 1
-sideNumber Neither = 2
-
--- cells 0 to 2 are those of the context; then the side, and the number of the grouping test
+-- cells 0 to 2 are those of the context; then the precedence, and 1 where the owner groups it, otherwise 0
 unfoldable pub handedCells : Handed → List (Line ℕ)
 handedCells h =
-    line (3 ∷ []) (sideNumber (h .side)) ∷
-    line (4 ∷ []) (h .below) ∷
+    line (3 ∷ []) (rankOf (h .precedence)) ∷
+    line (4 ∷ []) (bitOf (h .«needs_group»)) ∷
     []
 
 unfoldable pub handedCell : ℕ → Handed → ℕ

@@ -1,7 +1,7 @@
 // Contexts, and what an operand gets from its owner, a cell at a time, by the number of a question.
 // A number that is no question's or no cell's is answered by 65535.
+use bools::bit;
 use expr::Handed;
-use expr::Side;
 use expr::first_operand;
 use expr::second_operand;
 use fixup::context::FixupContext;
@@ -9,7 +9,7 @@ use precedence::Precedence;
 use row_pack::flags;
 ghost use mathlib.Core.Path.{_≡_};
 ghost use Rattle.tree.specs.Trees.{treeAt};
-ghost use Rattle.answers_cells.specs.CellQuestions.{cellOf, contextAnswered, sideNumber, handedCell, handedAnswered};
+ghost use Rattle.answers_cells.specs.CellQuestions.{cellOf, contextAnswered, handedCell, handedAnswered};
 
 // One of the three cells of a context.
 fn cell_of(cell: u16, fixup: FixupContext) -> u16
@@ -54,25 +54,15 @@ pub fn context_answer(
     }
 }
 
-fn side_number(side: Side) -> u16
-    ensures { λ r. ⌜ r ≡ sideNumber side ⌝ }
-{
-    match side {
-        Side::Left => 0,
-        Side::Right => 1,
-        Side::Neither => 2,
-    }
-}
-
-// One of the five cells of what an operand gets: the context's three, its side, and its owner's test.
+// One of the five cells of what an operand gets: the context's three, its precedence, and whether its owner groups it.
 fn handed_cell(cell: u16, handed: Handed) -> u16
     ensures { λ r. ⌜ r ≡ handedCell cell handed ⌝ }
 {
     let fixup = handed.fixup;
-    let side = handed.side;
+    let precedence = handed.precedence;
     match cell {
-        3 => side_number(side),
-        4 => handed.below,
+        3 => precedence.rank(),
+        4 => bit(handed.needs_group),
         _ => cell_of(cell, fixup),
     }
 }

@@ -1,49 +1,33 @@
--- What an operand gets from its owner: a context, the side on which it stands, and the owner's grouping test.
+-- What an operand gets from its owner, expr.rs's three values: its precedence, its context, and whether its owner groups it.
 use mathlib.Core.Bool.{Bool, false}
-use Prim.Native.Nat.{ℕ, suc}
-use Rattle.laws.specs.Choice.{pick}
+use Rattle.tree.specs.Trees.{Tree}
 use Rattle.precedence.specs.declared.Precedence.{Precedence}
-use Rattle.precedence.specs.Precedences.{rankOf}
 use Rattle.fixup.specs.declared.context.FixupContext.{FixupContext}
-use Rattle.fixup.specs.Contexts.{withOperator, withDot, rightmost}
-use Rattle.expr.specs.declared.Side.the-variants.{Left, Right, Neither}
+use Rattle.fixup.specs.Contexts.{rightmost}
+use Rattle.fixup.specs.Fixup.{effective}
+use Rattle.fixup_scan.specs.Scans.{rightmostPrecedence}
+use Rattle.fixup_subexpression.specs.declared.Subexpression.{Subexpression}
+use Rattle.fixup_subexpression.specs.Subexpressions.{operand}
 use Rattle.expr.specs.declared.Handed.{Handed}
 
--- ---- grouping tests: the owner groups an operand where the rank of its precedence is smaller than the test's number
+-- `self.subexpr(operand, needs_group, fixup)`
+abbrev pub subexpr : Subexpression → Bool → Handed
+subexpr s group = record { precedence = s .precedence; fixup = s .fixup; «needs_group» = group }
 
--- '< p'
-abbrev pub under : Precedence → ℕ
-under p = rankOf p
+-- with a test of the operand's precedence
+unfoldable pub groupedBy : Subexpression → (Precedence → Bool) → Handed
+groupedBy s needsGroup = subexpr s (needsGroup (s .precedence))
 
--- '<= p'
-abbrev pub upTo : Precedence → ℕ
-upTo p = suc (rankOf p)
+-- `self.expr(operand, fixup)`: no test
+unfoldable pub ungrouped : Subexpression → Handed
+ungrouped s = subexpr s false
 
-abbrev pub never : ℕ
-never = 0
+-- rightmost_subexpression_fixup, and rightmost_subexpression_precedence in what it makes
+abbrev pub atEnd : FixupContext → Tree → Bool → Bool → Precedence → Subexpression
+atEnd x t reset optional previous =
+    let y = rightmost x reset optional previous in
+    operand (rightmostPrecedence t y) y
 
--- a test that does not look at the precedence: 16 is above every rank
-abbrev pub grouped : Bool → ℕ
-grouped test = pick test 16 never
-
--- ---- document 01: "Left operands are those whose context the crate makes with a leftmost_subexpression function, right ones those with a rightmost_subexpression function"
-
--- leftmost_subexpression_with_operator
-unfoldable pub beforeOperator : FixupContext → Bool → Bool → Precedence → ℕ → Handed
-beforeOperator x begins generics next test = record { fixup = withOperator x begins generics next; side = Left; below = test }
-
--- leftmost_subexpression_with_dot
-unfoldable pub beforeDot : FixupContext → ℕ → Handed
-beforeDot x test = record { fixup = withDot x; side = Left; below = test }
-
--- rightmost_subexpression_fixup
-unfoldable pub atEnd : FixupContext → Bool → Bool → Precedence → ℕ → Handed
-atEnd x reset optional previous test = record { fixup = rightmost x reset optional previous; side = Right; below = test }
-
--- rightmost_subexpression, and the test '< its operator'
-unfoldable pub afterPrefix : FixupContext → Precedence → Handed
-afterPrefix x previous = atEnd x false false previous (under previous)
-
--- no such function, and no test
-unfoldable pub neither : FixupContext → Handed
-neither x = record { fixup = x; side = Neither; below = never }
+-- no function of fixup.rs makes its context: it gets x, and precedence in x. No test
+unfoldable pub neither : FixupContext → Tree → Handed
+neither x t = ungrouped (operand (effective x t) x)

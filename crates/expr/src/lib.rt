@@ -1,120 +1,98 @@
-// prettyplease's expr.rs: for each operand the owner's grouping test and the context that it hands down.
+// prettyplease's expr.rs: for each operand its precedence, the context that its owner hands down, and the owner's grouping test.
 use bools::both;
+use classify::expr_leading_label;
 use fixup::context::FixupContext;
+use fixup_scan::right::rightmost_subexpression_precedence;
+use fixup_subexpression::Subexpression;
+use fixup_subexpression::leftmost_subexpression_with_dot;
+use fixup_subexpression::leftmost_subexpression_with_operator;
+use fixup_subexpression::rightmost_subexpression;
 use precedence::Binding;
 use precedence::Lean;
 use precedence::Precedence;
 use tree::columns;
 use tree::forms;
-use tree::table::Operand;
 use tree::table::cell;
 use tree::table::form_at;
-use tree_shapes::first_at;
+use tree::table::operand_number;
 ghost use mathlib.Core.Path.{_≡_};
+ghost use mathlib.Core.Bool.{true, false, _&&_};
+ghost use lib.Dec.{eqb};
 ghost use Rattle.tree.specs.Trees.{treeAt};
-ghost use Rattle.tree.specs.Steps.{treeOf};
-ghost use Rattle.expr.specs.Handed.{upTo, grouped, beforeOperator, beforeDot, atEnd, afterPrefix, neither};
-ghost use Rattle.expr.specs.Expr.{leftTest, rightTest, leftOf, rightOf, canBeginExpr, canBeginGenerics, binaryLeft, binaryRight, callTest, handsFirst, handsSecond};
-ghost use Rattle.expr.specs.Steps.{breakTest};
-
-// Which function of fixup.rs gives an operand's precedence.
-pub enum Side {
-    // leftmost_subexpression_precedence
-    Left,
-    // rightmost_subexpression_precedence
-    Right,
-    // precedence
-    Neither,
-}
+ghost use Rattle.precedence.specs.declared.Precedence.the-variants.{Jump, Unambiguous};
+ghost use Rattle.precedence.specs.Precedences.{below};
+ghost use Rattle.classify.specs.Classify.{leadingLabel};
+ghost use Rattle.fixup_subexpression.specs.Subexpressions.{leftmostWithOperator};
+ghost use Rattle.expr.specs.Handed.{subexpr, groupedBy, ungrouped, atEnd, neither};
+ghost use Rattle.expr.specs.Expr.{leftNeedsGroup, rightNeedsGroup, leftOf, rightOf, canBeginExpr, canBeginGenerics, binaryLeft, binaryRight, callNeedsGroup, handsFirst, handsSecond};
+ghost use Rattle.expr.specs.Steps.{givenFirst, givenSecond};
 
 // What an operand gets from its owner.
 pub struct Handed {
+    pub precedence: Precedence,
     pub fixup: FixupContext,
-    pub side: Side,
-    // The owner groups the operand where the rank of its precedence is smaller than this.
-    pub below: u16,
+    // The owner groups the operand.
+    pub needs_group: bool,
 }
 
-// No operand is grouped.
-const NEVER: u16 = 0;
-
-// Every operand is grouped, whatever its precedence.
-const ALWAYS: u16 = 16;
-
-// The test '<= precedence'; '< precedence' is its rank.
-fn up_to(precedence: Precedence) -> u16
-    ensures { λ r. ⌜ r ≡ upTo precedence ⌝ }
+fn subexpr(operand: Subexpression, needs_group: bool) -> Handed
+    ensures { λ r. ⌜ r ≡ subexpr operand «needs_group» ⌝ }
 {
-    precedence.rank() + 1
-}
-
-// A test that does not look at the precedence.
-fn grouped(test: bool) -> u16
-    ensures { λ r. ⌜ r ≡ grouped test ⌝ }
-{
-    if test { ALWAYS } else { NEVER }
-}
-
-// An operand handed what leftmost_subexpression_with_operator makes.
-fn before_operator(
-    fixup: FixupContext,
-    can_begin_expr: bool,
-    can_begin_generics: bool,
-    operator: Precedence,
-    below: u16,
-) -> Handed
-    ensures { λ r. ⌜ r ≡ beforeOperator fixup «can_begin_expr» «can_begin_generics» operator below ⌝ }
-{
+    let precedence = operand.precedence;
+    let fixup = operand.fixup;
     Handed {
-        fixup: fixup.leftmost_fixup_with_operator(can_begin_expr, can_begin_generics, operator),
-        side: Side::Left,
-        below: below,
+        precedence: precedence,
+        fixup: fixup,
+        needs_group: needs_group,
     }
 }
 
-// An operand handed what leftmost_subexpression_with_dot makes.
-fn before_dot(fixup: FixupContext, below: u16) -> Handed
-    ensures { λ r. ⌜ r ≡ beforeDot fixup below ⌝ }
+// An operand that its owner groups where its precedence is below another.
+fn grouped_below(operand: Subexpression, precedence: Precedence) -> Handed
+    ensures { λ r. ⌜ r ≡ groupedBy operand (λ own. below own precedence) ⌝ }
 {
-    Handed {
-        fixup: fixup.leftmost_fixup_with_dot(),
-        side: Side::Left,
-        below: below,
-    }
+    let own = operand.precedence;
+    subexpr(operand, own.is_below(precedence))
 }
 
-// An operand handed what rightmost_subexpression_fixup makes.
+// An operand that is printed without a test of its owner's.
+fn ungrouped(operand: Subexpression) -> Handed
+    ensures { λ r. ⌜ r ≡ ungrouped operand ⌝ }
+{
+    subexpr(operand, false)
+}
+
+// rightmost_subexpression_fixup, and rightmost_subexpression_precedence in what it makes.
 fn at_end(
     fixup: FixupContext,
+    table: &[u16],
+    count: u16,
+    node: u16,
     reset_allow_struct: bool,
     optional_operand: bool,
-    operator: Precedence,
-    below: u16,
-) -> Handed
-    ensures { λ r. ⌜ r ≡ atEnd fixup «reset_allow_struct» «optional_operand» operator below ⌝ }
+    precedence: Precedence,
+) -> Subexpression
+    ensures { λ r. ⌜ r ≡ atEnd fixup (treeAt (now (table .entry)) count node) «reset_allow_struct» «optional_operand» precedence ⌝ }
 {
-    Handed {
-        fixup: fixup.rightmost_subexpression_fixup(reset_allow_struct, optional_operand, operator),
-        side: Side::Right,
-        below: below,
+    let right = fixup.rightmost_subexpression_fixup(
+        reset_allow_struct,
+        optional_operand,
+        precedence,
+    );
+    Subexpression {
+        precedence: rightmost_subexpression_precedence(right, table, count, node),
+        fixup: right,
     }
-}
-
-// An operand handed what rightmost_subexpression makes, with the test '< operator'.
-fn after_prefix(fixup: FixupContext, operator: Precedence) -> Handed
-    ensures { λ r. ⌜ r ≡ afterPrefix fixup operator ⌝ }
-{
-    at_end(fixup, false, false, operator, operator.rank())
 }
 
 // An operand that neither begins nor ends its owner, or is all of it.
-fn neither(fixup: FixupContext) -> Handed
-    ensures { λ r. ⌜ r ≡ neither fixup ⌝ }
+fn neither(fixup: FixupContext, table: &[u16], count: u16, node: u16) -> Handed
+    ensures { λ r. ⌜ r ≡ neither fixup (treeAt (now (table .entry)) count node) ⌝ }
 {
     Handed {
+        precedence: fixup.precedence(table, count, node),
         fixup: fixup,
-        side: Side::Neither,
-        below: NEVER,
+        needs_group: false,
     }
 }
 
@@ -142,64 +120,83 @@ fn can_begin_generics(op: u16) -> bool
 }
 
 // left_needs_group, by the operator's lean. Left of one that leans right the crate tests against Range's level.
-fn left_test(operator: Binding) -> u16
-    ensures { λ r. ⌜ r ≡ leftTest (operator .lean) (operator .level) ⌝ }
+fn left_needs_group(operator: Binding, left: Precedence) -> bool
+    ensures { λ r. ⌜ r ≡ leftNeedsGroup (operator .lean) (operator .level) left ⌝ }
 {
     let level = operator.level;
     let lean = operator.lean;
     match lean {
-        Lean::Left => level.rank(),
-        Lean::Right => up_to(Precedence::Range),
-        Lean::Neither => up_to(level),
+        Lean::Left => left.is_below(level),
+        Lean::Right => left.is_at_most(Precedence::Range),
+        Lean::Neither => left.is_at_most(level),
     }
 }
 
 // right_needs_group, by the operator's lean.
-fn right_test(operator: Binding) -> u16
-    ensures { λ r. ⌜ r ≡ rightTest (operator .lean) (operator .level) ⌝ }
+fn right_needs_group(operator: Binding, right: Precedence) -> bool
+    ensures { λ r. ⌜ r ≡ rightNeedsGroup (operator .lean) (operator .level) right ⌝ }
 {
     let level = operator.level;
     let lean = operator.lean;
     match lean {
-        Lean::Left => up_to(level),
-        Lean::Right => NEVER,
-        Lean::Neither => up_to(level),
+        Lean::Left => right.is_at_most(level),
+        Lean::Right => false,
+        Lean::Neither => right.is_at_most(level),
     }
 }
 
 // The operand left of an operator: expr_assign, expr_binary, expr_range.
 fn left_of(
     fixup: FixupContext,
+    table: &[u16],
+    count: u16,
+    node: u16,
     can_begin_expr: bool,
     can_begin_generics: bool,
     operator: Binding,
 ) -> Handed
-    ensures { λ r. ⌜ r ≡ leftOf fixup «can_begin_expr» «can_begin_generics» operator ⌝ }
+    ensures { λ r. ⌜ r ≡ leftOf fixup (treeAt (now (table .entry)) count node) «can_begin_expr» «can_begin_generics» operator ⌝ }
 {
     let level = operator.level;
-    before_operator(
+    let left = leftmost_subexpression_with_operator(
         fixup,
+        table,
+        count,
+        node,
         can_begin_expr,
         can_begin_generics,
         level,
-        left_test(operator),
-    )
+    );
+    let precedence = left.precedence;
+    subexpr(left, left_needs_group(operator, precedence))
 }
 
 // The operand right of an operator: the same three.
-fn right_of(fixup: FixupContext, optional_operand: bool, operator: Binding) -> Handed
-    ensures { λ r. ⌜ r ≡ rightOf fixup «optional_operand» operator ⌝ }
+fn right_of(
+    fixup: FixupContext,
+    table: &[u16],
+    count: u16,
+    node: u16,
+    optional_operand: bool,
+    operator: Binding,
+) -> Handed
+    ensures { λ r. ⌜ r ≡ rightOf fixup (treeAt (now (table .entry)) count node) «optional_operand» operator ⌝ }
 {
     let level = operator.level;
-    at_end(fixup, false, optional_operand, level, right_test(operator))
+    let right = at_end(fixup, table, count, node, false, optional_operand, level);
+    let precedence = right.precedence;
+    subexpr(right, right_needs_group(operator, precedence))
 }
 
 // expr_binary: the left operand.
-fn binary_left(fixup: FixupContext, op: u16) -> Handed
-    ensures { λ r. ⌜ r ≡ binaryLeft fixup op ⌝ }
+fn binary_left(fixup: FixupContext, table: &[u16], count: u16, node: u16, op: u16) -> Handed
+    ensures { λ r. ⌜ r ≡ binaryLeft fixup (treeAt (now (table .entry)) count node) op ⌝ }
 {
     left_of(
         fixup,
+        table,
+        count,
+        node,
         can_begin_expr(op),
         can_begin_generics(op),
         Binding::of_binop(op),
@@ -207,35 +204,190 @@ fn binary_left(fixup: FixupContext, op: u16) -> Handed
 }
 
 // expr_binary: the right operand.
-fn binary_right(fixup: FixupContext, op: u16) -> Handed
-    ensures { λ r. ⌜ r ≡ binaryRight fixup op ⌝ }
+fn binary_right(fixup: FixupContext, table: &[u16], count: u16, node: u16, op: u16) -> Handed
+    ensures { λ r. ⌜ r ≡ binaryRight fixup (treeAt (now (table .entry)) count node) op ⌝ }
 {
-    right_of(fixup, false, Binding::of_binop(op))
+    right_of(fixup, table, count, node, false, Binding::of_binop(op))
 }
 
-// expr_break: a value whose first token is a label, where the Break has none.
-fn break_test(detail: u16, table: &[u16], count: u16, value: Operand) -> u16
-    ensures { λ r. ⌜ r ≡ breakTest detail (treeOf (now (table .entry)) count value) ⌝ }
+// expr_break: a value whose first token is a label is grouped, where the Break has none.
+fn break_value(fixup: FixupContext, table: &[u16], count: u16, node: u16, detail: u16) -> Handed
+    ensures { λ r. ⌜ r ≡ subexpr (atEnd fixup (treeAt (now (table .entry)) count node) true true Jump) (eqb detail 0 && leadingLabel (treeAt (now (table .entry)) count node)) ⌝ }
 {
-    let Operand::Present(number) = value else {
-        return NEVER;
-    };
-    grouped(both(
-        detail == 0,
-        classify::expr_leading_label(table, count, number),
-    ))
+    subexpr(
+        at_end(fixup, table, count, node, true, true, Precedence::Jump),
+        both(detail == 0, expr_leading_label(table, count, node)),
+    )
 }
 
 // expr_call: a Field by its member, anything else by its precedence.
-fn call_test(table: &[u16], count: u16, func: Operand) -> u16
-    ensures { λ r. ⌜ r ≡ callTest (treeOf (now (table .entry)) count func) ⌝ }
+fn call_needs_group(table: &[u16], count: u16, func: u16, left: Precedence) -> bool
+    ensures { λ r. ⌜ r ≡ callNeedsGroup (treeAt (now (table .entry)) count func) left ⌝ }
 {
-    let Operand::Present(number) = func else {
-        return Precedence::Unambiguous.rank();
-    };
-    match form_at(table, count, number) {
-        forms::EXPR_FIELD => grouped(cell(table, number, columns::DETAIL) == 0),
-        _ => Precedence::Unambiguous.rank(),
+    match form_at(table, count, func) {
+        forms::EXPR_FIELD => cell(table, func, columns::DETAIL) == 0,
+        _ => left.is_below(Precedence::Unambiguous),
+    }
+}
+
+// expr_call: what is called.
+fn call_func(fixup: FixupContext, table: &[u16], count: u16, func: u16) -> Handed
+    ensures { λ r. ⌜ r ≡ groupedBy (leftmostWithOperator fixup (treeAt (now (table .entry)) count func) true false Unambiguous) (callNeedsGroup (treeAt (now (table .entry)) count func)) ⌝ }
+{
+    let left = leftmost_subexpression_with_operator(
+        fixup,
+        table,
+        count,
+        func,
+        true,
+        false,
+        Precedence::Unambiguous,
+    );
+    let precedence = left.precedence;
+    subexpr(left, call_needs_group(table, count, func, precedence))
+}
+
+// What a node hands to `operand` as the one at its first place. `fixup` is the node's own context, NONE where it has an outer pair.
+fn first_given(fixup: FixupContext, table: &[u16], count: u16, node: u16, operand: u16) -> Handed
+    ensures { λ r. ⌜ r ≡ givenFirst fixup (treeAt (now (table .entry)) count node) (treeAt (now (table .entry)) count operand) ⌝ }
+{
+    match form_at(table, count, node) {
+        // expr_assign
+        forms::EXPR_ASSIGN => left_of(
+            fixup,
+            table,
+            count,
+            operand,
+            false,
+            false,
+            Binding::of_assign(),
+        ),
+        // expr_await, expr_field, expr_method_call, expr_try
+        forms::EXPR_AWAIT | forms::EXPR_FIELD | forms::EXPR_METHOD_CALL | forms::EXPR_TRY => {
+            grouped_below(
+                leftmost_subexpression_with_dot(fixup, table, count, operand),
+                Precedence::Unambiguous,
+            )
+        }
+        // expr_binary
+        forms::EXPR_BINARY => binary_left(
+            fixup,
+            table,
+            count,
+            operand,
+            cell(table, node, columns::DETAIL),
+        ),
+        // expr_break
+        forms::EXPR_BREAK => break_value(
+            fixup,
+            table,
+            count,
+            operand,
+            cell(table, node, columns::DETAIL),
+        ),
+        // expr_call
+        forms::EXPR_CALL => call_func(fixup, table, count, operand),
+        // expr_cast
+        forms::EXPR_CAST => grouped_below(
+            leftmost_subexpression_with_operator(
+                fixup,
+                table,
+                count,
+                operand,
+                false,
+                false,
+                Precedence::Cast,
+            ),
+            Precedence::Cast,
+        ),
+        // expr_closure: the body
+        forms::EXPR_CLOSURE => ungrouped(at_end(
+            fixup,
+            table,
+            count,
+            operand,
+            false,
+            false,
+            Precedence::Jump,
+        )),
+        // expr_group
+        forms::EXPR_GROUP => neither(fixup, table, count, operand),
+        // expr_index
+        forms::EXPR_INDEX => grouped_below(
+            leftmost_subexpression_with_operator(
+                fixup,
+                table,
+                count,
+                operand,
+                true,
+                false,
+                Precedence::Unambiguous,
+            ),
+            Precedence::Unambiguous,
+        ),
+        // expr_let
+        forms::EXPR_LET => grouped_below(
+            rightmost_subexpression(fixup, table, count, operand, Precedence::Let),
+            Precedence::Let,
+        ),
+        // expr_paren
+        forms::EXPR_PAREN => neither(FixupContext::none(), table, count, operand),
+        // expr_range: the start
+        forms::EXPR_RANGE => left_of(
+            fixup,
+            table,
+            count,
+            operand,
+            true,
+            false,
+            Binding::of_range(),
+        ),
+        // expr_raw_addr, expr_unary
+        forms::EXPR_RAW_ADDR | forms::EXPR_UNARY => grouped_below(
+            rightmost_subexpression(fixup, table, count, operand, Precedence::Prefix),
+            Precedence::Prefix,
+        ),
+        // expr_reference
+        forms::EXPR_REFERENCE => grouped_below(
+            rightmost_subexpression(fixup, table, count, operand, Precedence::Prefix),
+            Precedence::Prefix,
+        ),
+        // expr_return, expr_yield
+        forms::EXPR_RETURN | forms::EXPR_YIELD => ungrouped(at_end(
+            fixup,
+            table,
+            count,
+            operand,
+            true,
+            false,
+            Precedence::Jump,
+        )),
+        // call_args: an item of a list; all other forms have no expression there
+        _ => neither(FixupContext::none(), table, count, operand),
+    }
+}
+
+// The same as the one at its second place.
+fn second_given(fixup: FixupContext, table: &[u16], count: u16, node: u16, operand: u16) -> Handed
+    ensures { λ r. ⌜ r ≡ givenSecond fixup (treeAt (now (table .entry)) count node) (treeAt (now (table .entry)) count operand) ⌝ }
+{
+    match form_at(table, count, node) {
+        // expr_assign
+        forms::EXPR_ASSIGN => right_of(fixup, table, count, operand, false, Binding::of_assign()),
+        // expr_binary
+        forms::EXPR_BINARY => binary_right(
+            fixup,
+            table,
+            count,
+            operand,
+            cell(table, node, columns::DETAIL),
+        ),
+        // expr_index: the index
+        forms::EXPR_INDEX => neither(FixupContext::none(), table, count, operand),
+        // expr_range: the end
+        forms::EXPR_RANGE => right_of(fixup, table, count, operand, true, Binding::of_range()),
+        // all other forms have no expression there
+        _ => neither(FixupContext::none(), table, count, operand),
     }
 }
 
@@ -243,91 +395,24 @@ fn call_test(table: &[u16], count: u16, func: Operand) -> u16
 pub fn first_operand(fixup: FixupContext, table: &[u16], count: u16, node: u16) -> Handed
     ensures { λ r. ⌜ r ≡ handsFirst fixup (treeAt (now (table .entry)) count node) ⌝ }
 {
-    let none = FixupContext::none();
-    match form_at(table, count, node) {
-        // expr_assign
-        forms::EXPR_ASSIGN => left_of(fixup, false, false, Binding::of_assign()),
-        // expr_await, expr_field, expr_method_call, expr_try
-        forms::EXPR_AWAIT | forms::EXPR_FIELD | forms::EXPR_METHOD_CALL | forms::EXPR_TRY => {
-            before_dot(fixup, Precedence::Unambiguous.rank())
-        }
-        // expr_binary
-        forms::EXPR_BINARY => binary_left(fixup, cell(table, node, columns::DETAIL)),
-        // expr_break
-        forms::EXPR_BREAK => at_end(
-            fixup,
-            true,
-            true,
-            Precedence::Jump,
-            break_test(
-                cell(table, node, columns::DETAIL),
-                table,
-                count,
-                first_at(table, count, node),
-            ),
-        ),
-        // expr_call
-        forms::EXPR_CALL => before_operator(
-            fixup,
-            true,
-            false,
-            Precedence::Unambiguous,
-            call_test(table, count, first_at(table, count, node)),
-        ),
-        // expr_cast
-        forms::EXPR_CAST => before_operator(
-            fixup,
-            false,
-            false,
-            Precedence::Cast,
-            Precedence::Cast.rank(),
-        ),
-        // expr_closure: the body
-        forms::EXPR_CLOSURE => at_end(fixup, false, false, Precedence::Jump, NEVER),
-        // expr_group
-        forms::EXPR_GROUP => neither(fixup),
-        // expr_index
-        forms::EXPR_INDEX => before_operator(
-            fixup,
-            true,
-            false,
-            Precedence::Unambiguous,
-            Precedence::Unambiguous.rank(),
-        ),
-        // expr_let
-        forms::EXPR_LET => after_prefix(fixup, Precedence::Let),
-        // expr_paren
-        forms::EXPR_PAREN => neither(none),
-        // expr_range: the start
-        forms::EXPR_RANGE => left_of(fixup, true, false, Binding::of_range()),
-        // expr_raw_addr, expr_unary
-        forms::EXPR_RAW_ADDR | forms::EXPR_UNARY => after_prefix(fixup, Precedence::Prefix),
-        // expr_reference
-        forms::EXPR_REFERENCE => after_prefix(fixup, Precedence::Prefix),
-        // expr_return, expr_yield
-        forms::EXPR_RETURN | forms::EXPR_YIELD => {
-            at_end(fixup, true, false, Precedence::Jump, NEVER)
-        }
-        // call_args: an item of a list; all other forms have no expression there
-        _ => neither(none),
-    }
+    first_given(
+        fixup,
+        table,
+        count,
+        node,
+        operand_number(table, count, node, columns::FIRST),
+    )
 }
 
 // What the operand at the second place gets from its owner. `fixup` is as above.
 pub fn second_operand(fixup: FixupContext, table: &[u16], count: u16, node: u16) -> Handed
     ensures { λ r. ⌜ r ≡ handsSecond fixup (treeAt (now (table .entry)) count node) ⌝ }
 {
-    let none = FixupContext::none();
-    match form_at(table, count, node) {
-        // expr_assign
-        forms::EXPR_ASSIGN => right_of(fixup, false, Binding::of_assign()),
-        // expr_binary
-        forms::EXPR_BINARY => binary_right(fixup, cell(table, node, columns::DETAIL)),
-        // expr_index: the index
-        forms::EXPR_INDEX => neither(none),
-        // expr_range: the end
-        forms::EXPR_RANGE => right_of(fixup, true, Binding::of_range()),
-        // all other forms have no expression there
-        _ => neither(none),
-    }
+    second_given(
+        fixup,
+        table,
+        count,
+        node,
+        operand_number(table, count, node, columns::SECOND),
+    )
 }

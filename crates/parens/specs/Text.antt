@@ -29,7 +29,7 @@ allLines count cells rows = okLine count ++ linesOf count cells rows count
 
 -- the rows of the tree at node 1, five cells for each of up to 4,096 nodes
 unfoldable pub rowsIn : ℕ → ℕ → List ℕ → List ℕ
-rowsIn context count cells = placed cells count 1 (rowsOf (rootHanded context) (treeAt cells count 1)) (replicate (rowCells * mostNodes) 0)
+rowsIn context count cells = placed cells count 1 (rowsOf (rootHanded context (treeAt cells count 1)) (treeAt cells count 1)) (replicate (rowCells * mostNodes) 0)
 
 unfoldable pub acceptedText : ℕ → ℕ → List ℕ → List ℕ
 acceptedText context count cells = allLines count cells (rowsIn context count cells)

@@ -2,22 +2,15 @@
 use bools::bit;
 use bools::either;
 use expr::Handed;
-use expr::Side;
 use fixup::context::FixupContext;
-use fixup_scan::right::leftmost_subexpression_precedence;
-use fixup_scan::right::rightmost_subexpression_precedence;
 use precedence::Precedence;
 use tree::columns;
 use tree::forms;
 use tree::table::cell;
 use tree::table::form_at;
 ghost use mathlib.Core.Path.{_≡_};
-ghost use mathlib.Core.Bool.{_||_};
-ghost use lib.Dec.{ltb};
 ghost use Rattle.tree.specs.Trees.{treeAt};
-ghost use Rattle.precedence.specs.Precedences.{rankOf};
-ghost use Rattle.fixup.specs.Fixup.{parenthesize};
-ghost use Rattle.row.specs.Rows.{precedenceBy, innerPair, pairBy, rowBy, expressionRow};
+ghost use Rattle.row.specs.Rows.{innerPair, pairBy, rowBy, expressionRow};
 ghost use Rattle.row.specs.Steps.{decisionOf, alone};
 
 pub struct Row {
@@ -31,37 +24,6 @@ pub struct Row {
 pub struct Decision {
     pub row: Row,
     pub outer: bool,
-}
-
-fn precedence_by(
-    side: Side,
-    fixup: FixupContext,
-    table: &[u16],
-    count: u16,
-    node: u16,
-) -> Precedence
-    ensures { λ r. ⌜ r ≡ precedenceBy side fixup (treeAt (now (table .entry)) count node) ⌝ }
-{
-    match side {
-        Side::Left => leftmost_subexpression_precedence(fixup, table, count, node),
-        Side::Right => rightmost_subexpression_precedence(fixup, table, count, node),
-        Side::Neither => fixup.precedence(table, count, node),
-    }
-}
-
-// The owner's grouping test, or parenthesize.
-fn has_outer_pair(
-    precedence: Precedence,
-    below: u16,
-    fixup: FixupContext,
-    table: &[u16],
-    count: u16,
-    node: u16,
-) -> bool
-    ensures { λ r. ⌜ r ≡ (ltb (rankOf precedence) below || parenthesize fixup (treeAt (now (table .entry)) count node)) ⌝ }
-{
-    let rank = precedence.rank();
-    either(rank < below, fixup.parenthesize(table, count, node))
 }
 
 // The parentheses behind the attributes of an operator with two sides.
@@ -96,14 +58,13 @@ fn row_of(pair: u16, precedence: Precedence, fixup: FixupContext) -> Row
     }
 }
 
-// What is decided of an expression.
+// What is decided of an expression: the outer pair by the owner's grouping test, or parenthesize.
 pub fn decision_of(handed: Handed, table: &[u16], count: u16, node: u16) -> Decision
     ensures { λ r. ⌜ r ≡ decisionOf handed (treeAt (now (table .entry)) count node) ⌝ }
 {
     let fixup = handed.fixup;
-    let side = handed.side;
-    let precedence = precedence_by(side, fixup, table, count, node);
-    let outer = has_outer_pair(precedence, handed.below, fixup, table, count, node);
+    let precedence = handed.precedence;
+    let outer = either(handed.needs_group, fixup.parenthesize(table, count, node));
     let inner = has_inner_pair(table, count, node);
     Decision {
         row: row_of(pair(outer, inner), precedence, fixup),
@@ -113,7 +74,7 @@ pub fn decision_of(handed: Handed, table: &[u16], count: u16, node: u16) -> Deci
 
 // The row of an expression that no owner tests, in NONE: it has no outer pair.
 pub fn lone_row(table: &[u16], count: u16, node: u16) -> Row
-    ensures { λ r. ⌜ r ≡ expressionRow alone (treeAt (now (table .entry)) count node) ⌝ }
+    ensures { λ r. ⌜ r ≡ expressionRow (alone (treeAt (now (table .entry)) count node)) (treeAt (now (table .entry)) count node) ⌝ }
 {
     let none = FixupContext::none();
     let precedence = none.precedence(table, count, node);

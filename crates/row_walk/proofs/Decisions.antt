@@ -12,20 +12,16 @@ use Rattle.laws.specs.Choice.{Line, pick, lookup}
 use Rattle.laws.proofs.Choice.{pick-true, pick-false, true-not-false}
 use Rattle.laws.proofs.Keys.{apartFrom, not-found, linesBelow, past-rows}
 use Rattle.tree.specs.Forms.{anExpression, classOf}
-use Rattle.tree.specs.Trees.{Tree, none, node, labelAt, treeAt}
+use Rattle.tree.specs.Table.{firstColumn, secondColumn}
+use Rattle.tree.specs.Trees.{Label, Tree, none, node, labelAt, operandAt, treeAt}
 use Rattle.tree.specs.Operands.{formIn}
-use Rattle.tree.specs.Walks.{atRoot}
 use Rattle.tree.proofs.Unfold.{tree-zero, tree-past, unfolds}
 use Rattle.tree.proofs.Matches.{form-in, form-none}
-use Rattle.precedence.specs.declared.Precedence.{Precedence}
-use Rattle.precedence.specs.Precedences.{rankOf}
 use Rattle.fixup.specs.declared.context.FixupContext.{FixupContext}
 use Rattle.fixup.specs.Contexts.{NONE}
-use Rattle.fixup.specs.Fixup.{parenthesize, effective}
 use Rattle.expr.specs.declared.Handed.{Handed}
-use Rattle.expr.specs.Handed.{neither}
+use Rattle.expr.specs.Handed.{ungrouped, neither}
 use Rattle.expr.specs.Expr.{firstLines, handsFirst, secondLines, handsSecond}
-use Rattle.row_pack.specs.Cells.{ofBits, flagsOf}
 use Rattle.row.specs.Rows.{outerPair, expressionRow, zeros, isExpression, rowOf, ownContext, rowsOf}
 use Rattle.row.specs.Steps.{alone}
 use Rattle.row.proofs.Decisions.{no-outer}
@@ -50,9 +46,9 @@ pub own-other : (h : Handed) (t : Tree) → isExpression t ≡ false → NONE �
 unfolding ownContext
 own-other h t e = sym (pick-false _ _ e)
 
-pub own-alone : (t : Tree) → isExpression t ≡ true → NONE ≡ ownContext alone t
-unfolding neither
-own-alone t e = own-kept alone t e (no-outer t)
+pub own-alone : (t : Tree) → isExpression t ≡ true → NONE ≡ ownContext (alone t) t
+unfolding neither ungrouped
+own-alone t e = own-kept (alone t) t e (no-outer t)
 
 -- ---- types and links hand NONE to their operands
 
@@ -69,22 +65,30 @@ other-row : {A : Type 0} (rows : List (Line A)) (other : A) (form : ℕ) → T (
 other-row rows other form t u (inl e) = rw e (not-found rows other (0 ∷ []) 0 t refl)
 other-row rows other form t u (inr h) = past-rows rows other 41 form u h
 
-pub first-other : (x : FixupContext) (t : Tree) → isExpression t ≡ false → alone ≡ handsFirst x t
-unfolding handsFirst atRoot firstLines
-first-other x none e = refl
-first-other x (node l a b) e = sym (other-row (firstLines x l a b) alone (l .form) tt tt (other-form (l .form) e))
+first-node : (x : FixupContext) (l : Label) (a b : Tree) → isExpression (node l a b) ≡ false → alone a ≡ handsFirst x (node l a b)
+unfolding handsFirst firstLines
+first-node x l a b e = sym (other-row (firstLines x l a) (alone a) (l .form) tt tt (other-form (l .form) e))
 
-pub second-other : (x : FixupContext) (t : Tree) → isExpression t ≡ false → alone ≡ handsSecond x t
-unfolding handsSecond atRoot secondLines
-second-other x none e = refl
-second-other x (node l a b) e = sym (other-row (secondLines x l a b) alone (l .form) tt tt (other-form (l .form) e))
+second-node : (x : FixupContext) (l : Label) (a b : Tree) → isExpression (node l a b) ≡ false → alone b ≡ handsSecond x (node l a b)
+unfolding handsSecond secondLines
+second-node x l a b e = sym (other-row (secondLines x l b) (alone b) (l .form) tt tt (other-form (l .form) e))
+
+module _ (x : FixupContext) (cells : List ℕ) (count i : ℕ) (low : 1 ≤ i) (high : i ≤ count) (e : isExpression (treeAt cells count i) ≡ false) where
+  unfolded : treeAt cells count i ≡ node (labelAt cells i) (treeAt cells count (operandAt cells count i firstColumn)) (treeAt cells count (operandAt cells count i secondColumn))
+  unfolded = unfolds cells count i low high
+
+  pub first-other : alone (treeAt cells count (operandAt cells count i firstColumn)) ≡ handsFirst x (treeAt cells count i)
+  first-other = first-node x _ _ _ (sym (ap isExpression unfolded) ∙ e) ∙ ap (handsFirst x) (sym unfolded)
+
+  pub second-other : alone (treeAt cells count (operandAt cells count i secondColumn)) ≡ handsSecond x (treeAt cells count i)
+  second-other = second-node x _ _ _ (sym (ap isExpression unfolded) ∙ e) ∙ ap (handsSecond x) (sym unfolded)
 
 -- what is handed to a type or a link does not matter
-pub rows-other : (h : Handed) (t : Tree) → isExpression t ≡ false → rowsOf alone t ≡ rowsOf h t
+pub rows-other : (h : Handed) (t : Tree) → isExpression t ≡ false → rowsOf (alone t) t ≡ rowsOf h t
 unfolding rowsOf
 rows-other h none e = refl
 rows-other h (node l a b) e =
-    rw (← row-other h (node l a b) e, ← row-other alone (node l a b) e, ← own-other h (node l a b) e, ← own-other alone (node l a b) e)
+    rw (← row-other h (node l a b) e, ← row-other (alone (node l a b)) (node l a b) e, ← own-other h (node l a b) e, ← own-other (alone (node l a b)) (node l a b) e)
 
 -- whether a node is an expression, by its number
 class-is : (cells : List ℕ) (count i : ℕ) → eqb (classOf (formIn cells count i)) anExpression ≡ isExpression (treeAt cells count i)

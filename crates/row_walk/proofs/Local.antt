@@ -5,7 +5,6 @@ use Rattle.laws.specs.Choice.{pick, lookup}
 use Rattle.laws.proofs.Choice.{pick-true}
 use Rattle.tree.specs.Forms.{ExprIndex, ExprParen, Link}
 use Rattle.tree.specs.Trees.{Label, Tree, node}
-use Rattle.tree.specs.Walks.{atRoot}
 use Rattle.fixup.specs.declared.context.FixupContext.{FixupContext}
 use Rattle.fixup.specs.Contexts.{NONE}
 use Rattle.expr.specs.declared.Handed.{Handed}
@@ -17,30 +16,30 @@ module _ (h : Handed) (l : Label) (a b : Tree) where
   abbrev here : Tree
   here = node l a b
 
-  index-handed : (x : FixupContext) → l .form ≡ ExprIndex → handsSecond x here ≡ neither NONE
-  unfolding handsSecond secondLines atRoot lookup pick
+  index-handed : (x : FixupContext) → l .form ≡ ExprIndex → handsSecond x here ≡ neither NONE b
+  unfolding handsSecond secondLines lookup pick
   index-handed x e = rw e
 
-  item-handed : (x : FixupContext) → l .form ≡ Link → handsFirst x here ≡ neither NONE
-  unfolding handsFirst firstLines atRoot lookup pick
+  item-handed : (x : FixupContext) → l .form ≡ Link → handsFirst x here ≡ neither NONE a
+  unfolding handsFirst firstLines lookup pick
   item-handed x e = rw e
 
-  paren-handed : (x : FixupContext) → l .form ≡ ExprParen → handsFirst x here ≡ neither NONE
-  unfolding handsFirst firstLines atRoot lookup pick
+  paren-handed : (x : FixupContext) → l .form ≡ ExprParen → handsFirst x here ≡ neither NONE a
+  unfolding handsFirst firstLines lookup pick
   paren-handed x e = rw e
 
   -- the rows of an index depend on the index alone
-  pub index-local : l .form ≡ ExprIndex → rowsOf h here ≡ present (rowOf h here) (rowsOf (handsFirst (ownContext h here) here) a) (rowsOf (neither NONE) b)
+  pub index-local : l .form ≡ ExprIndex → rowsOf h here ≡ present (rowOf h here) (rowsOf (handsFirst (ownContext h here) here) a) (rowsOf (neither NONE b) b)
   unfolding rowsOf
   index-local e = rw (index-handed (ownContext h here) e)
 
   -- the rows of an item of a list depend on the item alone
-  pub item-local : l .form ≡ Link → rowsOf h here ≡ present (rowOf h here) (rowsOf (neither NONE) a) (rowsOf (handsSecond (ownContext h here) here) b)
+  pub item-local : l .form ≡ Link → rowsOf h here ≡ present (rowOf h here) (rowsOf (neither NONE a) a) (rowsOf (handsSecond (ownContext h here) here) b)
   unfolding rowsOf
   item-local e = rw (item-handed (ownContext h here) e)
 
   -- the rows of what stands in parentheses of the tree's own depend on it alone
-  pub paren-local : l .form ≡ ExprParen → rowsOf h here ≡ present (rowOf h here) (rowsOf (neither NONE) a) (rowsOf (handsSecond (ownContext h here) here) b)
+  pub paren-local : l .form ≡ ExprParen → rowsOf h here ≡ present (rowOf h here) (rowsOf (neither NONE a) a) (rowsOf (handsSecond (ownContext h here) here) b)
   unfolding rowsOf
   paren-local e = rw (paren-handed (ownContext h here) e)
 

@@ -304,10 +304,10 @@ pub renumbered : (context count count′ : ℕ) (cells cells′ : List ℕ) → 
     → treeAt cells count 1 ≡ treeAt cells′ count′ 1
     → (into into′ : List ℕ) → rowCells * count ≤ length into → rowCells * count′ ≤ length into′
     → (p : List Branch) → 1 ≤ numberAt cells count 1 p → 1 ≤ numberAt cells′ count′ 1 p
-    → rowIn (placed cells count 1 (rowsOf (rootHanded context) (treeAt cells count 1)) into) (numberAt cells count 1 p)
-    ≡ rowIn (placed cells′ count′ 1 (rowsOf (rootHanded context) (treeAt cells′ count′ 1)) into′) (numberAt cells′ count′ 1 p)
+    → rowIn (placed cells count 1 (rowsOf (rootHanded context (treeAt cells count 1)) (treeAt cells count 1)) into) (numberAt cells count 1 p)
+    ≡ rowIn (placed cells′ count′ 1 (rowsOf (rootHanded context (treeAt cells′ count′ 1)) (treeAt cells′ count′ 1)) into′) (numberAt cells′ count′ 1 p)
 renumbered context count count′ cells cells′ ok ok′ e into into′ room room′ p there there′ =
     let k = count-bounds context count cells ok in
     let k′ = count-bounds context count′ cells′ ok′ in
-    row-at cells count context ok 1 p (rootHanded context) into (omega arith) (k .0) room there
-    ∙ rw e (sym (row-at cells′ count′ context ok′ 1 p (rootHanded context) into′ (omega arith) (k′ .0) room′ there′))
+    row-at cells count context ok 1 p (rootHanded context (treeAt cells count 1)) into (omega arith) (k .0) room there
+    ∙ rw e (sym (row-at cells′ count′ context ok′ 1 p (rootHanded context (treeAt cells′ count′ 1)) into′ (omega arith) (k′ .0) room′ there′))

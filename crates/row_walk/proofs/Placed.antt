@@ -65,5 +65,6 @@ pub placed-other : (cells : List ℕ) (count i : ℕ) (into : List ℕ) → 1 �
     → (own : List ℕ) → own ≡ rowStored i zeros into → (o : ℕ) → o ≡ operandAt cells count i firstColumn → (first : List ℕ) → first ≡ placedAlone cells count o own → (p : ℕ) → p ≡ operandAt cells count i secondColumn
     → placedAlone cells count p first ≡ placedAlone cells count i into
 placed-other cells count i into low high e own eown o eo first ef p ep =
-    placed-by cells count i alone into low high NONE (own-other alone (treeAt cells count i) e) zeros (row-other alone (treeAt cells count i) e) own eown _
-    (rw (ep, ef, eo, ← first-other NONE (treeAt cells count i) e, ← second-other NONE (treeAt cells count i) e))
+    let h = alone (treeAt cells count i) in
+    placed-by cells count i h into low high NONE (own-other h (treeAt cells count i) e) zeros (row-other h (treeAt cells count i) e) own eown _
+    (rw (ep, ef, eo, ← first-other NONE cells count i low high e, ← second-other NONE cells count i low high e))

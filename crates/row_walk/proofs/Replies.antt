@@ -53,7 +53,7 @@ module _ (context count : ℕ) (cells rows scratch : List ℕ) where
       unfolding decideRefusal12
       short-scratch h = short (or-next _ (le-ltb _ _ fits) ∙ lt-ltb _ _ h)
 
-      pub done : scratchCells * count ≤ length scratch → (h : Handed) → h ≡ rootHanded context
+      pub done : scratchCells * count ≤ length scratch → (h : Handed) → h ≡ rootHanded context (treeAt cells count 1)
           → (rows′ : List ℕ) → rows′ ≡ placed cells count 1 (rowsOf h (treeAt cells count 1)) rows
           → (scratch′ : List ℕ) → scratch′ ≡ over (replicate (scratchCells * count) 0) scratch
           → Decides 0 rows′ scratch′

@@ -10,7 +10,7 @@ use Rattle.row.specs.Steps.{alone}
 use Rattle.row_walk.specs.Walk.{placed}
 
 abbrev pub placedAlone : List ℕ → ℕ → ℕ → List ℕ → List ℕ
-placedAlone cells count i rows = placed cells count i (rowsOf alone (treeAt cells count i)) rows
+placedAlone cells count i rows = placed cells count i (rowsOf (alone (treeAt cells count i)) (treeAt cells count i)) rows
 
 -- the operands of a node that is printed in a context
 abbrev pub placedFirst : FixupContext → List ℕ → ℕ → ℕ → List ℕ → List ℕ

@@ -8,7 +8,7 @@ use Rattle.laws.specs.Choice.{pick, Line, line, lookup}
 use Rattle.laws.specs.Lists.{over}
 use Rattle.tree.specs.Sizes.{rowCells, scratchCells}
 use Rattle.tree.specs.Table.{firstColumn, secondColumn}
-use Rattle.tree.specs.Trees.{operandAt, treeAt}
+use Rattle.tree.specs.Trees.{Tree, operandAt, treeAt}
 use Rattle.tree_rules.specs.Refusals.{refusal}
 use Rattle.fixup.specs.declared.context.FixupContext.{FixupContext}
 use Rattle.fixup.specs.Contexts.{NONE, newStmt, newMatchArm, newCondition}
@@ -24,9 +24,9 @@ contexts = line (1 ∷ []) newStmt ∷ line (2 ∷ []) newMatchArm ∷ line (3 �
 unfoldable pub contextNumbered : ℕ → FixupContext
 contextNumbered context = lookup contexts NONE context
 
--- the root: the header's context, and no owner's test
-abbrev pub rootHanded : ℕ → Handed
-rootHanded context = neither (contextNumbered context)
+-- the root: the header's context, precedence in it, and no owner's test
+abbrev pub rootHanded : ℕ → Tree → Handed
+rootHanded context t = neither (contextNumbered context) t
 
 -- a row in the five cells of node i
 unfoldable pub rowStored : ℕ → Row → List ℕ → List ℕ
@@ -54,7 +54,7 @@ unfoldable pub rowsAfter : ℕ → ℕ → List ℕ → List ℕ → List ℕ �
 rowsAfter context count cells rows scratch =
     pick
     (eqb (decided context count cells (length rows) (length scratch)) 0)
-    (placed cells count 1 (rowsOf (rootHanded context) (treeAt cells count 1)) rows)
+    (placed cells count 1 (rowsOf (rootHanded context (treeAt cells count 1)) (treeAt cells count 1)) rows)
     rows
 
 -- the scratch afterwards. "On 0 the walk's scratch holds zeros in the three cells of each node."

@@ -1,6 +1,5 @@
 // The rows of all nodes of an accepted tree.
 use expr::Handed;
-use expr::Side;
 use expr::first_operand;
 use expr::second_operand;
 use fixup::context::FixupContext;
@@ -144,14 +143,15 @@ fn context_numbered(context: u16) -> FixupContext
     }
 }
 
-// The root has no owner: no test, and neither side.
-fn root_handed(context: u16) -> Handed
-    ensures { λ r. ⌜ r ≡ rootHanded context ⌝ }
+// The root has no owner, and no test.
+fn root_handed(context: u16, table: &[u16], count: u16) -> Handed
+    ensures { λ r. ⌜ r ≡ rootHanded context (treeAt (now (table .entry)) count 1) ⌝ }
 {
+    let fixup = context_numbered(context);
     Handed {
-        fixup: context_numbered(context),
-        side: Side::Neither,
-        below: 0,
+        precedence: fixup.precedence(table, count, 1),
+        fixup: fixup,
+        needs_group: false,
     }
 }
 
@@ -184,7 +184,7 @@ pub fn decide(context: u16, count: u16, table: &[u16], rows: &mut [u16], scratch
     if scratch.len() < sizes::SCRATCH_CELLS * nodes {
         return 12;
     }
-    walk_from(root_handed(context), table, count, 1, rows);
+    walk_from(root_handed(context, table, count), table, count, 1, rows);
     clear(scratch, sizes::SCRATCH_CELLS * nodes);
     0
 }

@@ -5,20 +5,22 @@ use mathlib.Core.List.{List, [], _∷_}
 use Prim.Native.Nat.{ℕ, _≤_, _<_}
 use native.Mathlib.Omega.{arith}
 use lib.Dec.{ltb}
+use borrow.Author.Tests.{le-ltb}
 use Rattle.laws.specs.Choice.{pick, lookup}
 use Rattle.laws.proofs.Choice.{true-not-false}
 use Rattle.tree.specs.Forms.{ExprBinary, Link}
 use Rattle.tree.specs.Trees.{Tree, node}
-use Rattle.tree.specs.Walks.{atRoot}
 use Rattle.precedence.specs.declared.Precedence.{Precedence}
 use Rattle.precedence.specs.declared.Precedence.the-variants as rank
-use Rattle.precedence.specs.Precedences.{rankOf, ofBinop}
+use Rattle.precedence.specs.declared.Lean.the-variants.{Right}
+use Rattle.precedence.specs.Precedences.{rankOf, below, binopBinding, ofBinop}
 use Rattle.fixup.specs.declared.context.FixupContext.{FixupContext}
 use Rattle.fixup.specs.Contexts.{NONE, withOperator, withDot, rightmost}
 use Rattle.fixup_scan.specs.Scans.{scanned}
+use Rattle.fixup_subexpression.specs.Subexpressions.{leftmostWithOperator, leftmostWithDot, rightmostOperand}
 use Rattle.expr.specs.declared.Handed.{Handed}
-use Rattle.expr.specs.Handed.{beforeOperator, beforeDot, atEnd, afterPrefix, neither}
-use Rattle.expr.specs.Expr.{canBeginExpr, canBeginGenerics, leftTest, rightTest, binaryLeft, binaryRight, callTest, firstLines, handsFirst, secondLines, handsSecond}
+use Rattle.expr.specs.Handed.{groupedBy, ungrouped, neither}
+use Rattle.expr.specs.Expr.{canBeginExpr, canBeginGenerics, leftNeedsGroup, rightNeedsGroup, binaryLeft, binaryRight, callNeedsGroup, firstLines, handsFirst, secondLines, handsSecond}
 use Rattle.row.specs.Rows.{outerPair}
 use Rattle.token_grammar.specs.Tokens.{Operator, number}
 use Rattle.token_grammar.specs.Tokens as token
@@ -32,7 +34,7 @@ use Rattle.token_plain.specs.Trees.{label, operatorLabel, treeOf}
 use Rattle.token_rows.proofs.Contexts.{Calm, calm-none, calm-operator, calm-dot, calm-rightmost}
 use Rattle.token_rows.proofs.Nodes.{Operating, assigning, operating, operated}
 use Rattle.token_rows.proofs.Operands.{Settled}
-use Rattle.token_rows.proofs.Tests.{operator-pair, dot-pair, end-pair, no-pair, generics-is, operator-settled, assign-test, testLeft, testRight, left-test, right-test, call-test}
+use Rattle.token_rows.proofs.Tests.{Groups, operator-pair, dot-pair, end-pair, no-pair, generics-is, operator-settled, assign-left, left-test, right-test, call-test}
 
 -- an operand that gets h has a pair where p says so, and the flag g stands over it
 pub record Operand (h : Handed) (a : Expr one) (p g : Bool) : Type 0 where
@@ -42,8 +44,8 @@ pub record Operand (h : Handed) (a : Expr one) (p g : Bool) : Type 0 where
   pub flag : h .fixup .«next_operator_can_begin_generics» ≡ g
 
 -- what is handed down with no owner's test: an item, an index, what stands in parentheses, and the root
-pub alone : (a : Expr one) → Operand (neither NONE) a false false
-unfolding neither
+pub alone : (a : Expr one) → Operand (neither NONE (treeOf a)) a false false
+unfolding neither ungrouped
 alone a = record { calm = calm-none; settled = λ e. true-not-false (sym e); pair = no-pair a; flag = refl }
 
 module _ (x : FixupContext) (c : Calm x) (s : Settled x) where
@@ -51,19 +53,19 @@ module _ (x : FixupContext) (c : Calm x) (s : Settled x) where
   g = x .«next_operator_can_begin_generics»
 
   -- an operand before an operator without the flag
-  before-other : (begins : Bool) (next : Precedence) (test : ℕ) (a : Expr one) (p : Bool) → 1 ≤ rankOf next → ltb (strength false a) test ≡ p
-      → Operand (beforeOperator x begins false next test) a p false
-  unfolding beforeOperator
-  before-other begins next test a p h e =
+  before-other : (begins : Bool) (next : Precedence) (group : Precedence → Bool) (a : Expr one) (p : Bool) → 1 ≤ rankOf next → Groups group false a p
+      → Operand (groupedBy (leftmostWithOperator x (treeOf a) begins false next) group) a p false
+  unfolding groupedBy
+  before-other begins next group a p h e =
       record {
         calm = calm-operator x c begins false next;
         settled = λ e. true-not-false (sym e);
-        pair = operator-pair x c a begins false next test h ∙ e;
+        pair = operator-pair x c a group p begins false next h e;
         flag = refl;
       }
 
-  before-binary : (o : Operator) → number o < 28 → (a : Expr one) → Operand (binaryLeft x (number o)) a (tooWeakBefore o a) (opensArguments o)
-  unfolding binaryLeft beforeOperator ofBinop
+  before-binary : (o : Operator) → number o < 28 → (a : Expr one) → Operand (binaryLeft x (treeOf a) (number o)) a (tooWeakBefore o a) (opensArguments o)
+  unfolding binaryLeft groupedBy ofBinop
   before-binary o h a =
       let begins = canBeginExpr (number o) in
       let generics = canBeginGenerics (number o) in
@@ -72,85 +74,93 @@ module _ (x : FixupContext) (c : Calm x) (s : Settled x) where
         calm = calm-operator x c begins generics next;
         settled = operator-settled x o h;
         pair =
-            operator-pair x c a begins generics next (testLeft o) (rw (binop-level o h) (operator-low o))
-            ∙ left-test o h generics a
+            operator-pair x c a (leftNeedsGroup (binopBinding (number o) .lean) next) _ begins generics next (rw (binop-level o h) (operator-low o)) (left-test o h generics a)
             ∙ ap (λ f. ltb (strength f a) (before (kind o))) (generics-is o h);
         flag = generics-is o h;
       }
 
-  before-dot : (a : Expr one) → Operand (beforeDot x 15) a (tooWeak (before postfixes) false a) false
-  unfolding beforeDot
-  before-dot a = record { calm = calm-dot x c; settled = λ e. true-not-false (sym e); pair = dot-pair x c a 15; flag = refl }
+  before-dot : (a : Expr one) → Operand (groupedBy (leftmostWithDot x (treeOf a)) (λ left. below left rank.Unambiguous)) a (tooWeak (before postfixes) false a) false
+  unfolding groupedBy
+  before-dot a =
+      record {
+        calm = calm-dot x c;
+        settled = λ e. true-not-false (sym e);
+        pair = dot-pair x c a (λ left. below left rank.Unambiguous) _ (λ p e. ap (λ n. ltb n 15) e);
+        flag = refl;
+      }
 
-  at-end : (previous : Precedence) (test : ℕ) (a : Expr one) → rankOf previous ≤ 14 → Operand (atEnd x false false previous test) a (ltb (strength g a) test) g
-  unfolding atEnd scanned
-  at-end previous test a h = record { calm = calm-rightmost x c false false previous; settled = s; pair = end-pair x c a previous test s h; flag = refl }
+  at-end : (previous : Precedence) (group : Precedence → Bool) (a : Expr one) (p : Bool) → rankOf previous ≤ 14 → Groups group g a p
+      → Operand (groupedBy (rightmostOperand x (treeOf a) previous) group) a p g
+  unfolding groupedBy scanned
+  at-end previous group a p h e = record { calm = calm-rightmost x c false false previous; settled = s; pair = end-pair x c a group p previous s h e; flag = refl }
+
+  after-prefix : (a : Expr one) → Operand (groupedBy (rightmostOperand x (treeOf a) rank.Prefix) (λ right. below right rank.Prefix)) a (tooWeak (after prefixes) g a) g
+  after-prefix a = at-end rank.Prefix (λ right. below right rank.Prefix) a _ (omega arith) (λ p e. ap (λ n. ltb n 14) e)
 
   -- ---- owner by owner
 
   pub prefix-first : (p : Prefix) (a : Expr one) → Operand (handsFirst x (treeOf (prefix p a))) a (tooWeak (after prefixes) g a) g
-  unfolding handsFirst firstLines atRoot lookup pick afterPrefix
-  prefix-first neg a = at-end rank.Prefix 14 a (omega arith)
-  prefix-first deref a = at-end rank.Prefix 14 a (omega arith)
-  prefix-first invert a = at-end rank.Prefix 14 a (omega arith)
-  prefix-first ref a = at-end rank.Prefix 14 a (omega arith)
-  prefix-first refMut a = at-end rank.Prefix 14 a (omega arith)
+  unfolding handsFirst firstLines lookup pick
+  prefix-first neg a = after-prefix a
+  prefix-first deref a = after-prefix a
+  prefix-first invert a = after-prefix a
+  prefix-first ref a = after-prefix a
+  prefix-first refMut a = after-prefix a
 
   pub binary-first : (o : Operator) (a b : Expr one) → Operand (handsFirst x (treeOf (binary o a b))) a (tooWeakBefore o a) (opensArguments o)
-  unfolding handsFirst firstLines atRoot lookup pick operatorLabel opensArguments kind leftTest
+  unfolding handsFirst firstLines lookup pick operatorLabel opensArguments kind
   binary-first o a b = go (operated o)
     where
       go : Operating o → Operand (handsFirst x (treeOf (binary o a b))) a (tooWeakBefore o a) (opensArguments o)
-      go (assigning e) = rw e (before-other false rank.Assign 3 a (tooWeakBefore token.Assign a) (omega arith) (assign-test false a))
+      go (assigning e) = rw e (before-other false rank.Assign (leftNeedsGroup Right rank.Assign) a (tooWeakBefore token.Assign a) (omega arith) (assign-left a))
       go (operating h e) = rw e (before-binary o h a)
 
   pub binary-second : (o : Operator) (a b : Expr one) → Operand (handsSecond x (treeOf (binary o a b))) b (tooWeakAfter o g b) g
-  unfolding handsSecond secondLines atRoot lookup pick operatorLabel binaryRight kind rightTest ofBinop
+  unfolding handsSecond secondLines lookup pick operatorLabel binaryRight rightNeedsGroup kind ofBinop
   binary-second o a b = go (operated o)
     where
       go : Operating o → Operand (handsSecond x (treeOf (binary o a b))) b (tooWeakAfter o g b) g
-      go (assigning e) = rw e (at-end rank.Assign 0 b (omega arith))
+      go (assigning e) = rw e (at-end rank.Assign (rightNeedsGroup Right rank.Assign) b (tooWeakAfter token.Assign g b) (omega arith) (λ p q. sym (le-ltb (strength g b) 0 (omega arith))))
       go (operating h e) =
           rw e
-          (subst (λ n. Operand (atEnd x false false (ofBinop (number o)) (testRight o)) b (ltb (strength g b) n) g) (right-test o h)
-          (at-end (ofBinop (number o)) (testRight o) b (rw (binop-level o h) (omega (arith, operator-high o)))))
+          (at-end (ofBinop (number o)) (rightNeedsGroup (binopBinding (number o) .lean) (ofBinop (number o))) b (tooWeakAfter o g b) (rw (binop-level o h) (omega (arith, operator-high o))) (right-test o h g b))
 
   pub cast-first : (a : Expr one) (t : Ty one) → Operand (handsFirst x (treeOf (cast a t))) a (tooWeak (before casts) false a) false
-  unfolding handsFirst firstLines atRoot lookup pick
-  cast-first a t = before-other false rank.Cast 13 a (tooWeak (before casts) false a) (omega arith) refl
+  unfolding handsFirst firstLines lookup pick
+  cast-first a t = before-other false rank.Cast (λ left. below left rank.Cast) a (tooWeak (before casts) false a) (omega arith) (λ p e. ap (λ n. ltb n 13) e)
 
   pub member-first : (m : Member) (a : Expr one) → Operand (handsFirst x (treeOf (member m a))) a (tooWeak (before postfixes) false a) false
-  unfolding handsFirst firstLines atRoot lookup pick
+  unfolding handsFirst firstLines lookup pick
   member-first byName a = before-dot a
   member-first byNumber a = before-dot a
   member-first awaited a = before-dot a
 
   pub try-first : (a : Expr one) → Operand (handsFirst x (treeOf (try a))) a (tooWeak (before postfixes) false a) false
-  unfolding handsFirst firstLines atRoot lookup pick
+  unfolding handsFirst firstLines lookup pick
   try-first a = before-dot a
 
   pub index-first : (a b : Expr one) → Operand (handsFirst x (treeOf (index a b))) a (tooWeak (before postfixes) false a) false
-  unfolding handsFirst firstLines atRoot lookup pick
-  index-first a b = before-other true rank.Unambiguous 15 a (tooWeak (before postfixes) false a) (omega arith) refl
+  unfolding handsFirst firstLines lookup pick
+  index-first a b = before-other true rank.Unambiguous (λ left. below left rank.Unambiguous) a (tooWeak (before postfixes) false a) (omega arith) (λ p e. ap (λ n. ltb n 15) e)
 
   pub call-first : (a : Expr one) (l : Expr list) → Operand (handsFirst x (treeOf (call a l))) a (tooWeakToCall a) false
-  unfolding handsFirst firstLines atRoot lookup pick
-  call-first a l = before-other true rank.Unambiguous (callTest (treeOf a)) a (tooWeakToCall a) (omega arith) (call-test a)
+  unfolding handsFirst firstLines lookup pick
+  call-first a l = before-other true rank.Unambiguous (callNeedsGroup (treeOf a)) a (tooWeakToCall a) (omega arith) (call-test a)
 
   pub method-first : (a : Expr one) (l : Expr list) → Operand (handsFirst x (treeOf (method a l))) a (tooWeak (before postfixes) false a) false
-  unfolding handsFirst firstLines atRoot lookup pick
+  unfolding handsFirst firstLines lookup pick
   method-first a l = before-dot a
 
 -- ---- owners that hand down NONE
 
-pub paren-first : (x : FixupContext) (a : Expr one) → handsFirst x (treeOf (paren a)) ≡ neither NONE
-unfolding handsFirst firstLines atRoot lookup pick
+pub paren-first : (x : FixupContext) (a : Expr one) → handsFirst x (treeOf (paren a)) ≡ neither NONE (treeOf a)
+unfolding handsFirst firstLines lookup pick
 paren-first x a = refl
 
-pub index-second : (x : FixupContext) (a b : Expr one) → handsSecond x (treeOf (index a b)) ≡ neither NONE
-unfolding handsSecond secondLines atRoot lookup pick
+pub index-second : (x : FixupContext) (a b : Expr one) → handsSecond x (treeOf (index a b)) ≡ neither NONE (treeOf b)
+unfolding handsSecond secondLines lookup pick
 index-second x a b = refl
 
-pub link-first : (x : FixupContext) (a b : Tree) → handsFirst x (node (label Link 0) a b) ≡ neither NONE
-unfolding handsFirst firstLines atRoot lookup pick
+pub link-first : (x : FixupContext) (a b : Tree) → handsFirst x (node (label Link 0) a b) ≡ neither NONE a
+unfolding handsFirst firstLines lookup pick
 link-first x a b = refl

@@ -342,7 +342,7 @@ drops s (moreArguments a l) = λ h.
           link-below h (treeOf a) (treeOf l) first p (RightParen ∷ end)
           ∙ but-first x _ _ _ (signs [] (Comma ∷ []) []) (link-signs l) (tokensBut p) (RightParen ∷ end)
           ∙ ap (λ k. tokensBut p k (treeOf a) (Comma ∷ tokensFor (handsSecond x t) (treeOf l) (RightParen ∷ end))) (link-first x (treeOf a) (treeOf l))
-          ∙ ap (λ r. tokensBut p (neither NONE) (treeOf a) (Comma ∷ r)) (is items l (handsSecond x t) end)
+          ∙ ap (λ r. tokensBut p (neither NONE (treeOf a)) (treeOf a) (Comma ∷ r)) (is items l (handsSecond x t) end)
           ∙ d .1 _,
     ))
     (λ p m.
@@ -352,11 +352,11 @@ drops s (moreArguments a l) = λ h.
           link-below h (treeOf a) (treeOf l) second p (RightParen ∷ end)
           ∙ but-second x _ _ _ (signs [] (Comma ∷ []) []) (link-signs l) (tokensBut p) (RightParen ∷ end)
           ∙ ap (λ k. tokensFor k (treeOf a) (Comma ∷ tokensBut p (handsSecond x t) (treeOf l) (RightParen ∷ end))) (link-first x (treeOf a) (treeOf l))
-          ∙ ap (λ r. tokensFor (neither NONE) (treeOf a) (Comma ∷ r)) (d .1 end)
+          ∙ ap (λ r. tokensFor (neither NONE (treeOf a)) (treeOf a) (Comma ∷ r)) (d .1 end)
           ∙ operand-is (alone a) (is one a) _,
     ))
 
 -- With a pair of the root's rows in context 0 left out.
-pub tokens-without : (e : Expr one) (p : List Branch) → markedAt (neither NONE) (treeOf e) p ≡ true
-    → (q : Pair e false) × ((rest : List Token) → tokensBut p (neither NONE) (treeOf e) rest ≡ write (withoutCommas (dropPair e false q)) rest)
+pub tokens-without : (e : Expr one) (p : List Branch) → markedAt (neither NONE (treeOf e)) (treeOf e) p ≡ true
+    → (q : Pair e false) × ((rest : List Token) → tokensBut p (neither NONE (treeOf e)) (treeOf e) rest ≡ write (withoutCommas (dropPair e false q)) rest)
 tokens-without e p m = operand-drops (alone e) (drops one e) p m

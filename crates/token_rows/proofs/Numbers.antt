@@ -112,24 +112,24 @@ module _ (count : ℕ) (cells : List ℕ) (ok : Accepted 0 count cells) (into : 
 
   -- the rows in context 0
   abbrev rows : List ℕ
-  rows = placed cells count 1 (rowsOf (rootHanded 0) root) into
+  rows = placed cells count 1 (rowsOf (rootHanded 0 root) root) into
 
-  pub pair-at : (p : List Branch) → isThere (treeBy root p) ≡ true → hasPair rows (numberAt cells count 1 p) ≡ markedAt (neither NONE) root p
+  pub pair-at : (p : List Branch) → isThere (treeBy root p) ≡ true → hasPair rows (numberAt cells count 1 p) ≡ markedAt (neither NONE root) root p
   unfolding hasPair markedAt marked contextNumbered contexts lookup pick
   pair-at p e =
       let k = count-bounds 0 count cells ok in
-      ap (λ r. isOneOf (1 ∷ 3 ∷ []) (r .pair)) (row-at cells count 0 ok 1 p (rootHanded 0) into (omega arith) (k .0) room (there-at cells count 1 p e))
+      ap (λ r. isOneOf (1 ∷ 3 ∷ []) (r .pair)) (row-at cells count 0 ok 1 p (rootHanded 0 root) into (omega arith) (k .0) room (there-at cells count 1 p e))
 
   -- The tokens of the table are those by what is handed down.
-  pub tokens-from : (rest : List Token) → tokensAt cells count (hasPair rows) 1 root rest ≡ tokensFor (neither NONE) root rest
-  tokens-from rest = tokens-agree cells count (hasPair rows) root 1 (neither NONE) pair-at rest
+  pub tokens-from : (rest : List Token) → tokensAt cells count (hasPair rows) 1 root rest ≡ tokensFor (neither NONE root) root rest
+  tokens-from rest = tokens-agree cells count (hasPair rows) root 1 (neither NONE root) pair-at rest
 
   -- So without the pair of the node at a path.
   pub tokens-leaving : (p : List Branch) → isThere (treeBy root p) ≡ true → (rest : List Token)
-      → tokensAt cells count (butAt (numberAt cells count 1 p) (hasPair rows)) 1 root rest ≡ tokensBut p (neither NONE) root rest
+      → tokensAt cells count (butAt (numberAt cells count 1 p) (hasPair rows)) 1 root rest ≡ tokensBut p (neither NONE root) root rest
   unfolding butAt
   tokens-leaving p e rest =
-      tokens-but cells count (butAt (numberAt cells count 1 p) (hasPair rows)) p root 1 (neither NONE) e
+      tokens-but cells count (butAt (numberAt cells count 1 p) (hasPair rows)) p root 1 (neither NONE root) e
       ((λ q there n. rw (ne-eqb (numberAt cells count 1 q) (numberAt cells count 1 p) (λ z. n (one q there z))) (pair-at q there)), rw (eq-eqb (numberAt cells count 1 p) (numberAt cells count 1 p) refl))
       rest
     where

@@ -2,7 +2,7 @@
 use mathlib.Core.Path.{_≡_, refl, sym, ap, ap₂, _∙_}
 use mathlib.Core.Bool.{Bool, true, false, not, _&&_, _||_}
 use mathlib.Core.List.{List, [], _∷_}
-use Prim.Native.Nat.{ℕ, suc, _≤_, _<_}
+use Prim.Native.Nat.{ℕ, suc, _≤_, _<_, compare·suc-suc}
 use native.Mathlib.Omega.{arith}
 use lib.Dec.{T, eqb, leb, ltb, eqb→eq}
 use native.Mathlib.Decide.{decLe}
@@ -13,15 +13,17 @@ use Rattle.tree.specs.Trees.{Tree}
 use Rattle.tree.specs.Walks.{atRoot}
 use Rattle.precedence.specs.declared.Precedence.{Precedence}
 use Rattle.precedence.specs.declared.Precedence.the-variants as rank
-use Rattle.precedence.specs.Precedences.{rankOf, same, operators, binopBinding, ofBinop}
+use Rattle.precedence.specs.declared.Lean.{Lean}
+use Rattle.precedence.specs.declared.Lean.the-variants.{Left, Right, Neither}
+use Rattle.precedence.specs.Precedences.{rankOf, atMost, operators, binopBinding, ofBinop}
 use Rattle.fixup.specs.declared.context.FixupContext.{FixupContext}
 use Rattle.fixup.specs.Contexts.{NONE, withOperator, withDot, rightmost}
 use Rattle.fixup.specs.Fixup.{parenthesize, effective}
 use Rattle.fixup_scan.specs.Scans.{scanned}
-use Rattle.expr.specs.declared.Handed.{Handed}
-use Rattle.expr.specs.Handed.{beforeOperator, beforeDot, atEnd, neither}
-use Rattle.expr.specs.Expr.{canBeginExpr, canBeginGenerics, leftTest, rightTest, callTest}
-use Rattle.row.specs.Rows.{precedenceIn, outerPair}
+use Rattle.fixup_subexpression.specs.Subexpressions.{operand, leftmostWithOperator, leftmostWithDot, rightmostOperand}
+use Rattle.expr.specs.Handed.{groupedBy, ungrouped, neither}
+use Rattle.expr.specs.Expr.{canBeginExpr, canBeginGenerics, leftNeedsGroup, rightNeedsGroup, callNeedsGroup}
+use Rattle.row.specs.Rows.{outerPair}
 use Rattle.token_grammar.specs.Tokens.{Operator, number}
 use Rattle.token_grammar.specs.Tokens as token
 use Rattle.token_grammar.specs.Levels.{kind, level, leansRight, before, postfixes}
@@ -39,39 +41,38 @@ use Rattle.token_rows.proofs.Operands.{left-is, Settled, right-is}
 
 -- ---- a test by the operand's strength
 
+-- what a test says of every precedence that has the operand's strength
+abbrev pub Groups : (Precedence → Bool) → Bool → Expr one → Bool → Type 0
+Groups group g e v = (p : Precedence) → rankOf p ≡ strength g e → group p ≡ v
+
 off : (b : Bool) → b || false ≡ b
 off true = refl
 off false = refl
 
 -- an operand whose precedence is the effective one, in a calm context
-by-strength : (h : Handed) (e : Expr one) → Calm (h .fixup) → precedenceIn h (treeOf e) ≡ effective (h .fixup) (treeOf e)
-    → outerPair h (treeOf e) ≡ ltb (strength (h .fixup .«next_operator_can_begin_generics») e) (h .below)
-unfolding outerPair
-by-strength h e c q =
-    rw (calm-parenthesize (h .fixup) (treeOf e) c)
-    (off (ltb (rankOf (precedenceIn h (treeOf e))) (h .below)) ∙ ap (λ n. ltb n (h .below)) (ap rankOf q ∙ effective-is (h .fixup) e))
+by-strength : (x : FixupContext) (q : Precedence) (group : Precedence → Bool) (e : Expr one) (v : Bool) → Calm x → q ≡ effective x (treeOf e) → Groups group (x .«next_operator_can_begin_generics») e v
+    → outerPair (groupedBy (operand q x) group) (treeOf e) ≡ v
+unfolding outerPair groupedBy
+by-strength x q group e v c k h = rw (calm-parenthesize x (treeOf e) c) (off (group q) ∙ h q (ap rankOf k ∙ effective-is x e))
 
-module _ (x : FixupContext) (c : Calm x) (e : Expr one) where
-  pub operator-pair : (begins generics : Bool) (next : Precedence) (test : ℕ) → 1 ≤ rankOf next
-      → outerPair (beforeOperator x begins generics next test) (treeOf e) ≡ ltb (strength generics e) test
-  unfolding beforeOperator
-  operator-pair begins generics next test h =
+module _ (x : FixupContext) (c : Calm x) (e : Expr one) (group : Precedence → Bool) (v : Bool) where
+  pub operator-pair : (begins generics : Bool) (next : Precedence) → 1 ≤ rankOf next → Groups group generics e v
+      → outerPair (groupedBy (leftmostWithOperator x (treeOf e) begins generics next) group) (treeOf e) ≡ v
+  operator-pair begins generics next h k =
       let y = calm-operator x c begins generics next in
-      by-strength (beforeOperator x begins generics next test) e y (left-is e (withOperator x begins generics next) y h)
+      by-strength (withOperator x begins generics next) _ group e v y (left-is e (withOperator x begins generics next) y h) k
 
-  pub dot-pair : (test : ℕ) → outerPair (beforeDot x test) (treeOf e) ≡ ltb (strength false e) test
-  unfolding beforeDot
-  dot-pair test = by-strength (beforeDot x test) e (calm-dot x c) (left-is e (withDot x) (calm-dot x c) (omega arith))
+  pub dot-pair : Groups group false e v → outerPair (groupedBy (leftmostWithDot x (treeOf e)) group) (treeOf e) ≡ v
+  dot-pair k = by-strength (withDot x) _ group e v (calm-dot x c) (left-is e (withDot x) (calm-dot x c) (omega arith)) k
 
-  pub end-pair : (previous : Precedence) (test : ℕ) → Settled x → rankOf previous ≤ 14
-      → outerPair (atEnd x false false previous test) (treeOf e) ≡ ltb (strength (x .«next_operator_can_begin_generics») e) test
-  unfolding atEnd scanned
-  end-pair previous test s h =
-      by-strength (atEnd x false false previous test) e (calm-rightmost x c false false previous) (right-is e (rightmost x false false previous) s h)
+  pub end-pair : (previous : Precedence) → Settled x → rankOf previous ≤ 14 → Groups group (x .«next_operator_can_begin_generics») e v
+      → outerPair (groupedBy (rightmostOperand x (treeOf e) previous) group) (treeOf e) ≡ v
+  unfolding scanned
+  end-pair previous s h k = by-strength (rightmost x false false previous) _ group e v (calm-rightmost x c false false previous) (right-is e (rightmost x false false previous) s h) k
 
-pub no-pair : (e : Expr one) → outerPair (neither NONE) (treeOf e) ≡ false
-unfolding neither
-no-pair e = by-strength (neither NONE) e calm-none refl ∙ le-ltb (strength false e) 0 (omega arith)
+pub no-pair : (e : Expr one) → outerPair (neither NONE (treeOf e)) (treeOf e) ≡ false
+unfolding outerPair neither ungrouped
+no-pair e = calm-parenthesize NONE (treeOf e) calm-none
 
 -- ---- operators
 
@@ -118,16 +119,45 @@ no-two s h = go (ltb s 2) refl
 pub assign-test : (g : Bool) (a : Expr one) → ltb (strength g a) 3 ≡ ltb (strength g a) 2
 assign-test g a = no-two (strength g a) (strength-no-range g a)
 
--- the tests on either side of a Binary operator, by its level and lean
-abbrev pub testLeft : Operator → ℕ
-testLeft o = leftTest (binopBinding (number o) .lean) (ofBinop (number o))
+-- the tests on either side of a Binary operator, by its level and lean: each is a comparison of ranks
+abbrev leftRank : Lean → Precedence → ℕ
+leftRank Left p = rankOf p
+leftRank Right p = 3
+leftRank Neither p = suc (rankOf p)
 
-abbrev pub testRight : Operator → ℕ
-testRight o = rightTest (binopBinding (number o) .lean) (ofBinop (number o))
+abbrev rightRank : Lean → Precedence → ℕ
+rightRank Left p = suc (rankOf p)
+rightRank Right p = 0
+rightRank Neither p = suc (rankOf p)
 
-pub left-test : (o : Operator) → number o < 28 → (g : Bool) (a : Expr one) → ltb (strength g a) (testLeft o) ≡ ltb (strength g a) (before (kind o))
-unfolding leftTest ofBinop operators lookup pick kind
-left-test o h g a = go (eqb (level (kind o)) 1) refl
+up-to : (p q : Precedence) → atMost p q ≡ ltb (rankOf p) (suc (rankOf q))
+up-to p q = rw compare·suc-suc
+
+left-rank : (n : Lean) (l p : Precedence) → leftNeedsGroup n l p ≡ ltb (rankOf p) (leftRank n l)
+unfolding leftNeedsGroup
+left-rank Left l p = refl
+left-rank Right l p = up-to p rank.Range
+left-rank Neither l p = up-to p l
+
+right-rank : (n : Lean) (l p : Precedence) → rightNeedsGroup n l p ≡ ltb (rankOf p) (rightRank n l)
+unfolding rightNeedsGroup
+right-rank Left l p = up-to p l
+right-rank Right l p = sym (le-ltb (rankOf p) 0 (omega arith))
+right-rank Neither l p = up-to p l
+
+abbrev testLeft : Operator → ℕ
+testLeft o = leftRank (binopBinding (number o) .lean) (ofBinop (number o))
+
+abbrev testRight : Operator → ℕ
+testRight o = rightRank (binopBinding (number o) .lean) (ofBinop (number o))
+
+pub assign-left : (a : Expr one) → Groups (leftNeedsGroup Right rank.Assign) false a (tooWeakBefore token.Assign a)
+unfolding kind opensArguments lookup pick
+assign-left a p e = left-rank Right rank.Assign p ∙ ap (λ n. ltb n 3) e ∙ assign-test false a
+
+pub left-test : (o : Operator) → number o < 28 → (g : Bool) (a : Expr one) → Groups (leftNeedsGroup (binopBinding (number o) .lean) (ofBinop (number o))) g a (ltb (strength g a) (before (kind o)))
+unfolding ofBinop operators lookup pick kind
+left-test o h g a p s = left-rank (binopBinding (number o) .lean) (ofBinop (number o)) p ∙ ap (λ n. ltb n (testLeft o)) s ∙ go (eqb (level (kind o)) 1) refl
   where
     go : (b : Bool) → eqb (level (kind o)) 1 ≡ b → ltb (strength g a) (testLeft o) ≡ ltb (strength g a) (before (kind o))
     go true e =
@@ -139,35 +169,37 @@ left-test o h g a = go (eqb (level (kind o)) 1) refl
         ap (ltb (strength g a))
         (equal-unless (eqb (level (kind o)) 1) (testLeft o) (before (kind o)) e (but-assign (λ q. eqb (level (kind q)) 1 || eqb (testLeft q) (before (kind q))) tt o h))
 
-pub right-test : (o : Operator) → number o < 28 → testRight o ≡ lowestRight (leansRight (kind o)) (level (kind o))
-unfolding rightTest ofBinop operators lookup pick kind
-right-test o h = eqb→eq (testRight o) (lowestRight (leansRight (kind o)) (level (kind o))) (but-assign (λ q. eqb (testRight q) (lowestRight (leansRight (kind q)) (level (kind q)))) tt o h)
+pub right-test : (o : Operator) → number o < 28 → (g : Bool) (b : Expr one) → Groups (rightNeedsGroup (binopBinding (number o) .lean) (ofBinop (number o))) g b (tooWeakAfter o g b)
+unfolding ofBinop operators lookup pick kind
+right-test o h g b p s =
+    right-rank (binopBinding (number o) .lean) (ofBinop (number o)) p
+    ∙ ap₂ ltb s (eqb→eq (testRight o) (lowestRight (leansRight (kind o)) (level (kind o))) (but-assign (λ q. eqb (testRight q) (lowestRight (leansRight (kind q)) (level (kind q)))) tt o h))
 
 -- ---- what is called: a Field by its member alone, anything else by its strength
 
 weak-call : (a : Expr one) → strength false a < 15 → ltb (strength false a) 15 ≡ tooWeakToCall a
 weak-call a h = rw (lt-ltb (strength false a) 15 h)
 
-pub call-test : (a : Expr one) → ltb (strength false a) (callTest (treeOf a)) ≡ tooWeakToCall a
-unfolding callTest atRoot lookup pick strength operatorLabel kind
-call-test (atom path) = refl
-call-test (atom literal) = refl
-call-test (paren a) = refl
-call-test (prefix neg a) = refl
-call-test (prefix deref a) = refl
-call-test (prefix invert a) = refl
-call-test (prefix ref a) = refl
-call-test (prefix refMut a) = refl
-call-test (binary o a b) = go (operated o)
+pub call-test : (a : Expr one) → Groups (callNeedsGroup (treeOf a)) false a (tooWeakToCall a)
+unfolding callNeedsGroup atRoot lookup pick strength operatorLabel kind
+call-test (atom path) p s = rw s
+call-test (atom literal) p s = rw s
+call-test (paren a) p s = rw s
+call-test (prefix neg a) p s = rw s
+call-test (prefix deref a) p s = rw s
+call-test (prefix invert a) p s = rw s
+call-test (prefix ref a) p s = rw s
+call-test (prefix refMut a) p s = rw s
+call-test (binary o a b) p s = go (operated o) s
   where
-    go : Operating o → ltb (strength false (binary o a b)) (callTest (treeOf (binary o a b))) ≡ tooWeakToCall (binary o a b)
-    go (assigning e) = rw e (weak-call (binary token.Assign a b) (omega arith))
-    go (operating h e) = rw e (weak-call (binary o a b) (omega (arith, operator-high o)))
-call-test (cast a t) = refl
-call-test (member byName a) = refl
-call-test (member byNumber a) = refl
-call-test (member awaited a) = refl
-call-test (try a) = refl
-call-test (index a b) = refl
-call-test (call a l) = refl
-call-test (method a l) = refl
+    go : Operating o → rankOf p ≡ strength false (binary o a b) → callNeedsGroup (treeOf (binary o a b)) p ≡ tooWeakToCall (binary o a b)
+    go (assigning e) s = rw e (lt-ltb (rankOf p) 15 (rw (s, e) (omega arith)))
+    go (operating h e) s = rw e (ap (λ n. ltb n 15) s ∙ weak-call (binary o a b) (omega (arith, operator-high o)))
+call-test (cast a t) p s = rw s
+call-test (member byName a) p s = refl
+call-test (member byNumber a) p s = refl
+call-test (member awaited a) p s = rw s
+call-test (try a) p s = rw s
+call-test (index a b) p s = rw s
+call-test (call a l) p s = rw s
+call-test (method a l) p s = rw s

@@ -15,8 +15,8 @@ use Rattle.precedence.specs.Precedences.{rankOf, ofBinop}
 use Rattle.fixup.specs.declared.context.FixupContext.{FixupContext}
 use Rattle.fixup.specs.Contexts.{NONE, withOperator, withDot, rightmost}
 use Rattle.expr.specs.declared.Handed.{Handed}
-use Rattle.expr.specs.Handed.{beforeOperator, beforeDot, atEnd, afterPrefix, neither}
-use Rattle.expr.specs.Expr.{canBeginExpr, canBeginGenerics, leftTest, rightTest, binaryLeft, binaryRight, callTest, firstLines, handsFirst, secondLines, handsSecond}
+use Rattle.expr.specs.Handed.{neither}
+use Rattle.expr.specs.Expr.{handsFirst, handsSecond}
 use Rattle.row.specs.Rows.{isExpression, outerPair, innerPair, pairBy, expressionRow, rowOf, ownContext}
 use Rattle.token_grammar.specs.Tokens.{Operator, number, Token, operator, Lt, Gt, As, Name, Dot, LeftParen, RightParen, LeftBracket, RightBracket, Comma, Question, operatorOf}
 use Rattle.token_grammar.specs.Tokens as token
@@ -238,9 +238,9 @@ is s (moreArguments a l) = λ h end.
     let k = handsSecond x (treeOf (moreArguments a l)) in
     tokens-other h _ _ _ _ refl (signs [] (Comma ∷ []) []) (link-signs l)
     ∙ ap (λ k′. tokensFor k′ (treeOf a) (Comma ∷ tokensFor k (treeOf l) (RightParen ∷ end))) (link-first x (treeOf a) (treeOf l))
-    ∙ ap (λ r. tokensFor (neither NONE) (treeOf a) (Comma ∷ r)) (is items l k end)
+    ∙ ap (λ r. tokensFor (neither NONE (treeOf a)) (treeOf a) (Comma ∷ r)) (is items l k end)
     ∙ operand-is (alone a) (is one a) _
 
 -- What is written for the root in context 0: the pairs that it needs, and no comma after a last item.
-pub tokens-are : (e : Expr one) (rest : List Token) → tokensFor (neither NONE) (treeOf e) rest ≡ write (withoutCommas (addPairs e false)) rest
+pub tokens-are : (e : Expr one) (rest : List Token) → tokensFor (neither NONE (treeOf e)) (treeOf e) rest ≡ write (withoutCommas (addPairs e false)) rest
 tokens-are e rest = operand-is (alone e) (is one e) rest

@@ -86,11 +86,11 @@ module _ (count : ℕ) (cells : List ℕ) (ok : Accepted 0 count cells) (plain :
   room = rw (length-replicate {A = ℕ} (rowCells * count) 0) (omega arith)
 
   abbrev rows : List ℕ
-  rows = placed cells count 1 (rowsOf (rootHanded 0) root) blank
+  rows = placed cells count 1 (rowsOf (rootHanded 0 root) root) blank
 
   rows-are : rowsFor count cells ≡ rows
   unfolding rowsFor
-  rows-are = sym (done 0 count cells blank (replicate (scratchCells * count) 0) ok room (rw (length-replicate {A = ℕ} (scratchCells * count) 0) (omega arith)) (rootHanded 0) refl rows refl _ refl .1 .0)
+  rows-are = sym (done 0 count cells blank (replicate (scratchCells * count) 0) ok room (rw (length-replicate {A = ℕ} (scratchCells * count) 0) (omega arith)) (rootHanded 0 root) refl rows refl _ refl .1 .0)
 
   abbrev tree : Expr one
   tree = from-table 0 count cells ok plain .0
@@ -103,7 +103,7 @@ module _ (count : ℕ) (cells : List ℕ) (ok : Accepted 0 count cells) (plain :
   written-is =
       ap (λ r. tokensAt cells count (hasPair r) 1 root []) rows-are
       ∙ tokens-from count cells ok blank room []
-      ∙ ap (λ t. tokensFor (neither noContext) t []) (sym tree-is)
+      ∙ ap (λ t. tokensFor (neither noContext t) t []) (sym tree-is)
       ∙ tokens-are tree []
 
   -- ---- readings
@@ -160,14 +160,14 @@ module _ (count : ℕ) (cells : List ℕ) (ok : Accepted 0 count cells) (plain :
         (removed cells count (hasPair (rowsFor count cells)) j (added .2) path root 1 there leads
         (λ p e z. one-path cells count 0 ok 1 p path (omega arith) (bounds .0) (there-at cells count 1 p e) (z ∙ sym leads)) [])
 
-    on-row : markedAt (neither noContext) (treeOf tree) path ≡ true
+    on-row : markedAt (neither noContext (treeOf tree)) (treeOf tree) path ≡ true
     on-row =
-        ap (λ t. markedAt (neither noContext) t path) tree-is
+        ap (λ t. markedAt (neither noContext t) t path) tree-is
         ∙ sym (pair-at count cells ok blank room path there)
         ∙ ap₂ hasPair (sym rows-are) leads
         ∙ added .2
 
-    without : (q : Pair tree false) × ((rest : List Token) → tokensBut path (neither noContext) (treeOf tree) rest ≡ write (withoutCommas (dropPair tree false q)) rest)
+    without : (q : Pair tree false) × ((rest : List Token) → tokensBut path (neither noContext (treeOf tree)) (treeOf tree) rest ≡ write (withoutCommas (dropPair tree false q)) rest)
     without = tokens-without tree path on-row
 
     but-is : writtenBut j count cells 1 ≡ write (withoutCommas (dropPair tree false (without .0))) []
@@ -175,7 +175,7 @@ module _ (count : ℕ) (cells : List ℕ) (ok : Accepted 0 count cells) (plain :
         ap (λ r. tokensAt cells count (butAt j (hasPair r)) 1 root []) rows-are
         ∙ ap (λ n. tokensAt cells count (butAt n (hasPair rows)) 1 root []) (sym leads)
         ∙ tokens-leaving count cells ok blank room path there []
-        ∙ ap (λ t. tokensBut path (neither noContext) t []) (sym tree-is)
+        ∙ ap (λ t. tokensBut path (neither noContext t) t []) (sym tree-is)
         ∙ without .1 []
 
     needed : Reads (codesOf (writtenBut j count cells 1)) (meant count cells) → ⊥

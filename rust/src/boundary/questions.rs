@@ -3,7 +3,6 @@
 //! Questions have the numbers of `crates/answers_questions/specs` and `crates/answers_cells/specs`.
 
 use super::library;
-use model::forms::Side;
 
 /// A context: previous operator, next operator and flags, as in a row.
 pub type Context = [u16; 3];
@@ -141,11 +140,10 @@ pub fn context(maker: Maker, from: Context, booleans: [bool; 2], precedence: u16
 /// What an owner hands to an operand.
 #[derive(Copy, Clone, PartialEq, Eq, Debug)]
 pub struct Handed {
+    pub precedence: u16,
     pub context: Context,
-    /// Which function gives the operand's precedence.
-    pub side: Side,
-    /// The owner groups the operand if its precedence is smaller than this.
-    pub below: u16,
+    /// The owner groups the operand.
+    pub needs_group: bool,
 }
 
 /// What a node in its own context hands to its first operand (0) or its second (1).
@@ -154,9 +152,8 @@ pub fn handed(operand: u16, own: Context, owner: Place) -> Handed {
     let Place { table, count, node } = owner;
     let (pointer, length) = (table.as_ptr(), table.len());
     // SAFETY: as above.
-    let [previous, next, flags, side, below] = [0, 1, 2, 3, 4].map(|cell| unsafe {
+    let [previous, next, flags, precedence, group] = [0, 1, 2, 3, 4].map(|cell| unsafe {
         library::tezhukor_handed(operand, cell, previous, next, flags, pointer, length, count, node)
     });
-    let side = [Side::Left, Side::Right].get(usize::from(side)).copied().unwrap_or(Side::Neither);
-    Handed { context: [previous, next, flags], side, below }
+    Handed { precedence, context: [previous, next, flags], needs_group: group == 1 }
 }

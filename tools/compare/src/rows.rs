@@ -7,7 +7,7 @@
 //! crate's is shown by `decided`: there tezhukor_decide puts the functions
 //! together, in the four contexts that a header can give.
 
-use model::forms::{Class, Side, ASSIGN, BINARY, CAST, RANGE};
+use model::forms::{Class, ASSIGN, BINARY, CAST, RANGE};
 use model::{table, NodeTable};
 use oracle::direct::Context;
 use oracle::Row;
@@ -16,7 +16,9 @@ use tezhukor::boundary::questions::{self, Handed, InContext, Maker, Place};
 /// The rows of an accepted tree, from node 1 on; zeros for types and links.
 pub fn rows(root: Context, tree: &NodeTable) -> Vec<Row> {
     let none = questions::context(Maker::None, [0; 3], [false; 2], 0);
-    let at_root = Handed { context: root, side: Side::Neither, below: 0 };
+    let place = Place { table: &tree.cells, count: tree.count, node: 1 };
+    let precedence = questions::answer_in(InContext::Precedence, root, place);
+    let at_root = Handed { precedence, context: root, needs_group: false };
     let mut handed = vec![at_root; usize::from(tree.count)];
     // An owner has a smaller number than its operands, so it comes first.
     let row = |node| {
@@ -39,15 +41,9 @@ pub fn rows(root: Context, tree: &NodeTable) -> Vec<Row> {
 
 /// The row of an expression.
 fn row(handed: Handed, place: Place) -> Row {
-    let Handed { context, side, below } = handed;
-    let answer = |question| questions::answer_in(question, context, place);
-    let precedence = answer(match side {
-        Side::Left => InContext::LeftPrecedence,
-        Side::Right => InContext::RightPrecedence,
-        Side::Neither => InContext::Precedence,
-    });
-    let parenthesize = answer(InContext::Parenthesize) == 1;
-    let outer = precedence < below || parenthesize;
+    let Handed { precedence, context, needs_group } = handed;
+    let parenthesize = questions::answer_in(InContext::Parenthesize, context, place) == 1;
+    let outer = needs_group || parenthesize;
     let node = table::node(place.table, place.node);
     let inner = matches!(node.form, ASSIGN | BINARY | CAST | RANGE) && node.attributes != 0;
     let pair = u16::from(outer) + 2 * u16::from(inner);

@@ -1,4 +1,5 @@
 -- `row::decision_of` meets its contract. Assumes nothing.
+use mathlib.Core.Path.{_∙_}
 use Rattle.laws.proofs.Calls.{free}
 use Rattle.tree.specs.Trees.{treeAt}
 use Rattle.row.proofs.Decisions.{decision-by}
@@ -8,7 +9,7 @@ use Rattle.row.proofs.decision_of.Tie as tie
 returns : tie.Need-returns
 returns c =
     let a = c .before .before .before .before .before .before .before .args in
-    decision-by (a .handed) (treeAt (a .table .now) (a .count) (a .node)) _ (c .before .before .before .before .precedence-by .ensures) _ (c .before .before .before .has-outer-pair .ensures) _ (c .before .before .has-inner-pair .ensures) _ (c .before .pair .ensures) _ (c .row-of .ensures)
+    decision-by (a .handed) (treeAt (a .table .now) (a .count) (a .node)) _ (c .before .before .before .either .ensures ∙ rw (c .before .before .before .before .parenthesize .ensures)) _ (c .before .before .has-inner-pair .ensures) _ (c .before .pair .ensures) _ (c .row-of .ensures)
 
 pub decision-of-spec : {M : Type 1} → statement M
 decision-of-spec = tie.close (tie.spec free free free free free returns)

@@ -83,7 +83,7 @@ walk-alone-returns t c =
     let a = s .args in
     let l = c .before .before .loop in
     let k = c .if1 .taken in
-    sym (placed-none (a .table .now) (a .count) (l .at) alone _ (tree-past _ _ _ (omega arith))) ∙ l .inv .2
+    sym (placed-none (a .table .now) (a .count) (l .at) (alone (treeAt (a .table .now) (a .count) (l .at))) _ (tree-past _ _ _ (omega arith))) ∙ l .inv .2
 
 walk-alone-returns-2 : (t : ℕ) → walk-alone-lts.Need-returns-2 (walk-alone-claims t) (given-at 2 walk-alone-kinds.ps μ-walk-alone walk-alone.Pre t) walk-alone.Post walk-alone-Inv-loop walk-alone-μ-loop
 walk-alone-returns-2 t c =
@@ -93,7 +93,7 @@ walk-alone-returns-2 t c =
     let j = c .before .before .before .before .before .before .before .before .before .before .before .before .before .before .loop-test in
     let k = c .before .before .before .before .before .before .before .before .before .before .before .before .before .if1 .left in
     let e = is-expression (a .table .now) (a .count) (l .at) (c .before .before .before .before .before .before .before .before .before .before .before .before .form-at .ensures) (c .before .before .before .before .before .before .before .before .before .before .before .class-of .ensures) (c .before .before .before .before .before .before .before .before .before .before .if2 .taken) in
-    placed-by (a .table .now) (a .count) (l .at) alone _ (omega arith) (omega arith) _ (c .before .before .before .before .none .ensures ∙ own-alone _ e) _ (c .before .before .before .before .before .before .before .before .lone-row .ensures ∙ row-expression alone _ e) _ (c .before .before .before .before .before .before .before .store .ensures) _ (c .before .before .walk-operands .ensures)
+    placed-by (a .table .now) (a .count) (l .at) (alone (treeAt (a .table .now) (a .count) (l .at))) _ (omega arith) (omega arith) _ (c .before .before .before .before .none .ensures ∙ own-alone _ e) _ (c .before .before .before .before .before .before .before .before .lone-row .ensures ∙ row-expression (alone (treeAt (a .table .now) (a .count) (l .at))) _ e) _ (c .before .before .before .before .before .before .before .store .ensures) _ (c .before .before .walk-operands .ensures)
     ∙ l .inv .2
 
 walk-alone-walk-alone-requires : (t : ℕ) → walk-alone-lts.Need-walk-alone-requires (walk-alone-claims t) (given-at 2 walk-alone-kinds.ps μ-walk-alone walk-alone.Pre t) walk-alone.Post walk-alone-Inv-loop walk-alone-μ-loop
@@ -214,7 +214,7 @@ pub +walk-alone+walk-first+walk-from+walk-operands-spec : {M : Type 1} → state
     free (walk-alone-walk-alone-requires t) free
     (λ c. let a = c .before .before .before .before .before .before .before .before .before .before .before .before .before .before .before .before .before .before .before .args in let l = c .before .before .before .before .before .before .before .before .before .before .before .before .before .before .before .before .loop in let w = c .before .before .before .before .before .before .before .before .before .before .before .before .before .before .before .before .before .before .before .fits in rw (c .operand-number2 .ensures) (left-falls (a .count) (l .at) (cellAt (a .table .now) (l .at) secondColumn) (omega (arith, c .before .before .before .before .before .before .before .before .before .before .before .before .before .before .before .loop-test)) (omega (arith, c .before .before .before .before .before .before .before .before .before .before .before .before .before .before .if1 .left)) (omega arith)))
     (walk-alone-loop-again t) (λ c. c .before .loop .inv .1)
-    (λ c. let a = c .before .before .before .before .args in sym (placed-absent (a .table .now) (a .count) (c .before .loop .at) alone _ (omega (arith, c .loop-test))) ∙ c .before .loop .inv .2))
+    (λ c. let a = c .before .before .before .before .args in sym (placed-absent (a .table .now) (a .count) (c .before .loop .at) (alone (treeAt (a .table .now) (a .count) (c .before .loop .at))) _ (omega (arith, c .loop-test))) ∙ c .before .loop .inv .2))
     (λ t. walk-first-lts.spec (walk-first-claims t) (given-at 2 walk-first-kinds.ps μ-walk-first walk-first.Pre t)
     walk-first.Post free (λ c. search needs) (λ c. search needs) (walk-first-returns t) free
     (walk-first-walk-from-requires t) (λ c. search needs) (walk-first-returns-2 t))

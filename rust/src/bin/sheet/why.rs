@@ -5,7 +5,7 @@ use crate::show::{self, Shown};
 use crate::words;
 use tezhukor::boundary::questions::{self, Context, Handed, InContext, Place};
 use tezhukor::forms::{Side, *};
-use tezhukor::{Binding, Node, Row, Tree};
+use tezhukor::{Binding, Lean, Node, Row, Tree};
 
 /// The flag of a context that says: the next operator can begin generic arguments.
 const GENERICS: u16 = 1 << 9;
@@ -121,19 +121,45 @@ impl Operand<'_> {
         place_of(self.tree, self.number)
     }
 
-    /// Whether the owner groups an operand of such a precedence.
-    fn is_grouped(&self, precedence: u16) -> bool {
-        self.handed.is_some_and(|handed| precedence < handed.below)
+    /// Whether the owner groups it.
+    fn is_grouped(&self) -> bool {
+        self.handed.is_some_and(|handed| handed.needs_group)
+    }
+
+    fn owner_node(&self) -> Node {
+        self.owner.and_then(|(owner, _)| self.tree.node(owner)).unwrap_or_default()
+    }
+
+    /// The side of the owner on which it stands.
+    fn side(&self) -> Side {
+        self.owner.map_or(Side::Neither, |(_, place)| side(self.owner_node().form, place.into()))
     }
 
     /// The precedence in another context, by the function for the operand's side.
     fn precedence(&self, context: Context) -> u16 {
-        let question = match self.handed.map(|handed| handed.side) {
-            Some(Side::Left) => InContext::LeftPrecedence,
-            Some(Side::Right) => InContext::RightPrecedence,
-            _ => InContext::Precedence,
+        let question = match self.side() {
+            Side::Left => InContext::LeftPrecedence,
+            Side::Right => InContext::RightPrecedence,
+            Side::Neither => InContext::Precedence,
         };
         questions::answer_in(question, context, self.place())
+    }
+
+    /// The owner groups the operand if its precedence is smaller than this. None where
+    /// the owner does not look at it: a Break, a Call of a Field, no owner's test.
+    fn bound(&self) -> Option<u16> {
+        let owner = self.owner_node().form;
+        let level = self.owners_precedence()?;
+        if owner == BREAK || (owner, self.node.form) == (CALL, FIELD) {
+            return None;
+        }
+        let lean = self.owners_operator().and_then(Binding::of).map(|binding| binding.lean);
+        Some(match (lean, self.side()) {
+            (Some(Lean::Right), Side::Left) => Binding::of(Binding::RANGE)?.level + 1,
+            (Some(Lean::Right), _) => 0,
+            (Some(Lean::Neither), _) | (Some(Lean::Left), Side::Right) => level + 1,
+            _ => level,
+        })
     }
 
     fn asks(&self, context: Context) -> bool {
@@ -145,7 +171,7 @@ impl Operand<'_> {
         let [previous, next, flags] = context(self.row);
         let without = [previous, next, flags & !GENERICS];
         flags & GENERICS != 0
-            && !self.is_grouped(self.precedence(without))
+            && self.bound().is_some_and(|bound| self.precedence(without) >= bound)
             && !self.asks(context(self.row))
     }
 
@@ -160,7 +186,7 @@ impl Operand<'_> {
 
     /// The owner's precedence: that of the operator on the operand's inner side.
     fn owners_precedence(&self) -> Option<u16> {
-        match self.handed?.side {
+        match self.side() {
             Side::Left => Some(self.row.next_operator),
             Side::Right => Some(self.row.previous_operator),
             Side::Neither => None,
@@ -169,22 +195,23 @@ impl Operand<'_> {
 
     /// The owner's test in words.
     fn test(&self) -> String {
-        let below = self.handed.map_or(0, |handed| handed.below);
-        match (below, self.owners_precedence()) {
-            (16.., _) if self.node.form == FIELD => {
+        match (self.bound(), self.owners_precedence()) {
+            (None, _) if self.owner_node().form == CALL => {
                 "a named field that is called, which would be a method call".to_string()
             }
-            (16.., _) => "it begins with a label, which the break would take".to_string(),
-            (below, Some(owner)) if below == owner => {
+            (None, _) => "it begins with a label, which the break would take".to_string(),
+            (Some(bound), Some(owner)) if bound == owner => {
                 format!("it groups what is below {}", words::precedence(owner))
             }
-            (below, _) => format!("it groups what is not above {}", words::precedence(below - 1)),
+            (Some(bound), _) => {
+                format!("it groups what is not above {}", words::precedence(bound - 1))
+            }
         }
     }
 
     /// Who asks for the pair.
     fn reason(&self) -> String {
-        if !self.is_grouped(self.row.precedence) {
+        if !self.is_grouped() {
             return format!("parenthesize asks for it: {}", self.part());
         }
         let only = match self.is_for_generics() {
@@ -196,7 +223,7 @@ impl Operand<'_> {
 
     /// The number of the owner's operator, where it has one between its operands.
     fn owners_operator(&self) -> Option<u16> {
-        let owner = self.tree.node(self.owner?.0)?;
+        let owner = self.owner_node();
         match owner.form {
             BINARY => Some(owner.detail),
             ASSIGN => Some(Binding::ASSIGN),
@@ -220,14 +247,14 @@ impl Operand<'_> {
 
     /// Which operand of which owner.
     fn standing(&self) -> String {
-        let Some((_, place)) = self.owner else {
+        if self.owner.is_none() {
             return "the root".to_string();
-        };
+        }
         let owner = self.tree.node(self.named_owner).unwrap_or_default();
-        let operand = match (self.handed.map(|handed| handed.side), place) {
-            (Some(Side::Left), _) => "left operand",
-            (Some(Side::Right), _) => "right operand",
-            _ => "operand",
+        let operand = match self.side() {
+            Side::Left => "left operand",
+            Side::Right => "right operand",
+            Side::Neither => "operand",
         };
         format!("{operand} of node {}, {}", self.named_owner, words::form(owner))
     }
@@ -270,7 +297,8 @@ mod tests {
     use tezhukor::sizes::ROW_CELLS;
 
     /// Each recorded tree: a pair is there just where the owner's test or a part of
-    /// parenthesize asks for it, and each that is there has its reason.
+    /// parenthesize asks for it, and each that is there has its reason; an owner that
+    /// looks at the precedence groups just what is below its bound.
     #[test]
     fn reasons_are_the_rows() {
         let (mut pairs, mut others) = (0, 0);
@@ -283,7 +311,11 @@ mod tests {
                 let operand = Operand::new(&tree, &rows, &owners, number);
                 let handed = operand.handed.map_or(context(operand.row), |handed| handed.context);
                 assert_eq!(handed, context(operand.row));
-                let is_grouped = operand.is_grouped(operand.row.precedence);
+                let precedence = operand.handed.map_or(operand.row.precedence, |h| h.precedence);
+                assert_eq!(precedence, operand.row.precedence);
+                let is_grouped = operand.is_grouped();
+                let is_below = operand.bound().map(|bound| precedence < bound);
+                assert!(is_below.is_none_or(|is_below| is_below == is_grouped));
                 let is_asked = operand.asks(context(operand.row));
                 assert_eq!(operand.row.has_outer_pair(), is_grouped || is_asked);
                 assert_eq!(is_asked, operand.part() != "no part");
