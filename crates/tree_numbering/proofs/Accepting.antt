@@ -1,25 +1,20 @@
 -- The answers of `accepted::number`, and what they leave in the lent table. Assumes nothing.
 use mathlib.Core.Path.{_≡_, sym, _∙_}
 use mathlib.Core.List.{List, [], _∷_}
-use Prim.Native.Nat.{ℕ, _+_, _*_, _≤_, _<_}
+use Prim.Native.Nat.{ℕ, _*_, _≤_, _<_}
 use native.Mathlib.Omega.{arith}
 use native.Mathlib.Decide.{ℕ-discrete}
 use lib.Dec.{ltb}
 use lib.ListN.{length}
-use lib.Seq.{sets}
 use borrow.Author.Tests.{eq-eqb, ne-eqb, lt-ltb, le-ltb}
-use Rattle.tree.specs.Sizes.{nodeCells, mostNodes}
+use Rattle.tree.specs.Sizes.{nodeCells}
 use Rattle.laws.specs.Lists.{over}
 use Rattle.laws.proofs.Choice.{pick-true, pick-false}
-use Rattle.laws.proofs.Lists.{sets-over}
 use Rattle.tree.specs.Trees.{treeAt}
 use Rattle.tree_rules.specs.Refusals.{refusal, refuse, firstOf, Accepted}
 use Rattle.tree_rules.proofs.First.{stop, skip, no-more}
-use Rattle.tree_rules.proofs.Accepted.{count-bounds}
-use Rattle.tree_numbering.specs.Numbered.{size, cellsFrom, numbered}
+use Rattle.tree_numbering.specs.Numbered.{numbered}
 use Rattle.tree_numbering.specs.Accepting.{numberingRefusal12, numberingRefusal, numberedAfter}
-use Rattle.tree_numbering.proofs.Holds.{length-numbered}
-use Rattle.tree_numbering.proofs.Sizes.{size-accepted}
 
 module _ (context count : ℕ) (cells out : List ℕ) where
   -- what the two clauses of the contract say of an answer and of the lent table afterwards
@@ -42,20 +37,11 @@ module _ (context count : ℕ) (cells out : List ℕ) where
     pub short : length out < nodeCells * count → Numbers 12 out
     short h = kept 12 (only-12 ∙ stop _ _ (lt-ltb _ _ h)) (λ z. omega arith)
 
-    -- room for the tree, which has as many nodes as the table
-    pub has-room : nodeCells * count ≤ length out → (0 + size (treeAt cells count 1) ≤ mostNodes) × (nodeCells * (0 + size (treeAt cells count 1)) ≤ length out)
-    has-room h =
-        let s = size-accepted context count cells ok in
-        let k = count-bounds context count cells ok in
-        (omega arith, omega arith)
-
-    pub stored : nodeCells * count ≤ length out → (after : List ℕ) → after ≡ sets out (nodeCells * 0) (cellsFrom 1 (treeAt cells count 1)) → Numbers 0 after
-    unfolding numberedAfter numbered
+    pub stored : nodeCells * count ≤ length out → (after : List ℕ) → after ≡ over (numbered (treeAt cells count 1)) out → Numbers 0 after
+    unfolding numberedAfter
     stored h after e =
-        let s = size-accepted context count cells ok in
-        let l = length-numbered (treeAt cells count 1) in
         let z = only-12 ∙ skip _ _ (le-ltb (length out) (nodeCells * count) h) ∙ no-more in
-        (sym z, e ∙ sets-over (numbered (treeAt cells count 1)) out (omega arith) ∙ sym (pick-true _ _ (eq-eqb _ 0 z)))
+        (sym z, e ∙ sym (pick-true _ _ (eq-eqb _ 0 z)))
 
   -- ---- for callers
 

@@ -46,6 +46,27 @@ module _ (cells : List ℕ) where
       let s : nodeCells * n ≡ nodeCells * j + nodeCells * m = omega arith in
       rw (s, ← drop-drop (nodeCells * m) (nodeCells * j) cells, e) (drop-at before after (nodeCells * m) l)
 
+  -- the cells of a tree from node j + 1 on
+  abbrev pub Holds : ℕ → Tree → List ℕ → Type 0
+  Holds j t rest = drop (nodeCells * j) cells ≡ cellsFrom (suc j) t ++ rest
+
+  -- a node's five cells, and where those of its operands begin
+  pub record Parts (j : ℕ) (l : Label) (a b : Tree) (rest : List ℕ) : Type 0 where
+    pub after : List ℕ
+    pub own : drop (nodeCells * j) cells ≡ l .form ∷ l .attributes ∷ l .detail ∷ numberOf a (suc (suc j)) ∷ numberOf b (suc (suc j) + size a) ∷ after
+    pub one : Holds (suc j) a (cellsFrom (suc (suc j + size a)) b ++ rest)
+    pub two : Holds (suc j + size a) b rest
+
+  pub parts : (j : ℕ) (l : Label) (a b : Tree) (rest : List ℕ) → Holds j (node l a b) rest → Parts j l a b rest
+  unfolding cellsFrom
+  parts j l a b rest e =
+      let own = e ∙ ap (λ (xs : List ℕ). l .form ∷ l .attributes ∷ l .detail ∷ numberOf a (suc (suc j)) ∷ numberOf b (suc (suc j) + size a) ∷ xs) (append-assoc (cellsFrom (suc (suc j)) a) (cellsFrom (suc (suc j) + size a) b) rest) in
+      let p = further j 1 (suc j) (l .form ∷ l .attributes ∷ l .detail ∷ numberOf a (suc (suc j)) ∷ numberOf b (suc (suc j) + size a) ∷ []) _ (omega arith) refl own in
+      let s : suc (suc j) + size a ≡ suc (suc j + size a) = omega arith in
+      let p' = rw s at p in
+      let q = further (suc j) (size a) (suc j + size a) (cellsFrom (suc (suc j)) a) (cellsFrom (suc (suc j + size a)) b ++ rest) refl (length-cells (suc (suc j)) a) p' in
+      record { after = _; own = own; one = p'; two = q }
+
   held-node : (l : Label) (a b : Tree) (count j x y : ℕ) (after : List ℕ) → j < count → drop (nodeCells * j) cells ≡ l .form ∷ l .attributes ∷ l .detail ∷ x ∷ y ∷ after
       → operandOf count (suc j) x ≡ x → operandOf count (suc j) y ≡ y → treeAt cells count x ≡ a → treeAt cells count y ≡ b
       → treeAt cells count (suc j) ≡ node l a b
@@ -54,20 +75,17 @@ module _ (cells : List ℕ) where
       unfolds cells count (suc j) (omega arith) (omega arith)
       ∙ rw (cell-held j 0 _ e, cell-held j 1 _ e, cell-held j 2 _ e, cell-held j 3 _ e, cell-held j 4 _ e, p, q, f, g)
 
-  pub held : (t : Tree) (count j : ℕ) (rest : List ℕ) → j + size t ≤ count → drop (nodeCells * j) cells ≡ cellsFrom (suc j) t ++ rest
-      → treeAt cells count (numberOf t (suc j)) ≡ t
-  unfolding size numberOf cellsFrom
+  pub held : (t : Tree) (count j : ℕ) (rest : List ℕ) → j + size t ≤ count → Holds j t rest → treeAt cells count (numberOf t (suc j)) ≡ t
+  unfolding size numberOf
   held none count j rest h e = tree-zero cells count
   held (node l a b) count j rest h e =
-      let own = e ∙ ap (λ (xs : List ℕ). l .form ∷ l .attributes ∷ l .detail ∷ numberOf a (suc (suc j)) ∷ numberOf b (suc (suc j) + size a) ∷ xs) (append-assoc (cellsFrom (suc (suc j)) a) (cellsFrom (suc (suc j) + size a) b) rest) in
-      let p = further j 1 (suc j) (l .form ∷ l .attributes ∷ l .detail ∷ numberOf a (suc (suc j)) ∷ numberOf b (suc (suc j) + size a) ∷ []) _ (omega arith) refl own in
+      let r = parts j l a b rest e in
       let s : suc (suc j) + size a ≡ suc (suc j + size a) = omega arith in
-      let q = further (suc j) (size a) (suc j + size a) (cellsFrom (suc (suc j)) a) (cellsFrom (suc (suc j + size a)) b ++ rest) refl (length-cells (suc (suc j)) a) (rw s at p) in
-      held-node l a b count j (numberOf a (suc (suc j))) (numberOf b (suc (suc j) + size a)) _ (omega arith) own
+      held-node l a b count j (numberOf a (suc (suc j))) (numberOf b (suc (suc j) + size a)) _ (omega arith) (r .own)
       (operand-numbered a count (suc j) (suc (suc j)) (omega arith) (omega arith))
       (operand-numbered b count (suc j) (suc (suc j) + size a) (omega arith) (omega arith))
-      (held a count (suc j) _ (omega arith) p)
-      (rw s (held b count (suc j + size a) rest (omega arith) q))
+      (held a count (suc j) _ (omega arith) (r .one))
+      (rw s (held b count (suc j + size a) rest (omega arith) (r .two)))
 
 -- ---- the whole table
 

@@ -2,5 +2,9 @@ pub mod Sizes
 pub mod Holds
 pub mod Stores
 pub mod Nodes
+pub mod Owners
+pub mod Spans
+pub mod InOrder
+pub mod Placing
 pub mod Replies
 pub mod Accepting

@@ -17,7 +17,7 @@ use Rattle.tree_numbering.proofs.Holds.{length-cells}
 use Rattle.tree_numbering.proofs.Stores.{three-runs}
 
 -- an operand's number is 0 where there is no node
-number-operand : (cells : List ℕ) (count i o n : ℕ) → pick (eqb (operandOf count i o) 0) 0 n ≡ numberOf (treeAt cells count (operandOf count i o)) n
+pub number-operand : (cells : List ℕ) (count i o n : ℕ) → pick (eqb (operandOf count i o) 0) 0 n ≡ numberOf (treeAt cells count (operandOf count i o)) n
 unfolding pick numberOf
 number-operand cells count i o n = go (operandOf count i o) (standing count i o)
   where

@@ -103,10 +103,10 @@ module _ (cells : List ℕ) (count i : ℕ) where
   size-node p q = rw (unfolds cells count i p q)
 
 module _ (context count : ℕ) (cells : List ℕ) (ok : Accepted context count cells) where
-  abbrev sized : ℕ → ℕ
+  abbrev pub sized : ℕ → ℕ
   sized i = size (treeAt cells count i)
 
-  sized-node : (i : ℕ) → 1 ≤ i → i ≤ count → sized i ≡ 1 + (sized (firstAt cells i) + sized (secondAt cells i))
+  pub sized-node : (i : ℕ) → 1 ≤ i → i ≤ count → sized i ≡ 1 + (sized (firstAt cells i) + sized (secondAt cells i))
   sized-node i p q =
       rw (size-node cells count i p q, first-operand context count cells ok i p q, second-operand context count cells ok i p q) (omega arith)
 

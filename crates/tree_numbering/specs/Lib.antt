@@ -1,3 +1,4 @@
 pub mod Numbered
 pub mod Renumbering
 pub mod Accepting
+pub mod Passes

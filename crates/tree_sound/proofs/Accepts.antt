@@ -23,10 +23,10 @@ use Rattle.tree_rules.specs.Refusals.{refusal3, refusal4, refusal6, refusal7, r
 use Rattle.tree_rules.proofs.First.{passed}
 use Rattle.tree_rules.proofs.Accepted.{first-standing, second-standing, root-expression, numbers-allowed, not-empty, count-bounds}
 use Rattle.tree_numbering.specs.Numbered.{size, numbered}
-use Rattle.tree_numbering.proofs.Holds.{length-numbered, numbered-tree}
+use Rattle.tree_numbering.proofs.Holds.{length-numbered, numbered-tree, Holds}
 use Rattle.tree_sound.proofs.Sound.{rootClass, badLabel, otherOperands, emptyLabel, outputBroken, someNode, Sound}
 use Rattle.tree_sound.proofs.Tables.{Stands, Ordered, node-at, class-at, operands-at, output-at}
-use Rattle.tree_sound.proofs.Numbers.{none-some, Holds, ordered-in, some-held, within, owners-held}
+use Rattle.tree_sound.proofs.Numbers.{none-some, ordered-in, some-held, within, owners-held}
 
 -- ---- a numbered tree
 

@@ -1,22 +1,20 @@
 -- A tree all of whose nodes keep 6, 7 and 9, numbered, breaks none of 6 to 9. Assumes nothing.
 use mathlib.Core.Path.{_≡_, refl, sym, ap, _∙_}
 use mathlib.Core.Bool.{Bool, true, false, _||_}
-use mathlib.Core.List.{List, [], _∷_, _++_, append-assoc}
+use mathlib.Core.List.{List, _++_}
 use mathlib.Core.Logic.{inl, inr}
-use Prim.Native.Nat.{ℕ, zero, suc, _+_, _*_, _-_, _≤_, _<_}
+use Prim.Native.Nat.{ℕ, zero, suc, _+_, _-_, _≤_, _<_}
 use native.Mathlib.Omega.{arith}
 use native.Mathlib.Decide.{decLe, ℕ-discrete}
 use lib.Dec.{eqb}
-use lib.ListN.{drop}
 use borrow.Author.Tests.{eq-eqb, ne-eqb}
-use Rattle.tree.specs.Sizes.{nodeCells}
 use Rattle.laws.specs.Choice.{pick}
 use Rattle.laws.specs.Each.{some}
 use Rattle.tree.specs.Table.{firstAt, secondAt}
 use Rattle.tree.specs.Trees.{Label, Tree, none, node, labelAt, treeAt}
 use Rattle.tree_rules.specs.Refusals.{owners}
 use Rattle.tree_numbering.specs.Numbered.{size, numberOf, cellsFrom, numbered}
-use Rattle.tree_numbering.proofs.Holds.{length-cells, cell-held, further, held}
+use Rattle.tree_numbering.proofs.Holds.{cell-held, Holds, Parts, parts, held}
 use Rattle.tree_sound.proofs.Sound.{someNode}
 use Rattle.tree_sound.proofs.Tables.{Stands, Ordered, node-at}
 
@@ -27,29 +25,9 @@ unfolding some
 none-some f zero h = refl
 none-some f (suc n) h = rw (none-some f n (λ i p q. h i p (omega arith)), h (suc n) (omega arith) (omega arith))
 
--- ---- the cells of a tree within a table, from node j + 1 on
+-- ---- the cells of a tree within a table
 
 module _ (cells : List ℕ) where
-  abbrev pub Holds : ℕ → Tree → List ℕ → Type 0
-  Holds j t rest = drop (nodeCells * j) cells ≡ cellsFrom (suc j) t ++ rest
-
-  -- a node's five cells, and where those of its operands begin
-  record Parts (j : ℕ) (l : Label) (a b : Tree) (rest : List ℕ) : Type 0 where
-    after : List ℕ
-    own : drop (nodeCells * j) cells ≡ l .form ∷ l .attributes ∷ l .detail ∷ numberOf a (suc (suc j)) ∷ numberOf b (suc (suc j) + size a) ∷ after
-    one : Holds (suc j) a (cellsFrom (suc (suc j + size a)) b ++ rest)
-    two : Holds (suc j + size a) b rest
-
-  parts : (j : ℕ) (l : Label) (a b : Tree) (rest : List ℕ) → Holds j (node l a b) rest → Parts j l a b rest
-  unfolding cellsFrom
-  parts j l a b rest e =
-      let own = e ∙ ap (λ (xs : List ℕ). l .form ∷ l .attributes ∷ l .detail ∷ numberOf a (suc (suc j)) ∷ numberOf b (suc (suc j) + size a) ∷ xs) (append-assoc (cellsFrom (suc (suc j)) a) (cellsFrom (suc (suc j) + size a) b) rest) in
-      let p = further cells j 1 (suc j) (l .form ∷ l .attributes ∷ l .detail ∷ numberOf a (suc (suc j)) ∷ numberOf b (suc (suc j) + size a) ∷ []) _ (omega arith) refl own in
-      let s : suc (suc j) + size a ≡ suc (suc j + size a) = omega arith in
-      let p' = rw s at p in
-      let q = further cells (suc j) (size a) (suc j + size a) (cellsFrom (suc (suc j)) a) (cellsFrom (suc (suc j + size a)) b ++ rest) refl (length-cells (suc (suc j)) a) p' in
-      record { after = _; own = own; one = p'; two = q }
-
   -- ---- operands stand after their owners
 
   number-stands : (t : Tree) (count i n : ℕ) → i < n → n + size t ≤ suc count → Stands count i (numberOf t n)
@@ -61,14 +39,14 @@ module _ (cells : List ℕ) where
     pub first-stands : Stands count i (firstAt cells i)
     pub second-stands : Stands count i (secondAt cells i)
 
-  pub ordered-in : (t : Tree) (count j : ℕ) (rest : List ℕ) → j + size t ≤ count → Holds j t rest → (i : ℕ) → j < i → i ≤ j + size t → Ordered-at count i
+  pub ordered-in : (t : Tree) (count j : ℕ) (rest : List ℕ) → j + size t ≤ count → Holds cells j t rest → (i : ℕ) → j < i → i ≤ j + size t → Ordered-at count i
   unfolding size
   ordered-in none count j rest h e i p q = absurd (omega arith)
-  ordered-in (node l a b) count j rest h e i p q = go (parts j l a b rest e) (ℕ-discrete i (suc j)) (decLe i (suc j + size a)) (λ x. ordered-in a count (suc j) _ (omega arith) x i) (λ x. ordered-in b count (suc j + size a) rest (omega arith) x i)
+  ordered-in (node l a b) count j rest h e i p q = go (parts cells j l a b rest e) (ℕ-discrete i (suc j)) (decLe i (suc j + size a)) (λ x. ordered-in a count (suc j) _ (omega arith) x i) (λ x. ordered-in b count (suc j + size a) rest (omega arith) x i)
     where
-      go : Parts j l a b rest → Dec (i ≡ suc j) → Dec (i ≤ suc j + size a)
-          → (Holds (suc j) a (cellsFrom (suc (suc j + size a)) b ++ rest) → suc j < i → i ≤ suc j + size a → Ordered-at count i)
-          → (Holds (suc j + size a) b rest → suc j + size a < i → i ≤ suc j + size a + size b → Ordered-at count i)
+      go : Parts cells j l a b rest → Dec (i ≡ suc j) → Dec (i ≤ suc j + size a)
+          → (Holds cells (suc j) a (cellsFrom (suc (suc j + size a)) b ++ rest) → suc j < i → i ≤ suc j + size a → Ordered-at count i)
+          → (Holds cells (suc j + size a) b rest → suc j + size a < i → i ≤ suc j + size a + size b → Ordered-at count i)
           → Ordered-at count i
       go r (yes z) d f g =
           rw z (record {
@@ -94,7 +72,7 @@ module _ (cells : List ℕ) where
 
   module _ (count : ℕ) (ordered : Ordered cells count) (f : Label → Tree → Tree → Bool) (g : ℕ → Bool)
       (agree : (i : ℕ) → 1 ≤ i → i ≤ count → g i ≡ f (labelAt cells i) (treeAt cells count (firstAt cells i)) (treeAt cells count (secondAt cells i))) where
-    here : (j : ℕ) (l : Label) (a b : Tree) (rest : List ℕ) → j + size (node l a b) ≤ count → Holds j (node l a b) rest → g (suc j) ≡ f l a b
+    here : (j : ℕ) (l : Label) (a b : Tree) (rest : List ℕ) → j + size (node l a b) ≤ count → Holds cells j (node l a b) rest → g (suc j) ≡ f l a b
     unfolding size numberOf
     here j l a b rest h e =
         let t = sym (node-at cells count ordered (suc j) (omega arith) (omega arith)) ∙ held cells (node l a b) count j rest h e in
@@ -103,7 +81,7 @@ module _ (cells : List ℕ) where
         let z : treeAt cells count (secondAt cells (suc j)) ≡ b = cc in
         agree (suc j) (omega arith) (omega arith) ∙ rw (x, y, z)
 
-    pub some-held : (t : Tree) (j : ℕ) (rest : List ℕ) → j + size t ≤ count → Holds j t rest → some g (j + size t) ≡ (some g j || someNode f t)
+    pub some-held : (t : Tree) (j : ℕ) (rest : List ℕ) → j + size t ≤ count → Holds cells j t rest → some g (j + size t) ≡ (some g j || someNode f t)
     unfolding size some someNode
     some-held none j rest h e = let z : j + 0 ≡ j = omega arith in rw z (or-none (some g j))
       where
@@ -111,7 +89,7 @@ module _ (cells : List ℕ) where
         or-none true = refl
         or-none false = refl
     some-held (node l a b) j rest h e =
-        let r = parts j l a b rest e in
+        let r = parts cells j l a b rest e in
         let s : j + suc (size a + size b) ≡ suc j + size a + size b = omega arith in
         let p = some-held a (suc j) _ (omega arith) (r .one) in
         let q = some-held b (suc j + size a) rest (omega arith) (r .two) in
@@ -180,11 +158,11 @@ module _ (cells : List ℕ) where
       go (no a) (no d) (yes e) = let x = past lo mid m (omega arith) in let y = within mid hi m (omega arith) e in let z = within lo hi m (omega arith) e in omega arith
       go (no a) (no d) (no e) = let x = past lo mid m (omega arith) in let y = past mid hi m (omega arith) in let z = past lo hi m (omega arith) in omega arith
 
-  pub owners-held : (t : Tree) (j m : ℕ) (rest : List ℕ) → 1 ≤ m → Holds j t rest → owners cells (j + size t) m ≡ owners cells j m + inside (suc j) (j + size t) m
+  pub owners-held : (t : Tree) (j m : ℕ) (rest : List ℕ) → 1 ≤ m → Holds cells j t rest → owners cells (j + size t) m ≡ owners cells j m + inside (suc j) (j + size t) m
   unfolding size owners same
   owners-held none j m rest h e = let z : j + 0 ≡ j = omega arith in let n = nothing j m in rw z (omega arith)
   owners-held (node l a b) j m rest h e =
-      let r = parts j l a b rest e in
+      let r = parts cells j l a b rest e in
       let s : j + suc (size a + size b) ≡ suc j + size a + size b = omega arith in
       let p = owners-held a (suc j) m _ h (r .one) in
       let q = owners-held b (suc j + size a) m rest h (r .two) in
