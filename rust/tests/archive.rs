@@ -8,6 +8,7 @@
 
 use model::accept;
 use model::generate::{Dice, Draft, Family, Order};
+use model::lent::Lent;
 use model::sizes::*;
 use model::table::{self, NodeTable, ATTRIBUTES, DETAIL, FORM};
 use std::cmp::Ordering;
@@ -21,11 +22,6 @@ fn times() -> u64 {
 /// So many numberings of each tree.
 const NUMBERINGS: usize = 12;
 
-/// What a lent byte holds.
-fn pattern(at: usize) -> u8 {
-    (at * 37 + 11) as u8
-}
-
 /// What saving a table must give.
 fn meant(table: &NodeTable) -> Result<Vec<u8>, u16> {
     match accept::refusal(table) {
@@ -36,16 +32,15 @@ fn meant(table: &NodeTable) -> Result<Vec<u8>, u16> {
 
 /// Saves a table with so many bytes lent, and looks at the reply and at every byte.
 fn save(table: &NodeTable, length: usize, meant: &Result<Vec<u8>, u16>) {
-    let mut file: Vec<u8> = (0..length).map(pattern).collect();
-    let reply = boundary::save(table.context, table.count, &table.cells, &mut file);
+    let mut file = Lent::new(length);
+    let reply = boundary::save(table.context, table.count, &table.cells, file.lend(length));
     let (number, stored) = match meant {
         Ok(bytes) if bytes.len() <= length => (bytes.len() as u32, &bytes[..]),
         Ok(_) => (12 * REFUSAL_UNIT, &[][..]),
         Err(refusal) => (REFUSAL_UNIT * u32::from(*refusal), &[][..]),
     };
     assert_eq!(reply, number, "{table:?}");
-    assert_eq!(&file[..stored.len()], stored, "{table:?}");
-    assert!((stored.len()..length).all(|at| file[at] == pattern(at)), "{table:?}");
+    assert_eq!(file.take(stored.len()).as_deref(), Some(stored), "{table:?}");
 }
 
 /// The lengths within 8 of a boundary.

@@ -1,17 +1,17 @@
 //! The recorded answers of `crates/recorded/data`, asked through this crate: files by
 //! `tools/record_files.py`, rows by prettyplease's own files, readings and tokens by
-//! `tools/readings`.
+//! `tools/readings`, saved files and orders by `tools/record_archive.py`.
 
-use model::lent::Lent;
+use model::lent::{Cell, Lent};
 use model::recorded::{records, u16s, Record};
 use model::table;
-use tezhukor::sizes::{
-    CONTEXT_UNIT, MOST_CELLS, NODE_CELLS, REFUSAL_UNIT, ROW_CELLS, SCRATCH_CELLS, TOKEN_CELLS,
-};
+use std::cmp::Ordering;
+use std::fmt::Debug;
+use tezhukor::sizes::{CONTEXT_UNIT, MOST_CELLS, REFUSAL_UNIT, ROW_CELLS, SCRATCH_CELLS};
 use tezhukor::{boundary, Refusal, Row, Tree};
 
 /// Checks that a buffer holds an answer, and else what it was lent with.
-fn holds(mut buffer: Lent, answer: &[u16]) {
+fn holds<Of: Cell + Debug>(mut buffer: Lent<Of>, answer: &[Of]) {
     assert_eq!(buffer.take(answer.len()).as_deref(), Some(answer));
 }
 
@@ -23,11 +23,11 @@ fn reply(record: &Record) -> u32 {
 
 #[test]
 fn files() {
-    let records = records("files", NODE_CELLS);
+    let records = records("files");
     for record in &records {
         let mut table = Lent::new(record.lent);
         assert_eq!(boundary::load(&record.bytes, table.lend(record.lent)), reply(record));
-        holds(table, &record.cells);
+        holds(table, &record.cells());
         if record.lent >= MOST_CELLS {
             let tree = Tree::load(&record.bytes);
             assert_eq!(tree.as_ref().err().map_or(0, |refusal| refusal.number()), record.refusal);
@@ -42,7 +42,7 @@ fn files() {
 
 #[test]
 fn rows() {
-    let records = records("rows", ROW_CELLS);
+    let records = records("rows");
     for record in &records {
         let Ok(tree) = Tree::load(&record.bytes) else {
             assert_eq!(tezhukor::rows(&record.bytes).map_err(Refusal::number), Err(record.refusal));
@@ -53,11 +53,11 @@ fn rows() {
         let (context, count) = (tree.context(), tree.count());
         let refusal = boundary::decide(context, count, tree.cells(), lent_rows, lent_scratch);
         assert_eq!(refusal, record.refusal);
-        holds(rows, &record.cells);
+        holds(rows, &record.cells());
         holds(scratch, &vec![0; SCRATCH_CELLS * usize::from(record.count)]);
         if refusal == 0 {
-            let meant = record.cells.chunks_exact(ROW_CELLS).map(Row::of_cells);
-            assert!(tree.rows().into_iter().eq(meant));
+            let meant = record.cells();
+            assert!(tree.rows().into_iter().eq(meant.chunks_exact(ROW_CELLS).map(Row::of_cells)));
         }
     }
     println!("rows {}, different 0", records.len());
@@ -65,7 +65,7 @@ fn rows() {
 
 #[test]
 fn tokens() {
-    let records = records("tokens", TOKEN_CELLS);
+    let records = records("tokens");
     for record in &records {
         let Ok(tree) = Tree::load(&record.bytes) else {
             let refusal = tezhukor::tokens(&record.bytes).map_err(Refusal::number);
@@ -76,9 +76,9 @@ fn tokens() {
         let lent = tokens.lend(record.lent);
         let written = boundary::write(tree.context(), tree.count(), tree.cells(), lent);
         assert_eq!(written, reply(record));
-        holds(tokens, &record.cells);
+        holds(tokens, &record.cells());
         if record.refusal == 0 {
-            assert_eq!(tree.tokens().as_ref(), Ok(&record.cells));
+            assert_eq!(tree.tokens().as_ref(), Ok(&record.cells()));
         }
     }
     println!("tokens {}, different 0", records.len());
@@ -86,15 +86,46 @@ fn tokens() {
 
 #[test]
 fn readings() {
-    let records = records("readings", NODE_CELLS);
+    let records = records("readings");
     for record in &records {
         let tokens = u16s(&record.bytes);
         let mut table = Lent::new(record.lent);
         assert_eq!(boundary::read(&tokens, table.lend(record.lent)), reply(record));
-        holds(table, &record.cells);
+        holds(table, &record.cells());
         if record.refusal == 0 {
-            assert_eq!(Tree::read(&tokens).expect("a tree").cells(), record.cells);
+            assert_eq!(Tree::read(&tokens).expect("a tree").cells(), record.cells());
         }
     }
     println!("readings {}, different 0", records.len());
+}
+
+#[test]
+fn saves() {
+    let records = records("saves");
+    for record in &records {
+        let numbers = u16s(&record.bytes);
+        let [context, count, table @ ..] = &numbers[..] else { unreachable!() };
+        let mut file = Lent::new(record.lent);
+        assert_eq!(boundary::save(*context, *count, table, file.lend(record.lent)), reply(record));
+        holds(file, &record.written);
+    }
+    println!("saves {}, different 0", records.len());
+}
+
+#[test]
+fn orders() {
+    let records = records("orders");
+    for record in &records {
+        let (length, files) = record.bytes.split_first_chunk().expect("the first file's length");
+        let (first, second) = files.split_at(u32::from_le_bytes(*length) as usize);
+        assert_eq!(boundary::compare(first, second), reply(record));
+        let order = match record.count {
+            0 => Ordering::Less,
+            1 => Ordering::Equal,
+            _ => Ordering::Greater,
+        };
+        let meant = if record.refusal == 0 { Ok(order) } else { Err(record.refusal) };
+        assert_eq!(tezhukor::cmp(first, second).map_err(Refusal::number), meant);
+    }
+    println!("orders {}, different 0", records.len());
 }

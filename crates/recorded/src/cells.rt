@@ -60,6 +60,24 @@ pub(crate) fn written(table: &[u16; TABLE], cells: &[u8; BYTES], n: usize) -> bo
     same(table, cells, n) && keeps(table, n)
 }
 
+// What each byte of a buffer of bytes holds before.
+pub(crate) const BYTE: u8 = 165;
+
+// Whether the first `n` bytes are those that are recorded in `bytes`, and all others are as before.
+pub(crate) fn saved(file: &[u8; TABLE], bytes: &[u8; BYTES], n: usize) -> bool
+    requires { ⌜ n ≤ 2 * nodeCells * mostNodes ⌝ }
+{
+    let mut i = 0;
+    while i < TABLE {
+        let meant = if i < n { bytes[i] } else { BYTE };
+        if file[i] != meant {
+            return false;
+        }
+        i += 1;
+    }
+    true
+}
+
 // Whether the first `n` cells are zeros.
 pub(crate) fn zeros(table: &[u16; TABLE], n: usize) -> bool
     requires { ⌜ n ≤ nodeCells * mostNodes ⌝ }

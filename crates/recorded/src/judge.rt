@@ -1,6 +1,6 @@
 // One record: what it holds is answered anew, and the answer is compared with the recorded one.
+use crate::archive;
 use crate::cells::BYTES;
-use crate::cells::CELLS;
 use crate::cells::TABLE;
 use crate::lists;
 use crate::record;
@@ -23,6 +23,10 @@ pub enum Kind {
     Readings,
     // Tree files, and the tokens of their trees.
     Tokens,
+    // Node tables, and the files of their trees.
+    Saves,
+    // Two tree files, and how the first stands to the second.
+    Orders,
 }
 
 // What came of one record, with the number of the recorded reply.
@@ -33,31 +37,35 @@ pub enum Step {
     Damaged,
 }
 
-// How many cells a reply writes: none on a refusal, otherwise those of each node, row or token.
-fn cells_of(kind: Kind, reply: u16, count: usize) -> usize
+// How many bytes of a record a reply writes: none on a refusal, otherwise those of the cells of each node, row or token,
+// or of a file; an order is in the header.
+fn bytes_of(kind: Kind, reply: u16, count: usize) -> usize
     requires { ⌜ count ≤ 65_535 ⌝ }
-    ensures { λ r. ⌜ r ≤ 327_675 ⌝ }
 {
     if reply != 0 {
         return 0;
     }
     match kind {
-        Kind::Files => sizes::NODE_CELLS * count,
-        Kind::Rows => sizes::ROW_CELLS * count,
-        Kind::Readings => sizes::NODE_CELLS * count,
-        Kind::Tokens => sizes::TOKEN_CELLS * count,
+        Kind::Files => 2 * sizes::NODE_CELLS * count,
+        Kind::Rows => 2 * sizes::ROW_CELLS * count,
+        Kind::Readings => 2 * sizes::NODE_CELLS * count,
+        Kind::Tokens => 2 * sizes::TOKEN_CELLS * count,
+        Kind::Saves => count,
+        Kind::Orders => 0,
     }
 }
 
 // Whether the answer to a record is the recorded one.
 fn agrees(kind: Kind, file: &[u8; FILE], h: Header, cells: &[u8; BYTES], s: Sizes) -> bool
-    requires { ⌜ (s .file ≤ 70_000) × (s .lent ≤ 65_535) × (s .written ≤ nodeCells * mostNodes) ⌝ }
+    requires { ⌜ (s .file ≤ 70_000) × (s .lent ≤ 65_535) × (s .written ≤ 2 * nodeCells * mostNodes) ⌝ }
 {
     match kind {
         Kind::Files => trees::loads(file, h, cells, s),
         Kind::Rows => trees::decides(file, h.reply, cells, s),
         Kind::Readings => lists::reads(file, h, cells, s),
         Kind::Tokens => trees::writes(file, h, cells, s),
+        Kind::Saves => archive::saves(file, h, cells, s),
+        Kind::Orders => archive::orders(file, h, s.file),
     }
 }
 
@@ -66,8 +74,8 @@ fn replay(fd: i32, h: Header, kind: Kind) -> Step {
     let lent = record::wide(h.lent);
     let size = h.length;
     let reply = record::wide(h.reply);
-    let n = cells_of(kind, h.reply, record::wide(h.count));
-    if lent > TABLE || size > FILE || reply > 16 || n > CELLS {
+    let written = bytes_of(kind, h.reply, record::wide(h.count));
+    if lent > TABLE || size > FILE || reply > 16 || written > BYTES {
         return Step::Damaged;
     }
     let mut file = [0u8; FILE];
@@ -75,13 +83,13 @@ fn replay(fd: i32, h: Header, kind: Kind) -> Step {
         return Step::Damaged;
     }
     let mut cells = [0u8; BYTES];
-    if !record::part(fd, &mut cells, 2 * n) {
+    if !record::part(fd, &mut cells, written) {
         return Step::Damaged;
     }
     let s = Sizes {
         file: size,
         lent: lent,
-        written: n,
+        written: written,
     };
     if agrees(kind, &file, h, &cells, s) {
         Step::Agrees(reply)

@@ -12,10 +12,10 @@ ghost use lib.ListN.{length};
 ghost use Rattle.tree.specs.Sizes.{nodeCells, mostNodes};
 
 // The most codes: two bytes of a file each.
-const CODES: usize = 35_000;
+pub(crate) const CODES: usize = 35_000;
 
 // The codes that stand in the first `2 * n` bytes.
-fn gather(file: &[u8; FILE], codes: &mut [u16], n: usize)
+pub(crate) fn gather(file: &[u8; FILE], codes: &mut [u16], n: usize)
     requires { ⌜ n ≤ 35_000 ⌝ }
     requires { ⌜ n ≤ length (now codes) ⌝ }
 {
@@ -55,10 +55,10 @@ fn found(answer: Reply, h: Header) -> bool {
 
 // Whether a token list reads as recorded.
 pub(crate) fn reads(file: &[u8; FILE], h: Header, cells: &[u8; BYTES], s: Sizes) -> bool
-    requires { ⌜ (s .file ≤ 70_000) × (s .lent ≤ 65_535) × (s .written ≤ nodeCells * mostNodes) ⌝ }
+    requires { ⌜ (s .file ≤ 70_000) × (s .lent ≤ 65_535) × (s .written ≤ 2 * nodeCells * mostNodes) ⌝ }
 {
     let mut table = [0u16; TABLE];
     cells::fill(&mut table);
     let answer = read(file, s.file, &mut table, s.lent);
-    found(answer, h) && cells::written(&table, cells, s.written)
+    found(answer, h) && cells::written(&table, cells, s.written / 2)
 }

@@ -1,6 +1,8 @@
 // Goes through the recorded files and replies in the file `files`, loads each file with `file_loader`, and prints how
 // many replies agree with the recorded ones. Then the same with the file `rows` and the rows that `row_walk` decides,
-// with `readings` and what `token_reader` reads, and with `tokens` and what `token_writer` writes.
+// with `readings` and what `token_reader` reads, with `tokens` and what `token_writer` writes, with `saves` and what
+// `file_save` saves, and with `orders` and what `file_order` says of two files.
+mod archive;
 mod cells;
 mod judge;
 mod lists;
@@ -77,4 +79,6 @@ fn main() {
     open_named(b"rows", Kind::Rows);
     open_named(b"readings", Kind::Readings);
     open_named(b"tokens", Kind::Tokens);
+    open_named(b"saves", Kind::Saves);
+    open_named(b"orders", Kind::Orders);
 }

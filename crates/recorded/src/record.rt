@@ -1,4 +1,4 @@
-// The parts of a record: a header of 12 bytes, the bytes of a tree file or a token list, and the cells that are written.
+// The parts of a record: a header of 12 bytes, the bytes of what is read, and those of what is written.
 ghost use Prim.Native.Nat.{_≤_};
 
 // The bytes of the longest file.
@@ -13,7 +13,7 @@ pub struct Header {
     pub count: u16,
 }
 
-// How many bytes a record's file has, how many cells are lent, and how many of them the recorded reply writes.
+// How many bytes are read, how many cells or bytes are lent, and how many bytes of the record are what the reply writes.
 pub struct Sizes {
     pub file: usize,
     pub lent: usize,
@@ -50,7 +50,9 @@ pub(crate) fn wide(x: u16) -> usize
 }
 
 // The number of two halves of 16 bits, the low one first.
-fn long(low: u16, high: u16) -> usize {
+pub(crate) fn long(low: u16, high: u16) -> usize
+    ensures { λ r. ⌜ r ≤ 4_294_967_295 ⌝ }
+{
     low as usize + 65536 * (high as usize)
 }
 

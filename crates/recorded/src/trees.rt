@@ -42,12 +42,12 @@ fn loaded(answer: Loaded, h: Header) -> bool {
 
 // Whether a file loads as recorded.
 pub(crate) fn loads(file: &[u8; FILE], h: Header, cells: &[u8; BYTES], s: Sizes) -> bool
-    requires { ⌜ (s .file ≤ 70_000) × (s .lent ≤ 65_535) × (s .written ≤ nodeCells * mostNodes) ⌝ }
+    requires { ⌜ (s .file ≤ 70_000) × (s .lent ≤ 65_535) × (s .written ≤ 2 * nodeCells * mostNodes) ⌝ }
 {
     let mut table = [0u16; TABLE];
     cells::fill(&mut table);
     let answer = load(file, s.file, &mut table, s.lent);
-    loaded(answer, h) && cells::written(&table, cells, s.written)
+    loaded(answer, h) && cells::written(&table, cells, s.written / 2)
 }
 
 // ---- rows
@@ -95,7 +95,7 @@ fn decide(
 
 // Whether the rows of a file are as recorded, the scratch of as many nodes being cleared.
 pub(crate) fn decides(file: &[u8; FILE], reply: u16, cells: &[u8; BYTES], s: Sizes) -> bool
-    requires { ⌜ (s .file ≤ 70_000) × (s .lent ≤ 65_535) × (s .written ≤ nodeCells * mostNodes) ⌝ }
+    requires { ⌜ (s .file ≤ 70_000) × (s .lent ≤ 65_535) × (s .written ≤ 2 * nodeCells * mostNodes) ⌝ }
 {
     let mut rows = [0u16; TABLE];
     cells::fill(&mut rows);
@@ -104,8 +104,9 @@ pub(crate) fn decides(file: &[u8; FILE], reply: u16, cells: &[u8; BYTES], s: Siz
     if decide(file, s.file, &mut rows, &mut scratch, s.lent) != reply {
         return false;
     }
-    let cleared = sizes::SCRATCH_CELLS * (s.written / sizes::ROW_CELLS);
-    cells::written(&rows, cells, s.written)
+    let written = s.written / 2;
+    let cleared = sizes::SCRATCH_CELLS * (written / sizes::ROW_CELLS);
+    cells::written(&rows, cells, written)
         && cells::zeros(&scratch, cleared)
         && cells::keeps(&scratch, cleared)
 }
@@ -144,10 +145,10 @@ fn wrote(answer: Written, h: Header) -> bool {
 
 // Whether the tokens of a file are as recorded.
 pub(crate) fn writes(file: &[u8; FILE], h: Header, cells: &[u8; BYTES], s: Sizes) -> bool
-    requires { ⌜ (s .file ≤ 70_000) × (s .lent ≤ 65_535) × (s .written ≤ nodeCells * mostNodes) ⌝ }
+    requires { ⌜ (s .file ≤ 70_000) × (s .lent ≤ 65_535) × (s .written ≤ 2 * nodeCells * mostNodes) ⌝ }
 {
     let mut tokens = [0u16; TABLE];
     cells::fill(&mut tokens);
     let answer = write(file, s.file, &mut tokens, s.lent);
-    wrote(answer, h) && cells::written(&tokens, cells, s.written)
+    wrote(answer, h) && cells::written(&tokens, cells, s.written / 2)
 }

@@ -7,25 +7,39 @@ const SPARE: usize = 64;
 /// How often all cells are looked at, and not only those near an answer.
 const WHOLE: u64 = 4_096;
 
-/// A buffer that can be lent again and again.
-pub struct Lent {
-    cells: Vec<u16>,
+/// A buffer of cells, or of bytes, that can be lent again and again.
+pub struct Lent<Of = u16> {
+    cells: Vec<Of>,
     taken: u64,
 }
 
-/// What a cell holds when it is lent; no table, row or token list has such a number.
-pub fn pattern(at: usize) -> u16 {
-    0xA000 | (at & 0x0FFF) as u16
+/// What a buffer is made of.
+pub trait Cell: Copy + PartialEq {
+    /// What it holds when it is lent.
+    fn pattern(at: usize) -> Self;
 }
 
-impl Lent {
+impl Cell for u16 {
+    /// No table, row or token list has such a number.
+    fn pattern(at: usize) -> u16 {
+        0xA000 | (at & 0x0FFF) as u16
+    }
+}
+
+impl Cell for u8 {
+    fn pattern(at: usize) -> u8 {
+        (at * 37 + 11) as u8
+    }
+}
+
+impl<Of: Cell> Lent<Of> {
     /// A buffer of which up to so many cells can be lent.
-    pub fn new(most: usize) -> Lent {
-        Lent { cells: (0..most + 2 * SPARE).map(pattern).collect(), taken: 0 }
+    pub fn new(most: usize) -> Lent<Of> {
+        Lent { cells: (0..most + 2 * SPARE).map(Of::pattern).collect(), taken: 0 }
     }
 
     /// So many cells.
-    pub fn lend(&mut self, length: usize) -> &mut [u16] {
+    pub fn lend(&mut self, length: usize) -> &mut [Of] {
         let most = self.cells.len() - 2 * SPARE;
         &mut self.cells[SPARE..][..most][..length]
     }
@@ -33,15 +47,15 @@ impl Lent {
     /// Takes an answer of so many cells out of the buffer; none if another cell was
     /// written to. The first time and now and then all cells are looked at, else those
     /// near the answer.
-    pub fn take(&mut self, length: usize) -> Option<Vec<u16>> {
+    pub fn take(&mut self, length: usize) -> Option<Vec<Of>> {
         let answer = self.cells.get(SPARE..SPARE + length)?.to_vec();
         let is_whole = self.taken % WHOLE == 0;
         self.taken += 1;
         for (at, cell) in self.cells.iter_mut().enumerate().skip(SPARE).take(length) {
-            *cell = pattern(at);
+            *cell = Of::pattern(at);
         }
         let near = (SPARE + length + SPARE).min(self.cells.len());
         let looked = if is_whole { self.cells.len() } else { near };
-        (0..looked).all(|at| self.cells[at] == pattern(at)).then_some(answer)
+        (0..looked).all(|at| self.cells[at] == Of::pattern(at)).then_some(answer)
     }
 }

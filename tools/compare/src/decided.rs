@@ -1,7 +1,7 @@
 //! The rows that tezhukor_decide writes, beside those that the crate gives while
 //! it prints.
 
-use model::lent::pattern;
+use model::lent::Cell;
 use model::sizes::{ROW_CELLS, SCRATCH_CELLS};
 use model::{table, NodeTable};
 use oracle::Row;
@@ -18,7 +18,8 @@ impl Decided {
     /// Decides an accepted tree in one of document 01's contexts. Both buffers
     /// have so many cells more than they need.
     pub fn new(context: u16, tree: &NodeTable, spare: usize) -> Self {
-        let lent = |a_node| (0..a_node * usize::from(tree.count) + spare).map(pattern).collect();
+        let lent =
+            |a_node| (0..a_node * usize::from(tree.count) + spare).map(Cell::pattern).collect();
         let (mut rows, mut scratch): (Vec<u16>, Vec<u16>) = (lent(ROW_CELLS), lent(SCRATCH_CELLS));
         let reply = boundary::decide(context, tree.count, &tree.cells, &mut rows, &mut scratch);
         Decided { reply, rows, scratch }
@@ -76,5 +77,5 @@ pub fn differences_of_file(tree: &NodeTable, theirs: &[(u16, Vec<Row>)]) -> Vec<
 
 /// Whether the cells from a place on hold what they were lent with.
 fn as_lent(cells: &[u16], from: usize) -> bool {
-    (from..).zip(cells).all(|(at, &cell)| cell == pattern(at))
+    (from..).zip(cells).all(|(at, &cell)| cell == Cell::pattern(at))
 }

@@ -166,7 +166,7 @@ mod tests {
     #[test]
     fn refused_nodes_are_found() {
         let (mut found, mut accepted) = (0, 0);
-        for Record { bytes: file, .. } in records("files", NODE_CELLS) {
+        for Record { bytes: file, .. } in records("files") {
             let nodes = nodes(&numbers(&file).0);
             match Tree::load(&file) {
                 Ok(_) => {

@@ -273,7 +273,6 @@ mod tests {
     use crate::lexer;
     use model::recorded::records;
     use tezhukor::codes::{CLOSE, MINUS, NAME, OPEN};
-    use tezhukor::sizes::TOKEN_CELLS;
 
     #[test]
     fn added_pairs_are_coloured() {
@@ -286,7 +285,7 @@ mod tests {
     #[test]
     fn text_is_the_tokens() {
         let mut trees = 0;
-        for record in records("tokens", TOKEN_CELLS) {
+        for record in records("tokens") {
             let Ok(tree) = Tree::load(&record.bytes) else {
                 continue;
             };

@@ -294,7 +294,6 @@ fn inner_line(operand: &Operand, shown: &Shown) -> String {
 mod tests {
     use super::*;
     use model::recorded::records;
-    use tezhukor::sizes::ROW_CELLS;
 
     /// Each recorded tree: a pair is there just where the owner's test or a part of
     /// parenthesize asks for it, and each that is there has its reason; an owner that
@@ -302,7 +301,7 @@ mod tests {
     #[test]
     fn reasons_are_the_rows() {
         let (mut pairs, mut others) = (0, 0);
-        for record in records("rows", ROW_CELLS) {
+        for record in records("rows") {
             let Ok(tree) = Tree::load(&record.bytes) else {
                 continue;
             };
