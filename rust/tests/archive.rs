@@ -53,15 +53,21 @@ fn numbered(draft: &Draft, table: &NodeTable, dice: &mut Dice) -> NodeTable {
     draft.number(table.context, Order::any(dice), dice)
 }
 
+/// Mixed trees, each with its file and with dice of its own.
+fn each_tree(seed: u64, mut visit: impl FnMut(NodeTable, Vec<u8>, &mut Dice)) {
+    for index in 0..times() {
+        let tree = Family::Mixed.tree(seed + 1, index);
+        let file = meant(&tree).expect("accepted");
+        visit(tree, file, &mut Dice::new(seed, index));
+    }
+}
+
 /// The same file for a tree under any numbering, which loads back as it, and is saved
 /// again as it is.
 #[test]
 fn numberings() {
     let mut others = 0;
-    for index in 0..times() {
-        let dice = &mut Dice::new(21, index);
-        let tree = Family::Mixed.tree(22, index);
-        let file = meant(&tree).expect("accepted");
+    each_tree(21, |tree, file, dice| {
         let draft = Draft::of(&tree);
         for _ in 0..NUMBERINGS {
             let table = numbered(&draft, &tree, dice);
@@ -73,7 +79,7 @@ fn numberings() {
         assert_eq!(back.to_file(), file);
         assert_eq!(back.canonical(), back);
         assert!(file.len() <= MOST_FILE_BYTES);
-    }
+    });
     println!(
         "trees {}, numberings {}, {others} of them others; different 0",
         times(),
@@ -85,10 +91,7 @@ fn numberings() {
 #[test]
 fn changed_at_one_place() {
     let mut changed = 0;
-    for index in 0..times() {
-        let dice = &mut Dice::new(23, index);
-        let tree = Family::Mixed.tree(24, index);
-        let file = meant(&tree).expect("accepted");
+    each_tree(23, |tree, file, dice| {
         let mut other = tree.clone();
         let node = NODE_CELLS * dice.below(usize::from(tree.count));
         match dice.below(4) {
@@ -103,7 +106,7 @@ fn changed_at_one_place() {
             assert_ne!(meant.as_ref(), Ok(&file));
             changed += u64::from(meant.is_ok());
         }
-    }
+    });
     println!("changed and accepted {changed}; different 0");
 }
 

@@ -6,7 +6,7 @@
 //! follow a last item; if so, the list has the readings of the list without these commas,
 //! and otherwise none.
 
-use crate::lists::{self, Tally};
+use crate::lists::{self, Asked, Tally};
 use crate::makers;
 use crate::ours::Ours;
 use crate::trees;
@@ -189,13 +189,7 @@ fn tree(held: &mut Held, charts: &mut Charts, ours: &mut Ours, tree: &NodeTable)
 /// All lists of few tokens that hold such commas; all lists of fewer tokens; random lists
 /// with commas put in; plain trees with commas after last items; and constructed lists.
 /// Gives how many differ.
-pub fn compare(
-    ours: &mut Ours,
-    smaller: usize,
-    lists: u64,
-    seed: u64,
-    change: Option<Change>,
-) -> u64 {
+pub fn compare(ours: &mut Ours, Asked { smaller, lists, seed, change }: Asked) -> u64 {
     let mut charts = Charts::new(change);
     let mut different = 0;
     for (name, codes, most) in lists::sets(smaller) {

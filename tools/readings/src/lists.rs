@@ -149,15 +149,19 @@ pub fn sets(smaller: usize) -> Vec<(String, Vec<u16>, usize)> {
     ]
 }
 
+/// What is gone through: lists of so many tokens fewer, so many random ones by a seed, and
+/// the rule that is changed for all of them.
+#[derive(Copy, Clone)]
+pub struct Asked {
+    pub smaller: usize,
+    pub lists: u64,
+    pub seed: u64,
+    pub change: Option<Change>,
+}
+
 /// All lists of few tokens, random ones, and constructed ones. Gives how many
 /// differ.
-pub fn compare(
-    ours: &mut Ours,
-    smaller: usize,
-    lists: u64,
-    seed: u64,
-    change: Option<Change>,
-) -> u64 {
+pub fn compare(ours: &mut Ours, Asked { smaller, lists, seed, change }: Asked) -> u64 {
     let mut chart = Chart::new(Rules::new(change));
     let mut different = 0;
     for (name, codes, most) in sets(smaller) {

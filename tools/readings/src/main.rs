@@ -13,6 +13,7 @@ mod rustc;
 mod trees;
 mod written;
 
+use lists::Asked;
 use model::rules::Change;
 use ours::Ours;
 use std::process::ExitCode;
@@ -60,19 +61,16 @@ fn run(arguments: &[&str]) -> Option<u64> {
                 Some(name) => Some(Change::named(name)?),
                 None => None,
             };
-            let shorter = ours.shorter();
+            let smaller = ours.shorter();
+            let asked = |lists| Asked { smaller, lists, seed, change };
             // A program takes a thousand times as long as a function.
             match (*what, ours.is_slow()) {
                 ("trees", false) => Some(trees::compare(&mut ours, 0, 100_000, seed)),
                 ("trees", true) => Some(trees::compare(&mut ours, 2, 2_000, seed)),
-                ("lists", false) => {
-                    Some(lists::compare(&mut ours, shorter, 1_000_000, seed, change))
-                }
-                ("lists", true) => Some(lists::compare(&mut ours, shorter, 20_000, seed, change)),
-                ("commas", false) => {
-                    Some(commas::compare(&mut ours, shorter, 400_000, seed, change))
-                }
-                ("commas", true) => Some(commas::compare(&mut ours, shorter, 8_000, seed, change)),
+                ("lists", false) => Some(lists::compare(&mut ours, asked(1_000_000))),
+                ("lists", true) => Some(lists::compare(&mut ours, asked(20_000))),
+                ("commas", false) => Some(commas::compare(&mut ours, asked(400_000))),
+                ("commas", true) => Some(commas::compare(&mut ours, asked(8_000))),
                 _ => None,
             }
         }
