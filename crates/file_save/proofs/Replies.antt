@@ -2,10 +2,10 @@
 use mathlib.Core.Path.{_≡_, refl, sym, _∙_}
 use mathlib.Core.Bool.{Bool, true, false}
 use mathlib.Core.List.{List, [], _∷_}
-use Prim.Native.Nat.{ℕ, _*_, _≤_, _<_}
+use Prim.Native.Nat.{ℕ, _*_, _≤_}
 use native.Mathlib.Omega.{arith}
 use lib.Dec.{ltb}
-use lib.ListN.{length, take, replicate, length-replicate}
+use lib.ListN.{length, take}
 use lib.Seq.{take-at, length-take-le}
 use borrow.Author.Tests.{eq-eqb, ne-eqb}
 use Rattle.tree.specs.Sizes.{nodeCells, mostNodes}
@@ -127,11 +127,3 @@ module _ (context count : ℕ) (cells own : List ℕ) (room : Accepted context c
         → (r ≡ stored (allBytes (context ∷ count ∷ take (nodeCells * count) after)) (length buffer)) × (last ≡ storedAfter (allBytes (context ∷ count ∷ take (nodeCells * count) after)) buffer)
         → (r ≡ saved context count cells (length buffer)) × (last ≡ savedAfter context count cells buffer)
     number-saved buffer last r e = saved-by context count cells ok own after (room ok) over-own buffer last r e
-
--- fewer than 64 nodes in the cells of 64
-pub small-room : (context count : ℕ) (cells : List ℕ) → count < 64 → Accepted context count cells → nodeCells * count ≤ length (replicate {A = ℕ} (nodeCells * 64) 0)
-small-room context count cells h ok = rw (length-replicate {A = ℕ} (nodeCells * 64) 0) (omega arith)
-
--- and any in 20,480
-pub large-room : (context count : ℕ) (cells : List ℕ) → Accepted context count cells → nodeCells * count ≤ length (replicate {A = ℕ} (nodeCells * mostNodes) 0)
-large-room context count cells ok = let k = count-bounds context count cells ok in rw (length-replicate {A = ℕ} (nodeCells * mostNodes) 0) (omega arith)

@@ -8,6 +8,7 @@ ghost use lib.Dec.{ltb};
 ghost use lib.ListN.{length};
 ghost use Rattle.laws.specs.Puts.{Put};
 ghost use Rattle.tree.specs.Sizes.{nodeCells, mostNodes};
+ghost use Rattle.tree_rules.specs.Refusals.{Accepted};
 ghost use Rattle.file_bytes.specs.Bytes.{bytesOf, allBytes};
 ghost use Rattle.file_save.specs.Saves.{saved, savedAfter};
 ghost use Rattle.file_save.specs.Stores.{stored, storedAfter};
@@ -111,19 +112,38 @@ fn store(context: u16, count: u16, numbers: &[u16], file: &mut [u8]) -> Saved
     Saved::Bytes(end as u16)
 }
 
-// A table of fewer than 64 nodes, with an array that is quickly made for their numbering.
+// The tree of a node table as a file, with a lent array for its numbering. An accepted table has room in it.
+fn save_in(context: u16, count: u16, table: &[u16], own: &mut [u16], file: &mut [u8]) -> Saved
+    requires { ⌜ (Accepted context count (now table) → nodeCells * count ≤ length (now own)) ⌝ }
+    ensures { λ r. ⌜ r ≡ saved context count (now (table .entry)) (length (now (file .entry))) ⌝ }
+    ensures { λ r. ⌜ now (file .exit) ≡ savedAfter context count (now (table .entry)) (now (file .entry)) ⌝ }
+{
+    let refused = number(context, count, table, own);
+    if refused != 0 {
+        return Saved::Refused(refused);
+    }
+    let cells = sizes::NODE_CELLS * (count as usize);
+    store(context, count, &own[..cells], file)
+}
+
+// The same for fewer than 64 nodes, with an array that is quickly made.
 fn save_small(context: u16, count: u16, table: &[u16], file: &mut [u8]) -> Saved
     requires { ⌜ count < 64 ⌝ }
     ensures { λ r. ⌜ r ≡ saved context count (now (table .entry)) (length (now (file .entry))) ⌝ }
     ensures { λ r. ⌜ now (file .exit) ≡ savedAfter context count (now (table .entry)) (now (file .entry)) ⌝ }
 {
     let mut own = [0u16; sizes::NODE_CELLS * 64];
-    let refused = number(context, count, table, &mut own);
-    if refused != 0 {
-        return Saved::Refused(refused);
-    }
-    let cells = sizes::NODE_CELLS * (count as usize);
-    store(context, count, &own[..cells], file)
+    save_in(context, count, table, &mut own, file)
+}
+
+// The same for fewer than 512 nodes.
+fn save_medium(context: u16, count: u16, table: &[u16], file: &mut [u8]) -> Saved
+    requires { ⌜ count < 512 ⌝ }
+    ensures { λ r. ⌜ r ≡ saved context count (now (table .entry)) (length (now (file .entry))) ⌝ }
+    ensures { λ r. ⌜ now (file .exit) ≡ savedAfter context count (now (table .entry)) (now (file .entry)) ⌝ }
+{
+    let mut own = [0u16; sizes::NODE_CELLS * 512];
+    save_in(context, count, table, &mut own, file)
 }
 
 // The same for any count.
@@ -132,12 +152,7 @@ fn save_large(context: u16, count: u16, table: &[u16], file: &mut [u8]) -> Saved
     ensures { λ r. ⌜ now (file .exit) ≡ savedAfter context count (now (table .entry)) (now (file .entry)) ⌝ }
 {
     let mut own = [0u16; sizes::NODE_CELLS * (sizes::MOST_NODES as usize)];
-    let refused = number(context, count, table, &mut own);
-    if refused != 0 {
-        return Saved::Refused(refused);
-    }
-    let cells = sizes::NODE_CELLS * (count as usize);
-    store(context, count, &own[..cells], file)
+    save_in(context, count, table, &mut own, file)
 }
 
 // The tree of a node table as a file in a lent buffer, its nodes numbered from the root on: how many bytes it has, or the first refusal that applies.
@@ -147,6 +162,9 @@ pub fn save(context: u16, count: u16, table: &[u16], file: &mut [u8]) -> Saved
 {
     if count < 64 {
         return save_small(context, count, table, file);
+    }
+    if count < 512 {
+        return save_medium(context, count, table, file);
     }
     save_large(context, count, table, file)
 }

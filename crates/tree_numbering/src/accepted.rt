@@ -108,6 +108,16 @@ fn fill_small(table: &[u16], count: u16, out: &mut [u16])
     fill(table, count, &mut spans, &mut numbers, out);
 }
 
+// The same for fewer than 512 nodes.
+fn fill_medium(table: &[u16], count: u16, out: &mut [u16])
+    requires { ⌜ Accepted 0 count (now table) × (count < 512) × (nodeCells * count ≤ length (now out)) ⌝ }
+    ensures { λ _. ⌜ now (out .exit) ≡ over (numbered (treeAt (now (table .entry)) count 1)) (now (out .entry)) ⌝ }
+{
+    let mut spans = [0u16; 512];
+    let mut numbers = [0u16; 512];
+    fill(table, count, &mut spans, &mut numbers, out);
+}
+
 // The same for any accepted table.
 fn fill_large(table: &[u16], count: u16, out: &mut [u16])
     requires { ⌜ Accepted 0 count (now table) × (nodeCells * count ≤ length (now out)) ⌝ }
@@ -132,6 +142,10 @@ pub fn number(context: u16, count: u16, table: &[u16], out: &mut [u16]) -> u16
     }
     if count < 64 {
         fill_small(table, count, out);
+        return 0;
+    }
+    if count < 512 {
+        fill_medium(table, count, out);
         return 0;
     }
     fill_large(table, count, out);
