@@ -44,7 +44,7 @@
 //! ```
 //!
 //! Names and literals travel beside the tree, in order of occurrence; tree files hold
-//! none. Nests that double the time of each level in prettyplease do not here.
+//! none. Nests that double prettyplease's work with each level do not double it here.
 
 mod binding;
 pub mod boundary;
