@@ -9,7 +9,7 @@ use Rattle.token_grammar.specs.Grammar.{NONE, fits}
 use Rattle.token_grammar.specs.Commas.{withoutCommas, CommasPut}
 use Rattle.token_plain.specs.Reads.{Reads}
 
--- Two parse trees that differ at most in which of their non-empty lists end in a comma: if the grammar allows one, their token lists have the same readings.
+-- Two parse trees that differ at most in which of their non-empty lists end in a comma: if the grammar allows one, each reading of its token list is one of the other's.
 abbrev pub SameReadings : Type 0
 SameReadings = (d e : Expr one) → fits NONE d → withoutCommas d ≡ withoutCommas e → (t : Tree) → Reads (codesOf (write d [])) t → Reads (codesOf (write e [])) t
 
