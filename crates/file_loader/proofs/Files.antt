@@ -124,7 +124,7 @@ body-length file e = go (numbersOf (nodeCells * countIn file) (bytesAfter (heade
     go broken p q = true-not-false q
     go (numbers ns bytes) p q = numbers-length (nodeCells * countIn file) (bytesAfter (header file)) ns bytes p
 
--- its nodes are at most 4,096 and have five cells each, and they are an accepted table
+-- its nodes are at most 4,096 and have six cells each, and they are an accepted table
 pub accepted-cells : (file : List ℕ) (lent : ℕ) → fileRefusal file lent ≡ 0 → (countIn file ≤ mostNodes) × (length (cellsIn file) ≡ nodeCells * countIn file) × Table (contextIn file) (countIn file) (cellsIn file)
 unfolding fileRefusal refusal3 refusal5
 accepted-cells file lent e =

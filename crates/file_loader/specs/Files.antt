@@ -12,7 +12,7 @@ use Rattle.file_loader.specs.declared.Loaded.{Loaded}
 use Rattle.file_loader.specs.declared.Loaded.the-variants.{Refused, Accepted}
 use Rattle.file_loader.specs.Several.{Numbers, numbersOf, isBroken, valuesIn, bytesAfter}
 
--- ---- "The header is context and count; then five numbers a node: form, attributes, detail, first, second."
+-- ---- "The header is context and count; then five numbers a node: form, attributes, detail, first, second." Document 02, Paper 4: "Tree files then have six numbers a node"
 
 unfoldable pub header : List ℕ → Numbers
 header file = numbersOf 2 file
@@ -26,7 +26,7 @@ countIn file = getD (valuesIn (header file)) 1 0
 unfoldable pub body : List ℕ → Numbers
 body file = numbersOf (nodeCells * countIn file) (bytesAfter (header file))
 
--- the five numbers of each node
+-- the six numbers of each node
 unfoldable pub cellsIn : List ℕ → List ℕ
 cellsIn file = valuesIn (body file)
 

@@ -26,7 +26,7 @@ use Rattle.file_bytes.proofs.Several.{all-append, all-most, all-read}
 use Rattle.file_save.specs.Saves.{file, fileOf, saved, savedAfter}
 use Rattle.file_save.specs.Statement.{Promise, FilePromise}
 use Rattle.file_save.proofs.Replies.{saved-is, after-is}
-use Rattle.file_save.proofs.Small.{small-cells}
+use Rattle.file_save.proofs.Small.{small-cells, few-bytes}
 
 module _ (context count : ℕ) (cells : List ℕ) (ok : Accepted context count cells) where
   abbrev tree : Tree
@@ -62,12 +62,12 @@ module _ (context count : ℕ) (cells : List ℕ) (ok : Accepted context count c
   parts = rw is-size (all-append head (numbered tree))
 
   pub short-enough : length (fileOf context count cells) ≤ mostFileBytes
+  unfolding numbered
   short-enough =
       let s = is-size in
       let k = bounds in
       let m = all-most head in
-      let n = all-most (numbered tree) in
-      let l = length-numbered tree in
+      let n = few-bytes tree 1 (omega arith) (accepted-sound context count cells ok 1 .not6) in
       let e = ap length parts ∙ length-append (allBytes head) (allBytes (numbered tree)) in
       omega arith
 

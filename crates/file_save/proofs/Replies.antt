@@ -21,11 +21,13 @@ use Rattle.tree_numbering.specs.Accepting.{numberingRefusal, numberedAfter}
 use Rattle.tree_numbering.proofs.Holds.{length-numbered}
 use Rattle.tree_numbering.proofs.Accepting.{is-accepted, is-over, is-refusal}
 use Rattle.tree_numbering.proofs.Sizes.{size-accepted}
+use Rattle.tree_sound.proofs.Accepts.{accepted-sound}
 use Rattle.file_bytes.specs.Bytes.{allBytes}
 use Rattle.file_save.specs.declared.Saved.{Saved}
 use Rattle.file_save.specs.declared.Saved.the-variants.{Refused}
 use Rattle.file_save.specs.Saves.{file, fileOf, saveRefusal12, saveRefusal, saved, savedAfter}
-use Rattle.file_save.specs.Stores.{stored, storedAfter}
+use Rattle.file_save.specs.Stores.{nodeBytes, stored, storedAfter}
+use Rattle.file_save.proofs.Small.{few-bytes}
 
 module _ (context count : ℕ) (cells : List ℕ) where
   -- ---- a table that is refused
@@ -87,12 +89,22 @@ module _ (context count : ℕ) (cells : List ℕ) where
       part-length : length (take (nodeCells * count) after) ≡ nodeCells * count
       part-length = length-take-le (nodeCells * count) after own-room
 
-      part-few : length (take (nodeCells * count) after) ≤ nodeCells * mostNodes
-      part-few = let l = part-length in let k = count-bounds context count cells ok in omega arith
+      part-is : take (nodeCells * count) after ≡ numbered tree
+      unfolding over
+      part-is = rw are-cells (take-at (numbered tree) _ (nodeCells * count) long)
+
+      part-few : (length (take (nodeCells * count) after) ≤ nodeCells * mostNodes) × (length (allBytes (take (nodeCells * count) after)) ≤ nodeBytes * mostNodes)
+      unfolding numbered
+      part-few =
+          let l = part-length in
+          let s = is-size in
+          let k = count-bounds context count cells ok in
+          let b = few-bytes tree 1 (omega arith) (accepted-sound context count cells ok 1 .not6) in
+          (omega arith, rw part-is (omega arith))
 
       is-file : allBytes (context ∷ count ∷ take (nodeCells * count) after) ≡ fileOf context count cells
-      unfolding file over
-      is-file = rw (are-cells, take-at (numbered tree) _ (nodeCells * count) long, is-size)
+      unfolding file
+      is-file = rw (part-is, is-size)
 
       saved-by : (buffer last : List ℕ) (r : Saved)
           → (r ≡ stored (allBytes (context ∷ count ∷ take (nodeCells * count) after)) (length buffer)) × (last ≡ storedAfter (allBytes (context ∷ count ∷ take (nodeCells * count) after)) buffer)
@@ -120,7 +132,7 @@ module _ (context count : ℕ) (cells own : List ℕ) (room : Accepted context c
     pub number-length : nodeCells * count ≡ length (take (nodeCells * count) after)
     number-length = sym (part-length context count cells ok own after (room ok) over-own)
 
-    pub number-few : length (take (nodeCells * count) after) ≤ nodeCells * mostNodes
+    pub number-few : (length (take (nodeCells * count) after) ≤ nodeCells * mostNodes) × (length (allBytes (take (nodeCells * count) after)) ≤ nodeBytes * mostNodes)
     number-few = part-few context count cells ok own after (room ok) over-own
 
     pub number-saved : (buffer last : List ℕ) (r : Saved)

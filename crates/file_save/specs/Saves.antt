@@ -13,7 +13,7 @@ use Rattle.file_bytes.specs.Bytes.{allBytes}
 use Rattle.file_save.specs.declared.Saved.{Saved}
 use Rattle.file_save.specs.declared.Saved.the-variants.{Refused, Bytes}
 
--- "a writer of tree files that numbers parents before operands and the first operand's nodes before the second's" (`numbered`): "The header is context and count; then five numbers a node"
+-- "a writer of tree files that numbers parents before operands and the first operand's nodes before the second's" (`numbered`): "The header is context and count; then five numbers a node", six by Paper 4
 unfoldable pub file : ℕ → Tree → List ℕ
 file context t = allBytes (context ∷ size t ∷ numbered t)
 

@@ -11,7 +11,7 @@ ghost use Rattle.tree.specs.Sizes.{nodeCells, mostNodes};
 ghost use Rattle.tree_rules.specs.Refusals.{Accepted};
 ghost use Rattle.file_bytes.specs.Bytes.{bytesOf, allBytes};
 ghost use Rattle.file_save.specs.Saves.{saved, savedAfter};
-ghost use Rattle.file_save.specs.Stores.{stored, storedAfter};
+ghost use Rattle.file_save.specs.Stores.{nodeBytes, stored, storedAfter};
 
 // What saving answers.
 pub enum Saved {
@@ -99,7 +99,7 @@ fn is_short(context: u16, count: u16, numbers: &[u16], lent: usize) -> bool
 
 // A context, a count and the numbers of the nodes as a file, where the buffer has room for it. Nothing is stored before that is known.
 fn store(context: u16, count: u16, numbers: &[u16], file: &mut [u8]) -> Saved
-    requires { ⌜ length (now numbers) ≤ nodeCells * mostNodes ⌝ }
+    requires { ⌜ (length (now numbers) ≤ nodeCells * mostNodes) × (length (allBytes (now numbers)) ≤ nodeBytes * mostNodes) ⌝ }
     ensures { λ r. ⌜ r ≡ stored (allBytes (context ∷ count ∷ now (numbers .entry))) (length (now (file .entry))) ⌝ }
     ensures { λ r. ⌜ now (file .exit) ≡ storedAfter (allBytes (context ∷ count ∷ now (numbers .entry))) (now (file .entry)) ⌝ }
 {

@@ -1,8 +1,7 @@
-// Reads a token list on standard input, a number of seven-bit groups for each token, and prints how many nodes its
-// reading has and the five numbers of each, or the number of the refusal.
-//
-// A code is at most 45, and so one byte. A byte above 45 begins a number above 45 or a malformed one, and both are
-// refused by 14, which is also the reader's answer to a code above 45. So each byte is handed to the reader as a code.
+// Reads a token list on standard input, two numbers of seven-bit groups for each token, its code and its symbol, and
+// prints how many nodes its reading has and the six numbers of each, or the number of the refusal.
+use file_numbers::Number;
+use file_numbers::number_at;
 use libc::STDIN_FILENO;
 use libc::STDOUT_FILENO;
 use text::put_no;
@@ -14,13 +13,14 @@ ghost use mathlib.Core.Path.{_≡_};
 ghost use Prim.Native.Nat.{_+_, _*_, _≤_};
 ghost use lib.ListN.{length, take};
 ghost use Rattle.io.specs.Counts.{Counts};
-ghost use Rattle.laws.specs.Lists.{over};
 ghost use Rattle.tree.specs.Sizes.{nodeCells, mostNodes, mostTokens};
 ghost use Rattle.text.specs.Growth.{Grown, Added};
-ghost use Rattle.reading.specs.Text.{nodesText, tableText, Printed};
+ghost use Rattle.reading.specs.Text.{nodesText, tableText, Answered, Printed};
+ghost use Rattle.reading.specs.Gathering.{Gathered};
 
-// One byte more than the longest token list, so that a longer one shows: the reader refuses it by 14.
-const FILE: usize = sizes::MOST_TOKENS + 1;
+// One byte more than the longest token list, so that a longer one shows: of each token one byte for its code and three
+// for its symbol. What is longer has a code of two bytes, more than 24,576 tokens or a malformed number, all 14.
+const FILE: usize = 4 * sizes::MOST_TOKENS + 1;
 
 // The cells of the most nodes.
 const CELLS: usize = sizes::NODE_CELLS * (sizes::MOST_NODES as usize);
@@ -31,19 +31,30 @@ const WIDTH: u16 = sizes::NODE_CELLS as u16;
 // The most bytes that are printed: a first line of 9, and for each node six for its number and for each of its cells.
 const TEXT: usize = 9 + 6 * (sizes::NODE_CELLS + 1) * (sizes::MOST_NODES as usize);
 
-// The bytes as codes, at the start of `codes`.
-fn widen(file: &[u8], codes: &mut [u16])
-    requires { ⌜ length (now file) ≤ length (now codes) ⌝ }
-    ensures { λ r. ⌜ now (codes .exit) ≡ over (now (file .entry)) (now (codes .entry)) ⌝ }
+// The numbers of a file, at the start of `cells`: how many they are, or one more than there are bytes where one is
+// malformed.
+fn gather(file: &[u8], cells: &mut [u16]) -> usize
+    requires { ⌜ length (now file) ≤ length (now cells) ⌝ }
+    ensures { λ r. ⌜ Gathered (now (file .entry)) (now (cells .entry)) (now (cells .exit)) r ⌝ }
 {
-    let mut done = 0;
-    while done < file.len() {
-        codes[done] = file[done] as u16;
-        done += 1;
+    let mut at = 0;
+    let mut count = 0;
+    while at < file.len() {
+        match number_at(file, at) {
+            Number::Malformed => {
+                return file.len() + 1;
+            }
+            Number::Value(value, next) => {
+                cells[count] = value;
+                count += 1;
+                at = next;
+            }
+        }
     }
+    count
 }
 
-// The lines of all nodes: of each its number, and its five numbers.
+// The lines of all nodes: of each its number, and its six numbers.
 fn put_nodes(out: &mut [u8], end: usize, count: u16, table: &[u16]) -> usize
     ensures { λ r. ⌜ Grown (now (out .entry)) end (nodesText (now (table .entry)) count) (now (out .exit)) r ⌝ }
 {
@@ -65,13 +76,13 @@ fn put_table(out: &mut [u8], count: u16, table: &[u16]) -> usize
     put_nodes(out, end, count, table)
 }
 
-// What is printed for codes, at the start of `out`.
-fn put_reply(codes: &[u16], out: &mut [u8; TEXT]) -> usize
+// What is printed for the cells of tokens, at the start of `out`.
+fn put_reply(cells: &[u16], out: &mut [u8; TEXT]) -> usize
     ensures { λ r. ⌜ Counts r (now (out .exit)) ⌝ }
-    ensures { λ r. ⌜ Printed (now (codes .entry)) (take r (now (out .exit))) ⌝ }
+    ensures { λ r. ⌜ Answered (now (cells .entry)) (take r (now (out .exit))) ⌝ }
 {
     let mut table = [0u16; CELLS];
-    match token_reader::read(codes, &mut table) {
+    match token_reader::read(cells, &mut table) {
         Reply::Refused(why) => put_no(out, why),
         Reply::Nodes(count) => put_table(out, count, &table),
     }
@@ -79,13 +90,16 @@ fn put_reply(codes: &[u16], out: &mut [u8; TEXT]) -> usize
 
 // What is printed for a file, at the start of `out`.
 fn report(file: &[u8], out: &mut [u8; TEXT]) -> usize
-    requires { ⌜ length (now file) ≤ mostTokens + 1 ⌝ }
+    requires { ⌜ length (now file) ≤ 4 * mostTokens + 1 ⌝ }
     ensures { λ r. ⌜ Counts r (now (out .exit)) ⌝ }
     ensures { λ r. ⌜ Printed (now (file .entry)) (take r (now (out .exit))) ⌝ }
 {
-    let mut codes = [0u16; FILE];
-    widen(file, &mut codes);
-    put_reply(&codes[..file.len()], out)
+    let mut cells = [0u16; FILE];
+    let n = gather(file, &mut cells);
+    if n > file.len() {
+        return put_no(out, 14);
+    }
+    put_reply(&cells[..n], out)
 }
 
 fn main() {

@@ -15,7 +15,7 @@ use file_order::Order;
 use file_save::Saved;
 ghost use Prim.Native.Nat.{_*_, _≤_};
 ghost use lib.ListN.{length};
-ghost use Rattle.tree.specs.Sizes.{nodeCells, mostNodes};
+ghost use Rattle.tree.specs.Sizes.{tokenCells, mostTokens};
 
 // ---- saving
 
@@ -30,7 +30,7 @@ fn save_parts(numbers: &[u16], n: usize, own: &mut [u8], lent: usize) -> Saved
 
 // The answer to the numbers in the first `size` bytes; where there are not even two, a refusal that no record has.
 fn save(file: &[u8; FILE], size: usize, own: &mut [u8; TABLE], lent: usize) -> Saved
-    requires { ⌜ size ≤ 70_000 ⌝ }
+    requires { ⌜ size ≤ 100_000 ⌝ }
     requires { ⌜ lent ≤ 65_535 ⌝ }
 {
     let mut numbers = [0u16; CODES];
@@ -52,7 +52,7 @@ fn saved(answer: Saved, h: Header) -> bool {
 
 // Whether a table is saved as recorded.
 pub(crate) fn saves(file: &[u8; FILE], h: Header, bytes: &[u8; BYTES], s: Sizes) -> bool
-    requires { ⌜ (s .file ≤ 70_000) × (s .lent ≤ 65_535) × (s .written ≤ 2 * nodeCells * mostNodes) ⌝ }
+    requires { ⌜ (s .file ≤ 100_000) × (s .lent ≤ 65_535) × (s .written ≤ 2 * tokenCells * mostTokens) ⌝ }
 {
     let mut own = [BYTE; TABLE];
     let answer = save(file, s.file, &mut own, s.lent);
@@ -73,7 +73,7 @@ fn compare_parts(file: &[u8], first: usize, size: usize) -> Compared
 // The answer to the first `size` bytes: the length of the first file, and both files; a refusal that no record has where
 // there are fewer.
 fn compare(file: &[u8; FILE], size: usize) -> Compared
-    requires { ⌜ size ≤ 70_000 ⌝ }
+    requires { ⌜ size ≤ 100_000 ⌝ }
 {
     let long = record::long(
         record::pair(file[0], file[1]),
@@ -97,7 +97,7 @@ fn number(order: Order) -> u16 {
 
 // Whether two files stand to each other as recorded.
 pub(crate) fn orders(file: &[u8; FILE], h: Header, size: usize) -> bool
-    requires { ⌜ size ≤ 70_000 ⌝ }
+    requires { ⌜ size ≤ 100_000 ⌝ }
 {
     match compare(file, size) {
         Compared::Refused(why) => record::refuses(h, why),

@@ -2,13 +2,13 @@
 use crate::record;
 use tree::sizes;
 ghost use Prim.Native.Nat.{_*_, _≤_};
-ghost use Rattle.tree.specs.Sizes.{nodeCells, mostNodes};
+ghost use Rattle.tree.specs.Sizes.{tokenCells, mostTokens};
 
 // The cells of each lent buffer.
 pub const TABLE: usize = 65_535;
 
-// The most cells that a reply writes: those of the most nodes.
-pub const CELLS: usize = sizes::NODE_CELLS * (sizes::MOST_NODES as usize);
+// The most cells that a reply writes: those of the most tokens, twice those of the most nodes.
+pub const CELLS: usize = sizes::TOKEN_CELLS * sizes::MOST_TOKENS;
 
 // Their bytes.
 pub const BYTES: usize = 2 * CELLS;
@@ -41,7 +41,7 @@ pub(crate) fn keeps(table: &[u16; TABLE], from: usize) -> bool {
 
 // Whether the first `n` cells are those that are recorded in `cells`.
 fn same(table: &[u16; TABLE], cells: &[u8; BYTES], n: usize) -> bool
-    requires { ⌜ n ≤ nodeCells * mostNodes ⌝ }
+    requires { ⌜ n ≤ tokenCells * mostTokens ⌝ }
 {
     let mut i = 0;
     while i < n {
@@ -55,7 +55,7 @@ fn same(table: &[u16; TABLE], cells: &[u8; BYTES], n: usize) -> bool
 
 // The same, and whether all others keep the pattern.
 pub(crate) fn written(table: &[u16; TABLE], cells: &[u8; BYTES], n: usize) -> bool
-    requires { ⌜ n ≤ nodeCells * mostNodes ⌝ }
+    requires { ⌜ n ≤ tokenCells * mostTokens ⌝ }
 {
     same(table, cells, n) && keeps(table, n)
 }
@@ -65,7 +65,7 @@ pub(crate) const BYTE: u8 = 165;
 
 // Whether the first `n` bytes are those that are recorded in `bytes`, and all others are as before.
 pub(crate) fn saved(file: &[u8; TABLE], bytes: &[u8; BYTES], n: usize) -> bool
-    requires { ⌜ n ≤ 2 * nodeCells * mostNodes ⌝ }
+    requires { ⌜ n ≤ 2 * tokenCells * mostTokens ⌝ }
 {
     let mut i = 0;
     while i < TABLE {
@@ -80,7 +80,7 @@ pub(crate) fn saved(file: &[u8; TABLE], bytes: &[u8; BYTES], n: usize) -> bool
 
 // Whether the first `n` cells are zeros.
 pub(crate) fn zeros(table: &[u16; TABLE], n: usize) -> bool
-    requires { ⌜ n ≤ nodeCells * mostNodes ⌝ }
+    requires { ⌜ n ≤ tokenCells * mostTokens ⌝ }
 {
     let mut i = 0;
     while i < n {

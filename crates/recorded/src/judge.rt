@@ -11,7 +11,7 @@ use crate::record::Start;
 use crate::trees;
 use tree::sizes;
 ghost use Prim.Native.Nat.{_*_, _≤_};
-ghost use Rattle.tree.specs.Sizes.{nodeCells, mostNodes};
+ghost use Rattle.tree.specs.Sizes.{tokenCells, mostTokens};
 
 // What records hold.
 pub enum Kind {
@@ -57,7 +57,7 @@ fn bytes_of(kind: Kind, reply: u16, count: usize) -> usize
 
 // Whether the answer to a record is the recorded one.
 fn agrees(kind: Kind, file: &[u8; FILE], h: Header, cells: &[u8; BYTES], s: Sizes) -> bool
-    requires { ⌜ (s .file ≤ 70_000) × (s .lent ≤ 65_535) × (s .written ≤ 2 * nodeCells * mostNodes) ⌝ }
+    requires { ⌜ (s .file ≤ 100_000) × (s .lent ≤ 65_535) × (s .written ≤ 2 * tokenCells * mostTokens) ⌝ }
 {
     match kind {
         Kind::Files => trees::loads(file, h, cells, s),

@@ -9,14 +9,14 @@ use crate::record::Sizes;
 use token_reader::Reply;
 ghost use Prim.Native.Nat.{_*_, _≤_};
 ghost use lib.ListN.{length};
-ghost use Rattle.tree.specs.Sizes.{nodeCells, mostNodes};
+ghost use Rattle.tree.specs.Sizes.{tokenCells, mostTokens};
 
-// The most codes: two bytes of a file each.
-pub(crate) const CODES: usize = 35_000;
+// The most cells of a list: two bytes of a file each.
+pub(crate) const CODES: usize = 50_000;
 
 // The codes that stand in the first `2 * n` bytes.
 pub(crate) fn gather(file: &[u8; FILE], codes: &mut [u16], n: usize)
-    requires { ⌜ n ≤ 35_000 ⌝ }
+    requires { ⌜ n ≤ 50_000 ⌝ }
     requires { ⌜ n ≤ length (now codes) ⌝ }
 {
     let mut i = 0;
@@ -36,7 +36,7 @@ fn read_parts(codes: &[u16], n: usize, table: &mut [u16], lent: usize) -> Reply
 
 // The answer to the codes in the first `size` bytes.
 fn read(file: &[u8; FILE], size: usize, table: &mut [u16; TABLE], lent: usize) -> Reply
-    requires { ⌜ size ≤ 70_000 ⌝ }
+    requires { ⌜ size ≤ 100_000 ⌝ }
     requires { ⌜ lent ≤ 65_535 ⌝ }
 {
     let mut codes = [0u16; CODES];
@@ -55,7 +55,7 @@ fn found(answer: Reply, h: Header) -> bool {
 
 // Whether a token list reads as recorded.
 pub(crate) fn reads(file: &[u8; FILE], h: Header, cells: &[u8; BYTES], s: Sizes) -> bool
-    requires { ⌜ (s .file ≤ 70_000) × (s .lent ≤ 65_535) × (s .written ≤ 2 * nodeCells * mostNodes) ⌝ }
+    requires { ⌜ (s .file ≤ 100_000) × (s .lent ≤ 65_535) × (s .written ≤ 2 * tokenCells * mostTokens) ⌝ }
 {
     let mut table = [0u16; TABLE];
     cells::fill(&mut table);

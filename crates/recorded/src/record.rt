@@ -2,7 +2,7 @@
 ghost use Prim.Native.Nat.{_≤_};
 
 // The bytes of the longest file.
-pub const FILE: usize = 70_000;
+pub const FILE: usize = 100_000;
 
 // What a header says, with its numbers as they stand there.
 pub struct Header {

@@ -12,7 +12,7 @@ use token_writer::Written;
 use tree::sizes;
 ghost use Prim.Native.Nat.{_*_, _≤_};
 ghost use lib.ListN.{length};
-ghost use Rattle.tree.specs.Sizes.{nodeCells, mostNodes};
+ghost use Rattle.tree.specs.Sizes.{tokenCells, mostTokens};
 
 // The answer to the first `size` bytes of a file, with the first `lent` cells of a table lent.
 fn load_parts(file: &[u8], size: usize, table: &mut [u16], lent: usize) -> Loaded
@@ -24,7 +24,7 @@ fn load_parts(file: &[u8], size: usize, table: &mut [u16], lent: usize) -> Loade
 
 // The same with the arrays as they stand in what follows.
 fn load(file: &[u8; FILE], size: usize, table: &mut [u16; TABLE], lent: usize) -> Loaded
-    requires { ⌜ size ≤ 70_000 ⌝ }
+    requires { ⌜ size ≤ 100_000 ⌝ }
     requires { ⌜ lent ≤ 65_535 ⌝ }
 {
     load_parts(file, size, table, lent)
@@ -42,7 +42,7 @@ fn loaded(answer: Loaded, h: Header) -> bool {
 
 // Whether a file loads as recorded.
 pub(crate) fn loads(file: &[u8; FILE], h: Header, cells: &[u8; BYTES], s: Sizes) -> bool
-    requires { ⌜ (s .file ≤ 70_000) × (s .lent ≤ 65_535) × (s .written ≤ 2 * nodeCells * mostNodes) ⌝ }
+    requires { ⌜ (s .file ≤ 100_000) × (s .lent ≤ 65_535) × (s .written ≤ 2 * tokenCells * mostTokens) ⌝ }
 {
     let mut table = [0u16; TABLE];
     cells::fill(&mut table);
@@ -85,7 +85,7 @@ fn decide(
     scratch: &mut [u16; TABLE],
     lent: usize,
 ) -> u16
-    requires { ⌜ size ≤ 70_000 ⌝ }
+    requires { ⌜ size ≤ 100_000 ⌝ }
     requires { ⌜ lent ≤ 65_535 ⌝ }
 {
     let mut table = [0u16; TABLE];
@@ -95,7 +95,7 @@ fn decide(
 
 // Whether the rows of a file are as recorded, the scratch of as many nodes being cleared.
 pub(crate) fn decides(file: &[u8; FILE], reply: u16, cells: &[u8; BYTES], s: Sizes) -> bool
-    requires { ⌜ (s .file ≤ 70_000) × (s .lent ≤ 65_535) × (s .written ≤ 2 * nodeCells * mostNodes) ⌝ }
+    requires { ⌜ (s .file ≤ 100_000) × (s .lent ≤ 65_535) × (s .written ≤ 2 * tokenCells * mostTokens) ⌝ }
 {
     let mut rows = [0u16; TABLE];
     cells::fill(&mut rows);
@@ -127,7 +127,7 @@ fn write_loaded(loaded: Loaded, table: &[u16; TABLE], tokens: &mut [u16], lent: 
 
 // The writer's answer for a file, with `lent` cells of tokens lent.
 fn write(file: &[u8; FILE], size: usize, tokens: &mut [u16; TABLE], lent: usize) -> Written
-    requires { ⌜ size ≤ 70_000 ⌝ }
+    requires { ⌜ size ≤ 100_000 ⌝ }
     requires { ⌜ lent ≤ 65_535 ⌝ }
 {
     let mut table = [0u16; TABLE];
@@ -145,7 +145,7 @@ fn wrote(answer: Written, h: Header) -> bool {
 
 // Whether the tokens of a file are as recorded.
 pub(crate) fn writes(file: &[u8; FILE], h: Header, cells: &[u8; BYTES], s: Sizes) -> bool
-    requires { ⌜ (s .file ≤ 70_000) × (s .lent ≤ 65_535) × (s .written ≤ 2 * nodeCells * mostNodes) ⌝ }
+    requires { ⌜ (s .file ≤ 100_000) × (s .lent ≤ 65_535) × (s .written ≤ 2 * tokenCells * mostTokens) ⌝ }
 {
     let mut tokens = [0u16; TABLE];
     cells::fill(&mut tokens);

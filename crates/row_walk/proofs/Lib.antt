@@ -5,3 +5,4 @@ pub mod Promises
 pub mod Local
 pub mod Below
 pub mod Paths
+pub mod Erase

@@ -3,7 +3,7 @@ use mathlib.Core.Path.{_≡_, refl}
 use mathlib.Core.Bool.{true}
 use Rattle.laws.specs.Choice.{pick, lookup}
 use Rattle.laws.specs.Each.{some}
-use Rattle.tree.specs.Forms.{classOf, highestAttributes, details, highestDetail, allowed}
+use Rattle.tree.specs.Forms.{classOf, highestAttributes, details, highestDetail, symbols, highestSymbol, allowed}
 use Rattle.tree_places.specs.Places.{firstPlaces, firstPlace, secondPlaces, secondPlace, wrongClass, wrongList, wrongItem, wrongNext, wrongAt, badOperands}
 use Rattle.tree_rules.specs.Refusals.{refusal3, refusal4, badNumbers, refusal6, refusal7, misplaced, badOrder, owners, badOwner, refusal8, empty, refusal9, plainBlock, badOutput, refusal10, refusal11, firstOf, nodeRefusals, refusal}
 use Rattle.tree.specs.Table.{cellAt}
@@ -22,5 +22,5 @@ use Rattle.row_walk.specs.Walk.{contexts, contextNumbered, rowStored, pl
 use Rattle.row_walk.specs.Cases.{allHold, cases}
 
 pub promises : allHold cases ≡ true
-unfolding pick lookup some classOf highestAttributes details highestDetail allowed firstPlaces firstPlace secondPlaces secondPlace wrongClass wrongList wrongItem wrongNext wrongAt refusal3 refusal4 badNumbers refusal6 badOperands refusal7 misplaced badOrder owners badOwner refusal8 empty refusal9 plainBlock badOutput refusal10 refusal11 firstOf nodeRefusals refusal cellAt labelAt operandOf treeTo treeAt ownLevel levels follow walk atRoot operators ofBinop prefixAttrs ofLines closedBy precedenceOf commaLines requiresComma requiresSemi lastTypeInPath pathLines trailingPath labelLines leadingLabel parenthesize effective leftOfBinary scanLeftLines scanLeft binds consumes consumeBy loose scanned rightBy scanRight rightmostPrecedence bailsOut leftmostPrecedence canBeginExpr canBeginGenerics leftNeedsGroup rightNeedsGroup binaryLeft binaryRight callNeedsGroup firstLines handsFirst secondLines handsSecond groupedBy ungrouped neither ofBits flagsOf outerPair innerLines expressionRow rowOf ownContext rowsOf contexts contextNumbered rowStored placed decideRefusal12 decided rowsAfter assign binary prefix range jump bareJump lets closed scanLines isLet isStruct isBareReturn isOpenEnded isPlainBlock isBareJump isOpenAhead isCastToPath
+unfolding pick lookup some classOf highestAttributes details highestDetail symbols highestSymbol allowed firstPlaces firstPlace secondPlaces secondPlace wrongClass wrongList wrongItem wrongNext wrongAt refusal3 refusal4 badNumbers refusal6 badOperands refusal7 misplaced badOrder owners badOwner refusal8 empty refusal9 plainBlock badOutput refusal10 refusal11 firstOf nodeRefusals refusal cellAt labelAt operandOf treeTo treeAt ownLevel levels follow walk atRoot operators ofBinop prefixAttrs ofLines closedBy precedenceOf commaLines requiresComma requiresSemi lastTypeInPath pathLines trailingPath labelLines leadingLabel parenthesize effective leftOfBinary scanLeftLines scanLeft binds consumes consumeBy loose scanned rightBy scanRight rightmostPrecedence bailsOut leftmostPrecedence canBeginExpr canBeginGenerics leftNeedsGroup rightNeedsGroup binaryLeft binaryRight callNeedsGroup firstLines handsFirst secondLines handsSecond groupedBy ungrouped neither ofBits flagsOf outerPair innerLines expressionRow rowOf ownContext rowsOf contexts contextNumbered rowStored placed decideRefusal12 decided rowsAfter assign binary prefix range jump bareJump lets closed scanLines isLet isStruct isBareReturn isOpenEnded isPlainBlock isBareJump isOpenAhead isCastToPath
 promises = refl

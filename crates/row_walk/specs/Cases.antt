@@ -53,9 +53,9 @@ allHold (k ∷ ks) = holds k && allHold ks
 
 -- ---- the trees
 
--- a node's five numbers before those of the nodes after it
+-- a node's numbers before those of the nodes after it. Document 02, Paper 4: "In the file of 01's listing each node gains a 0", the symbol
 abbrev n : ℕ → ℕ → ℕ → ℕ → ℕ → List ℕ → List ℕ
-n form attributes detail first second rest = form ∷ attributes ∷ detail ∷ first ∷ second ∷ rest
+n form attributes detail first second rest = form ∷ attributes ∷ detail ∷ first ∷ second ∷ 0 ∷ rest
 
 abbrev name : List ℕ → List ℕ
 name rest = n ExprPath 0 0 0 0 rest

@@ -71,7 +71,7 @@ fn lay_node(
     before: usize,
 )
     requires { ⌜ at ≤ 10_000_000 ⌝ }
-    requires { ⌜ to ≤ 95 ⌝ }
+    requires { ⌜ to ≤ 114 ⌝ }
     requires { ⌜ nodes ≤ 4 ⌝ }
     requires { ⌜ before ≤ 16 ⌝ }
 {
@@ -80,6 +80,7 @@ fn lay_node(
     cells[to + offsets::DETAIL] = byte(stems, at + offsets::DETAIL) as u16;
     cells[to + offsets::FIRST] = operand(byte(stems, at + offsets::FIRST), nodes, before) as u16;
     cells[to + offsets::SECOND] = operand(byte(stems, at + offsets::SECOND), nodes, before) as u16;
+    cells[to + offsets::SYMBOL] = byte(stems, at + offsets::SYMBOL) as u16;
 }
 
 // How many nodes a stem has.

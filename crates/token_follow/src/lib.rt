@@ -2,7 +2,7 @@
 use token_grammar::codes;
 use token_grammar::level;
 ghost use mathlib.Core.Path.{_≡_};
-ghost use Rattle.token_grammar.specs.Codes.{tokenOf};
+ghost use Rattle.token_grammar.specs.Codes.{signOf};
 ghost use Rattle.token_grammar.specs.Next.{nextOf, levelAt};
 ghost use Rattle.token_follow.specs.Follow.{goesOnBy};
 ghost use Rattle.token_follow.specs.Tables.{levelPast, beforeOf, barred};
@@ -22,7 +22,7 @@ fn level_past(code: u16) -> u16
 
 // The level of what a token makes that follows an expression.
 pub fn level_of(code: u16) -> u16
-    ensures { λ r. ⌜ r ≡ levelAt (nextOf (tokenOf code)) ⌝ }
+    ensures { λ r. ⌜ r ≡ levelAt (nextOf (signOf code)) ⌝ }
 {
     match code {
         codes::ADD..=codes::SUB => level::SUMS,
@@ -69,7 +69,7 @@ fn is_barred(named: bool, dotted: bool, code: u16) -> bool
 // Whether an expression of this level goes on with a token where the lowest level is `min`; `named` where its last token
 // is a type name, `dotted` where its last two are a dot and a name.
 pub fn goes_on(min: u16, level: u16, named: bool, dotted: bool, code: u16) -> bool
-    ensures { λ r. ⌜ r ≡ goesOnBy min level named dotted (nextOf (tokenOf code)) ⌝ }
+    ensures { λ r. ⌜ r ≡ goesOnBy min level named dotted (nextOf (signOf code)) ⌝ }
 {
     let made = level_of(code);
     if made < min {

@@ -21,7 +21,7 @@ isCastToName (member m a) = false
 isCastToName (try a) = false
 isCastToName (index a b) = false
 isCastToName (call a l) = false
-isCastToName (method a l) = false
+isCastToName (method y a l) = false
 
 -- The flag g says that `<` or `<<` stands straight after: there a cast that ends in a type name is too weak for any place.
 unfoldable pub strength : Bool → Expr one → ℕ
@@ -62,7 +62,7 @@ addPairs (member m a) g = member m (withPair (tooWeak (before postfixes) false a
 addPairs (try a) g = try (withPair (tooWeak (before postfixes) false a) false (addPairs a))
 addPairs (index a b) g = index (withPair (tooWeak (before postfixes) false a) false (addPairs a)) (addPairs b false)
 addPairs (call a l) g = call (withPair (tooWeakToCall a) false (addPairs a)) (addPairs l false)
-addPairs (method a l) g = method (withPair (tooWeak (before postfixes) false a) false (addPairs a)) (addPairs l false)
+addPairs (method y a l) g = method y (withPair (tooWeak (before postfixes) false a) false (addPairs a)) (addPairs l false)
 addPairs noArguments g = noArguments
 addPairs (arguments l) g = arguments (addPairs l false)
 addPairs (lastArgument comma a) g = lastArgument comma (addPairs a false)
@@ -85,7 +85,7 @@ Pair (member m a) g = PairAt (tooWeak (before postfixes) false a) false (Pair a)
 Pair (try a) g = PairAt (tooWeak (before postfixes) false a) false (Pair a)
 Pair (index a b) g = PairAt (tooWeak (before postfixes) false a) false (Pair a) ⊎ Pair b false
 Pair (call a l) g = PairAt (tooWeakToCall a) false (Pair a) ⊎ Pair l false
-Pair (method a l) g = PairAt (tooWeak (before postfixes) false a) false (Pair a) ⊎ Pair l false
+Pair (method y a l) g = PairAt (tooWeak (before postfixes) false a) false (Pair a) ⊎ Pair l false
 Pair noArguments g = ⊥
 Pair (arguments l) g = Pair l false
 Pair (lastArgument comma a) g = Pair a false
@@ -110,8 +110,8 @@ dropPair (index a b) g (inl q) = index (dropAt (tooWeak (before postfixes) false
 dropPair (index a b) g (inr q) = index (withPair (tooWeak (before postfixes) false a) false (addPairs a)) (dropPair b false q)
 dropPair (call a l) g (inl q) = call (dropAt (tooWeakToCall a) false (addPairs a) (Pair a) (dropPair a) q) (addPairs l false)
 dropPair (call a l) g (inr q) = call (withPair (tooWeakToCall a) false (addPairs a)) (dropPair l false q)
-dropPair (method a l) g (inl q) = method (dropAt (tooWeak (before postfixes) false a) false (addPairs a) (Pair a) (dropPair a) q) (addPairs l false)
-dropPair (method a l) g (inr q) = method (withPair (tooWeak (before postfixes) false a) false (addPairs a)) (dropPair l false q)
+dropPair (method y a l) g (inl q) = method y (dropAt (tooWeak (before postfixes) false a) false (addPairs a) (Pair a) (dropPair a) q) (addPairs l false)
+dropPair (method y a l) g (inr q) = method y (withPair (tooWeak (before postfixes) false a) false (addPairs a)) (dropPair l false q)
 dropPair noArguments g q = absurd q
 dropPair (arguments l) g q = arguments (dropPair l false q)
 dropPair (lastArgument comma a) g q = lastArgument comma (dropPair a false q)

@@ -11,8 +11,8 @@ closing-append true close r q = refl
 closing-append false close r q = refl
 
 type-append : {s : Sort} (t : Ty s) (r q : List Token) → writeType t (r ++ q) ≡ writeType t r ++ q
-type-append named r q = refl
-type-append (applied l) r q = ap (λ z. Name ∷ operator Lt ∷ z) (type-append l r q)
+type-append (named y) r q = refl
+type-append (applied y l) r q = ap (λ z. Name y ∷ operator Lt ∷ z) (type-append l r q)
 type-append (pointing p t) r q = ap (λ z. typePrefixToken p ∷ z) (type-append t r q)
 type-append (sign x) r q = refl
 type-append noTypes r q = refl
@@ -31,8 +31,8 @@ write-append (try a) r q = write-append a (Question ∷ r) q
 write-append (index a b) r q =
     ap (λ z. write a (LeftBracket ∷ z)) (write-append b (RightBracket ∷ r) q) ∙ write-append a (LeftBracket ∷ write b (RightBracket ∷ r)) q
 write-append (call a l) r q = ap (λ z. write a (LeftParen ∷ z)) (write-append l r q) ∙ write-append a (LeftParen ∷ write l r) q
-write-append (method a l) r q =
-    ap (λ z. write a (Dot ∷ Name ∷ LeftParen ∷ z)) (write-append l r q) ∙ write-append a (Dot ∷ Name ∷ LeftParen ∷ write l r) q
+write-append (method y a l) r q =
+    ap (λ z. write a (Dot ∷ Name y ∷ LeftParen ∷ z)) (write-append l r q) ∙ write-append a (Dot ∷ Name y ∷ LeftParen ∷ write l r) q
 write-append noArguments r q = refl
 write-append (arguments l) r q = write-append l r q
 write-append (lastArgument comma a) r q = ap (write a) (closing-append comma RightParen r q) ∙ write-append a (closing comma RightParen r) q

@@ -6,12 +6,11 @@ use mathlib.Core.Logic.{inl, inr}
 use Prim.Native.Nat.{zero, suc}
 use native.Mathlib.Omega.{arith}
 use lib.Dec.{eqb}
-use lib.ListN.{getD}
 use borrow.Author.Tests.{eq-eqb, ne-eqb}
 use Rattle.laws.specs.Choice.{pick, lookup}
 use Rattle.laws.proofs.Choice.{true-not-false}
-use Rattle.tree.specs.Sizes.{listEnd}
-use Rattle.token_grammar.specs.Tokens.{Operator, Lt, Gt, number, Token, operator, code, As, Name, Dot, LeftParen, RightParen, LeftBracket, RightBracket, Comma, Question, codesOf}
+use Rattle.token_grammar.specs.Codes.{codeAt}
+use Rattle.token_grammar.specs.Tokens.{Operator, Lt, Gt, number, Token, operator, code, As, Name, Dot, LeftParen, RightParen, LeftBracket, RightBracket, Comma, Question, cellsOf}
 use Rattle.token_grammar.specs.Types.{Sort, one, Ty, named, applied, pointing, sign, noTypes, types, lastType, moreTypes, typePrefixToken, typeSignToken, writeType, typeEndsInName}
 use Rattle.token_grammar.specs.Expressions.{Member, byName, byNumber, awaited, Expr, atom, paren, prefix, binary, cast, member, try, index, call, method, noArguments, arguments, lastArgument, moreArguments, atomToken, prefixToken, memberToken, write, kindOf, endsInTypeName, endsInDotName}
 use Rattle.token_grammar.specs.Grammar.{Context, NONE, fits}
@@ -34,11 +33,11 @@ kind-same (member m a) = refl
 kind-same (try a) = refl
 kind-same (index a b) = refl
 kind-same (call a l) = refl
-kind-same (method a l) = refl
+kind-same (method y a l) = refl
 
 type-end-same : (t : Ty one) → typeEndsInName (withoutTypeCommas t) ≡ typeEndsInName t
-type-end-same named = refl
-type-end-same (applied l) = refl
+type-end-same (named y) = refl
+type-end-same (applied y l) = refl
 type-end-same (pointing p t) = type-end-same t
 type-end-same (sign x) = refl
 
@@ -52,7 +51,7 @@ type-name-same (member m a) = refl
 type-name-same (try a) = refl
 type-name-same (index a b) = refl
 type-name-same (call a l) = refl
-type-name-same (method a l) = refl
+type-name-same (method y a l) = refl
 
 dot-name-same : (e : Expr one) → endsInDotName (withoutCommas e) ≡ endsInDotName e
 dot-name-same (atom x) = refl
@@ -60,13 +59,13 @@ dot-name-same (paren a) = refl
 dot-name-same (prefix p a) = dot-name-same a
 dot-name-same (binary o a b) = dot-name-same b
 dot-name-same (cast a t) = refl
-dot-name-same (member byName a) = refl
-dot-name-same (member byNumber a) = refl
+dot-name-same (member (byName y) a) = refl
+dot-name-same (member (byNumber y) a) = refl
 dot-name-same (member awaited a) = refl
 dot-name-same (try a) = refl
 dot-name-same (index a b) = refl
 dot-name-same (call a l) = refl
-dot-name-same (method a l) = refl
+dot-name-same (method y a l) = refl
 
 -- ---- a parse tree fits with its commas exactly where it fits without them
 
@@ -80,7 +79,7 @@ fits-without c (member m a) k = (rw (kind-same a) (k .0), fits-without c a (k .1
 fits-without c (try a) k = (rw (kind-same a) (k .0), fits-without c a (k .1))
 fits-without c (index a b) k = (rw (kind-same a) (k .0), fits-without c a (k .1), fits-without NONE b (k .2))
 fits-without c (call a l) k = (rw (kind-same a) (k .0), rw (dot-name-same a) (k .1), fits-without c a (k .2), fits-without c l (k .3))
-fits-without c (method a l) k = (rw (kind-same a) (k .0), fits-without c a (k .1), fits-without c l (k .2))
+fits-without c (method y a l) k = (rw (kind-same a) (k .0), fits-without c a (k .1), fits-without c l (k .2))
 fits-without c noArguments k = tt
 fits-without c (arguments l) k = fits-without c l k
 fits-without c (lastArgument comma a) k = fits-without NONE a k
@@ -96,7 +95,7 @@ fits-with c (member m a) k = (rw (kind-same a) at k .0, fits-with c a (k .1))
 fits-with c (try a) k = (rw (kind-same a) at k .0, fits-with c a (k .1))
 fits-with c (index a b) k = (rw (kind-same a) at k .0, fits-with c a (k .1), fits-with NONE b (k .2))
 fits-with c (call a l) k = (rw (kind-same a) at k .0, rw (dot-name-same a) at k .1, fits-with c a (k .2), fits-with c l (k .3))
-fits-with c (method a l) k = (rw (kind-same a) at k .0, fits-with c a (k .1), fits-with c l (k .2))
+fits-with c (method y a l) k = (rw (kind-same a) at k .0, fits-with c a (k .1), fits-with c l (k .2))
 fits-with c noArguments k = tt
 fits-with c (arguments l) k = fits-with c l k
 fits-with c (lastArgument comma a) k = fits-with NONE a k
@@ -104,73 +103,73 @@ fits-with c (moreArguments a l) k = (fits-with NONE a (k .0), fits-with c l (k .
 
 -- ---- its tokens are those without the commas, with commas put straight before a `)` or a `>`
 
-type-puts : {s : Sort} (t : Ty s) (r q : List Token) → CommasPut (codesOf r) (codesOf q) → CommasPut (codesOf (writeType (withoutTypeCommas t) r)) (codesOf (writeType t q))
-type-puts named r q h = kept _ h
-type-puts (applied l) r q h = kept _ (kept _ (type-puts l r q h))
-type-puts (pointing p t) r q h = kept _ (type-puts t r q h)
-type-puts (sign x) r q h = kept _ h
-type-puts noTypes r q h = kept _ h
+type-puts : {s : Sort} (t : Ty s) (r q : List Token) → CommasPut (cellsOf r) (cellsOf q) → CommasPut (cellsOf (writeType (withoutTypeCommas t) r)) (cellsOf (writeType t q))
+type-puts (named y) r q h = kept _ _ h
+type-puts (applied y l) r q h = kept _ _ (kept _ _ (type-puts l r q h))
+type-puts (pointing p t) r q h = kept _ _ (type-puts t r q h)
+type-puts (sign x) r q h = kept _ _ h
+type-puts noTypes r q h = kept _ _ h
 type-puts (types l) r q h = type-puts l r q h
-type-puts (lastType true t) r q h = type-puts t (operator Gt ∷ r) (Comma ∷ operator Gt ∷ q) (put _ (inr refl) h)
-type-puts (lastType false t) r q h = type-puts t (operator Gt ∷ r) (operator Gt ∷ q) (kept _ h)
-type-puts (moreTypes t l) r q h = type-puts t (Comma ∷ writeType (withoutTypeCommas l) r) (Comma ∷ writeType l q) (kept _ (type-puts l r q h))
+type-puts (lastType true t) r q h = type-puts t (operator Gt ∷ r) (Comma ∷ operator Gt ∷ q) (put _ _ (inr refl) h)
+type-puts (lastType false t) r q h = type-puts t (operator Gt ∷ r) (operator Gt ∷ q) (kept _ _ h)
+type-puts (moreTypes t l) r q h = type-puts t (Comma ∷ writeType (withoutTypeCommas l) r) (Comma ∷ writeType l q) (kept _ _ (type-puts l r q h))
 
-pub puts : {s : Sort} (e : Expr s) (r q : List Token) → CommasPut (codesOf r) (codesOf q) → CommasPut (codesOf (write (withoutCommas e) r)) (codesOf (write e q))
-puts (atom x) r q h = kept _ h
-puts (paren a) r q h = kept _ (puts a (RightParen ∷ r) (RightParen ∷ q) (kept _ h))
-puts (prefix p a) r q h = kept _ (puts a r q h)
-puts (binary o a b) r q h = puts a (operator o ∷ write (withoutCommas b) r) (operator o ∷ write b q) (kept _ (puts b r q h))
-puts (cast a t) r q h = puts a (As ∷ writeType (withoutTypeCommas t) r) (As ∷ writeType t q) (kept _ (type-puts t r q h))
-puts (member m a) r q h = puts a (Dot ∷ memberToken m ∷ r) (Dot ∷ memberToken m ∷ q) (kept _ (kept _ h))
-puts (try a) r q h = puts a (Question ∷ r) (Question ∷ q) (kept _ h)
+pub puts : {s : Sort} (e : Expr s) (r q : List Token) → CommasPut (cellsOf r) (cellsOf q) → CommasPut (cellsOf (write (withoutCommas e) r)) (cellsOf (write e q))
+puts (atom x) r q h = kept _ _ h
+puts (paren a) r q h = kept _ _ (puts a (RightParen ∷ r) (RightParen ∷ q) (kept _ _ h))
+puts (prefix p a) r q h = kept _ _ (puts a r q h)
+puts (binary o a b) r q h = puts a (operator o ∷ write (withoutCommas b) r) (operator o ∷ write b q) (kept _ _ (puts b r q h))
+puts (cast a t) r q h = puts a (As ∷ writeType (withoutTypeCommas t) r) (As ∷ writeType t q) (kept _ _ (type-puts t r q h))
+puts (member m a) r q h = puts a (Dot ∷ memberToken m ∷ r) (Dot ∷ memberToken m ∷ q) (kept _ _ (kept _ _ h))
+puts (try a) r q h = puts a (Question ∷ r) (Question ∷ q) (kept _ _ h)
 puts (index a b) r q h =
-    puts a (LeftBracket ∷ write (withoutCommas b) (RightBracket ∷ r)) (LeftBracket ∷ write b (RightBracket ∷ q)) (kept _ (puts b (RightBracket ∷ r) (RightBracket ∷ q) (kept _ h)))
-puts (call a l) r q h = puts a (LeftParen ∷ write (withoutCommas l) r) (LeftParen ∷ write l q) (kept _ (puts l r q h))
-puts (method a l) r q h =
-    puts a (Dot ∷ Name ∷ LeftParen ∷ write (withoutCommas l) r) (Dot ∷ Name ∷ LeftParen ∷ write l q) (kept _ (kept _ (kept _ (puts l r q h))))
-puts noArguments r q h = kept _ h
+    puts a (LeftBracket ∷ write (withoutCommas b) (RightBracket ∷ r)) (LeftBracket ∷ write b (RightBracket ∷ q)) (kept _ _ (puts b (RightBracket ∷ r) (RightBracket ∷ q) (kept _ _ h)))
+puts (call a l) r q h = puts a (LeftParen ∷ write (withoutCommas l) r) (LeftParen ∷ write l q) (kept _ _ (puts l r q h))
+puts (method y a l) r q h =
+    puts a (Dot ∷ Name y ∷ LeftParen ∷ write (withoutCommas l) r) (Dot ∷ Name y ∷ LeftParen ∷ write l q) (kept _ _ (kept _ _ (kept _ _ (puts l r q h))))
+puts noArguments r q h = kept _ _ h
 puts (arguments l) r q h = puts l r q h
-puts (lastArgument true a) r q h = puts a (RightParen ∷ r) (Comma ∷ RightParen ∷ q) (put _ (inl refl) h)
-puts (lastArgument false a) r q h = puts a (RightParen ∷ r) (RightParen ∷ q) (kept _ h)
-puts (moreArguments a l) r q h = puts a (Comma ∷ write (withoutCommas l) r) (Comma ∷ write l q) (kept _ (puts l r q h))
+puts (lastArgument true a) r q h = puts a (RightParen ∷ r) (Comma ∷ RightParen ∷ q) (put _ _ (inl refl) h)
+puts (lastArgument false a) r q h = puts a (RightParen ∷ r) (RightParen ∷ q) (kept _ _ h)
+puts (moreArguments a l) r q h = puts a (Comma ∷ write (withoutCommas l) r) (Comma ∷ write l q) (kept _ _ (puts l r q h))
 
 -- ---- without the commas none stands straight before a `)` or a `>`
 
 record Fine (ts : List Token) : Type 0 where
-  none : NoLastComma (codesOf ts)
+  none : NoLastComma (cellsOf ts)
 
 fine-token : (t : Token) {r : List Token} → eqb (code t) (code Comma) ≡ false → Fine r → Fine (t ∷ r)
 fine-token t {r} n h = record { none = go }
   where
-    go : NoLastComma (codesOf (t ∷ r))
+    go : NoLastComma (cellsOf (t ∷ r))
     go zero e k = true-not-false (sym (eq-eqb (code t) (code Comma) e) ∙ n)
     go (suc i) e k = h .none i e k
 
 fine-comma : (r : List Token) → isFirst RightParen r ≡ false → isFirst (operator Gt) r ≡ false → Fine r → Fine (Comma ∷ r)
 fine-comma r n m h = record { none = go }
   where
-    first : (r : List Token) → isFirst RightParen r ≡ false → isFirst (operator Gt) r ≡ false → Closes (getD (codesOf r) 0 listEnd) → ⊥
+    first : (r : List Token) → isFirst RightParen r ≡ false → isFirst (operator Gt) r ≡ false → Closes (codeAt (cellsOf r) 0) → ⊥
     first [] n m (inl k) = omega arith
     first [] n m (inr k) = omega arith
     first (t ∷ r) n m (inl k) = true-not-false (sym (eq-eqb (code t) (code RightParen) k) ∙ n)
     first (t ∷ r) n m (inr k) = true-not-false (sym (eq-eqb (code t) (code (operator Gt)) k) ∙ m)
 
-    go : NoLastComma (codesOf (Comma ∷ r))
+    go : NoLastComma (cellsOf (Comma ∷ r))
     go zero e k = first r n m k
     go (suc i) e k = h .none i e k
 
 -- what begins an expression or a type is no comma
 no-comma : (t : Token) → isStart (startOf t) ≡ true → eqb (code t) (code Comma) ≡ false
 unfolding startOf lookup pick
-no-comma t h = begins Comma t [] refl h
+no-comma t h = begins Comma t [] refl refl h
 
 no-type-comma : (t : Token) → isTypeStart (typeStartOf t) ≡ true → eqb (code t) (code Comma) ≡ false
 unfolding typeStartOf lookup pick
-no-type-comma t h = type-begins Comma t [] refl h
+no-type-comma t h = type-begins Comma t [] refl refl h
 
 member-other : (m : Member) → eqb (code (memberToken m)) (code Comma) ≡ false
-member-other byName = refl
-member-other byNumber = refl
+member-other (byName y) = refl
+member-other (byNumber y) = refl
 member-other awaited = refl
 
 operator-other : (o : Operator) → eqb (number o) (code Comma) ≡ false
@@ -178,8 +177,8 @@ operator-other o = ne-eqb (number o) (code Comma) (λ e. omega (arith, number-be
 
 type-fine : {s : Sort} (t : Ty s) (r : List Token) → Fine r → Fine (writeType (withoutTypeCommas t) r)
 unfolding typeStartOf lookup pick
-type-fine named r h = fine-token Name refl h
-type-fine (applied l) r h = fine-token Name refl (fine-token (operator Lt) refl (type-fine l r h))
+type-fine (named y) r h = fine-token (Name y) refl h
+type-fine (applied y l) r h = fine-token (Name y) refl (fine-token (operator Lt) refl (type-fine l r h))
 type-fine (pointing p t) r h = fine-token (typePrefixToken p) (no-type-comma (typePrefixToken p) (ap isTypeStart (start-type-prefix p))) (type-fine t r h)
 type-fine (sign x) r h = fine-token (typeSignToken x) (no-type-comma (typeSignToken x) (ap isTypeStart (start-sign x))) h
 type-fine noTypes r h = fine-token (operator Gt) refl h
@@ -187,7 +186,7 @@ type-fine (types l) r h = type-fine l r h
 type-fine (lastType comma t) r h = type-fine t (operator Gt ∷ r) (fine-token (operator Gt) refl h)
 type-fine (moreTypes t l) r h =
     let r₁ = writeType (withoutTypeCommas l) r in
-    type-fine t (Comma ∷ r₁) (fine-comma r₁ (types-first RightParen refl (withoutTypeCommas l) r) (types-first (operator Gt) refl (withoutTypeCommas l) r) (type-fine l r h))
+    type-fine t (Comma ∷ r₁) (fine-comma r₁ (types-first RightParen refl refl (withoutTypeCommas l) r) (types-first (operator Gt) refl refl (withoutTypeCommas l) r) (type-fine l r h))
 
 fine : {s : Sort} (e : Expr s) (r : List Token) → Fine r → Fine (write (withoutCommas e) r)
 unfolding startOf lookup pick
@@ -201,14 +200,14 @@ fine (try a) r h = fine a (Question ∷ r) (fine-token Question refl h)
 fine (index a b) r h =
     fine a (LeftBracket ∷ write (withoutCommas b) (RightBracket ∷ r)) (fine-token LeftBracket refl (fine b (RightBracket ∷ r) (fine-token RightBracket refl h)))
 fine (call a l) r h = fine a (LeftParen ∷ write (withoutCommas l) r) (fine-token LeftParen refl (fine l r h))
-fine (method a l) r h =
-    fine a (Dot ∷ Name ∷ LeftParen ∷ write (withoutCommas l) r) (fine-token Dot refl (fine-token Name refl (fine-token LeftParen refl (fine l r h))))
+fine (method y a l) r h =
+    fine a (Dot ∷ Name y ∷ LeftParen ∷ write (withoutCommas l) r) (fine-token Dot refl (fine-token (Name y) refl (fine-token LeftParen refl (fine l r h))))
 fine noArguments r h = fine-token RightParen refl h
 fine (arguments l) r h = fine l r h
 fine (lastArgument comma a) r h = fine a (RightParen ∷ r) (fine-token RightParen refl h)
 fine (moreArguments a l) r h =
     let r₁ = write (withoutCommas l) r in
-    fine a (Comma ∷ r₁) (fine-comma r₁ (items-first RightParen refl (withoutCommas l) r) (items-first (operator Gt) refl (withoutCommas l) r) (fine l r h))
+    fine a (Comma ∷ r₁) (fine-comma r₁ (items-first RightParen refl refl (withoutCommas l) r) (items-first (operator Gt) refl refl (withoutCommas l) r) (fine l r h))
 
-pub none-last : (e : Expr one) → NoLastComma (codesOf (write (withoutCommas e) []))
+pub none-last : (e : Expr one) → NoLastComma (cellsOf (write (withoutCommas e) []))
 none-last e = fine e [] (record { none = λ i q k. omega arith }) .none

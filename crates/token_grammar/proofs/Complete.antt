@@ -6,13 +6,13 @@ use Prim.Native.Nat.{ℕ, zero, suc, _+_, _-_, _*_, _≤_, _<_}
 use native.Mathlib.Omega.{arith}
 use lib.ListN.{length}
 use Rattle.laws.specs.Choice.{pick, lookup}
-use Rattle.token_grammar.specs.Tokens.{Lt, Token, operator, As, Name, Dot, LeftParen, RightParen, LeftBracket, RightBracket, Comma, Question}
+use Rattle.token_grammar.specs.Tokens.{Lt, Token, operator, code, As, Name, Dot, LeftParen, RightParen, LeftBracket, RightBracket, Comma, Question, carries}
 use Rattle.token_grammar.specs.Levels.{prefixes, kind, level, after}
 use Rattle.token_grammar.specs.Bounds.{loosest}
 use Rattle.token_grammar.specs.Types.{Sort, one, list, items, Ty, closing, writeType}
 use Rattle.token_grammar.specs.Expressions.{Atom, path, literal, Prefix, neg, deref, invert, ref, refMut, Member, byName, byNumber, awaited, Expr, atom, paren, prefix, binary, cast, member, try, index, call, method, noArguments, arguments, lastArgument, moreArguments, atomToken, prefixToken, memberToken, write, kindOf}
 use Rattle.token_grammar.specs.Grammar.{Context, NONE, opensArguments, fits}
-use Rattle.token_grammar.specs.Parser.{Out, fail, ok, then, tail, isFirst, startOf, anAtom, aPrefix, AfterDot, noMember, aMember, afterDotOf, afterDot, isByName, next, AfterItem, closes, another, noItem, afterItem, behind, goesOn, typeBy, exprBy, onBy, argumentsBy, someArgumentsBy}
+use Rattle.token_grammar.specs.Parser.{Out, fail, ok, then, tail, isFirst, startOf, anAtom, aPrefix, AfterDot, noMember, aMember, afterDotOf, afterDot, isByName, memberSymbol, next, AfterItem, closes, another, noItem, afterItem, behind, goesOn, typeBy, exprBy, onBy, argumentsBy, someArgumentsBy}
 use Rattle.token_grammar.specs.Next.{Next, stops, operates, castsTo, dots, calls, indexes, tries, levelAt}
 use Rattle.token_grammar.proofs.FirstTokens.{first-is, item-more, isStart, begins}
 use Rattle.token_grammar.proofs.Levels.{level-before, operator-low, operator-high, after-low}
@@ -31,7 +31,7 @@ cost (member m a) = suc (cost a)
 cost (try a) = suc (cost a)
 cost (index a b) = suc (cost a)
 cost (call a l) = suc (cost a)
-cost (method a l) = suc (cost a)
+cost (method y a l) = suc (cost a)
 cost noArguments = 0
 cost (arguments l) = 0
 cost (lastArgument comma a) = 0
@@ -47,7 +47,7 @@ room (member m a) = room a
 room (try a) = room a
 room (index a b) = room a + suc (cost b + room b)
 room (call a l) = room a + room l
-room (method a l) = room a + room l
+room (method y a l) = room a + room l
 room noArguments = 1
 room (arguments l) = suc (room l)
 room (lastArgument comma a) = suc (suc (cost a + room a))
@@ -64,7 +64,7 @@ bound s (member m a) r = omega (arith, bound one a (Dot ∷ memberToken m ∷ r)
 bound s (try a) r = omega (arith, bound one a (Question ∷ r))
 bound s (index a b) r = omega (arith, bound one a (LeftBracket ∷ write b (RightBracket ∷ r)), bound one b (RightBracket ∷ r))
 bound s (call a l) r = omega (arith, bound one a (LeftParen ∷ write l r), bound list l r)
-bound s (method a l) r = omega (arith, bound one a (Dot ∷ Name ∷ LeftParen ∷ write l r), bound list l r)
+bound s (method y a l) r = omega (arith, bound one a (Dot ∷ Name y ∷ LeftParen ∷ write l r), bound list l r)
 bound s noArguments r = omega arith
 bound s (arguments l) r = omega (arith, bound items l r)
 bound s (lastArgument true a) r = omega (arith, bound one a (Comma ∷ RightParen ∷ r))
@@ -87,8 +87,8 @@ split n k f h = (f - suc n, omega (arith, up-add n (suc (f - suc n))), omega ari
 
 pub start-atom : (x : Atom) → startOf (atomToken x) ≡ anAtom x
 unfolding startOf lookup pick
-start-atom path = refl
-start-atom literal = refl
+start-atom (path y) = refl
+start-atom (literal y) = refl
 
 pub start-prefix : (p : Prefix) → startOf (prefixToken p) ≡ aPrefix p
 unfolding startOf lookup pick
@@ -100,27 +100,27 @@ start-prefix refMut = refl
 
 after-member : (m : Member) → afterDotOf (memberToken m) ≡ aMember m
 unfolding afterDotOf lookup pick
-after-member byName = refl
-after-member byNumber = refl
+after-member (byName y) = refl
+after-member (byNumber y) = refl
 after-member awaited = refl
 
 -- a token that begins no expression does not stand first
-expr-first : (u : Token) → isStart (startOf u) ≡ false → (e : Expr one) (r : List Token) → isFirst u (write e r) ≡ false
+expr-first : (u : Token) → carries (code u) ≡ false → isStart (startOf u) ≡ false → (e : Expr one) (r : List Token) → isFirst u (write e r) ≡ false
 unfolding startOf lookup pick
-expr-first u n (atom x) r = begins u (atomToken x) r n (ap isStart (start-atom x))
-expr-first u n (paren a) r = begins u LeftParen (write a (RightParen ∷ r)) n refl
-expr-first u n (prefix p a) r = begins u (prefixToken p) (write a r) n (ap isStart (start-prefix p))
-expr-first u n (binary o a b) r = expr-first u n a (operator o ∷ write b r)
-expr-first u n (cast a t) r = expr-first u n a (As ∷ writeType t r)
-expr-first u n (member m a) r = expr-first u n a (Dot ∷ memberToken m ∷ r)
-expr-first u n (try a) r = expr-first u n a (Question ∷ r)
-expr-first u n (index a b) r = expr-first u n a (LeftBracket ∷ write b (RightBracket ∷ r))
-expr-first u n (call a l) r = expr-first u n a (LeftParen ∷ write l r)
-expr-first u n (method a l) r = expr-first u n a (Dot ∷ Name ∷ LeftParen ∷ write l r)
+expr-first u k n (atom x) r = begins u (atomToken x) r k n (ap isStart (start-atom x))
+expr-first u k n (paren a) r = begins u LeftParen (write a (RightParen ∷ r)) k n refl
+expr-first u k n (prefix p a) r = begins u (prefixToken p) (write a r) k n (ap isStart (start-prefix p))
+expr-first u k n (binary o a b) r = expr-first u k n a (operator o ∷ write b r)
+expr-first u k n (cast a t) r = expr-first u k n a (As ∷ writeType t r)
+expr-first u k n (member m a) r = expr-first u k n a (Dot ∷ memberToken m ∷ r)
+expr-first u k n (try a) r = expr-first u k n a (Question ∷ r)
+expr-first u k n (index a b) r = expr-first u k n a (LeftBracket ∷ write b (RightBracket ∷ r))
+expr-first u k n (call a l) r = expr-first u k n a (LeftParen ∷ write l r)
+expr-first u k n (method y a l) r = expr-first u k n a (Dot ∷ Name y ∷ LeftParen ∷ write l r)
 
-pub items-first : (u : Token) → isStart (startOf u) ≡ false → (l : Expr items) (r : List Token) → isFirst u (write l r) ≡ false
-items-first u n (lastArgument comma a) r = expr-first u n a (closing comma RightParen r)
-items-first u n (moreArguments a l) r = expr-first u n a (Comma ∷ write l r)
+pub items-first : (u : Token) → carries (code u) ≡ false → isStart (startOf u) ≡ false → (l : Expr items) (r : List Token) → isFirst u (write l r) ≡ false
+items-first u k n (lastArgument comma a) r = expr-first u k n a (closing comma RightParen r)
+items-first u k n (moreArguments a l) r = expr-first u k n a (Comma ∷ write l r)
 
 -- ---- one step of a parser whose tests are answered
 
@@ -141,7 +141,7 @@ dotStep f c n e us x =
     elim x [
       | noMember ↦ fail
       | aMember m ↦ elim (isByName m && isFirst LeftParen (tail us)) [
-        | true ↦ then (argumentsBy f (tail (tail us))) (λ l r. onBy f c n (method e l) r)
+        | true ↦ then (argumentsBy f (tail (tail us))) (λ l r. onBy f c n (method (memberSymbol m) e l) r)
         | false ↦ onBy f c n (member m e) (tail us)
       ]
     ]
@@ -192,19 +192,19 @@ type-end a t r h e = go (isFirst (operator Lt) r) refl
     go : (b : Bool) → isFirst (operator Lt) r ≡ b → b ≡ false
     go false q = refl
     go true q =
-        let k : Follows (cast a t) (next (operator Lt ∷ tail r)) = subst (λ x. Follows (cast a t) (next x)) (sym (first-is (operator Lt) r q)) h in
+        let k : Follows (cast a t) (next (operator Lt ∷ tail r)) = subst (λ x. Follows (cast a t) (next x)) (sym (first-is (operator Lt) r refl q)) h in
         sym (sym (k .1) ∙ e)
 
 -- a member access by name is not followed by `(`
 member-end : (m : Member) (a : Expr one) (r : List Token) → Follows (member m a) (next r) → isByName m && isFirst LeftParen r ≡ false
-member-end byName a r h = go (isFirst LeftParen r) refl
+member-end (byName y) a r h = go (isFirst LeftParen r) refl
   where
     go : (b : Bool) → isFirst LeftParen r ≡ b → b ≡ false
     go false q = refl
     go true q =
-        let k : Follows (member byName a) (next (LeftParen ∷ tail r)) = subst (λ x. Follows (member byName a) (next x)) (sym (first-is LeftParen r q)) h in
+        let k : Follows (member (byName y) a) (next (LeftParen ∷ tail r)) = subst (λ x. Follows (member (byName y) a) (next x)) (sym (first-is LeftParen r refl q)) h in
         k .1
-member-end byNumber a r h = refl
+member-end (byNumber y) a r h = refl
 member-end awaited a r h = refl
 
 pub low : (e : Expr one) → 1 ≤ level (kindOf e)
@@ -217,7 +217,7 @@ low (member m a) = omega arith
 low (try a) = omega arith
 low (index a b) = omega arith
 low (call a l) = omega arith
-low (method a l) = omega arith
+low (method y a l) = omega arith
 
 -- ---- to parse what e writes is to go on with e
 
@@ -269,14 +269,14 @@ reads s c (call a ls) k = λ n f r h l q.
     reads one c a (k .2) n (suc f) (LeftParen ∷ write ls r) (omega arith) (omega (arith, k .0)) (k .0, k .1)
     ∙ on-step f c n a (LeftParen ∷ write ls r) (goes-on n a calls l (k .0, k .1))
     ∙ rw (reads list c ls (k .3) f r (omega arith))
-reads s c (method a ls) k = λ n f r h l q.
-    reads one c a (k .1) n (suc f) (Dot ∷ Name ∷ LeftParen ∷ write ls r) (omega arith) (omega (arith, k .0)) (k .0)
-    ∙ on-step f c n a (Dot ∷ Name ∷ LeftParen ∷ write ls r) (goes-on n a dots l (k .0))
+reads s c (method y a ls) k = λ n f r h l q.
+    reads one c a (k .1) n (suc f) (Dot ∷ Name y ∷ LeftParen ∷ write ls r) (omega arith) (omega (arith, k .0)) (k .0)
+    ∙ on-step f c n a (Dot ∷ Name y ∷ LeftParen ∷ write ls r) (goes-on n a dots l (k .0))
     ∙ rw (reads list c ls (k .2) f r (omega arith))
 reads s c noArguments k = λ f. elim f [ zero ↦ λ r h. absurd (omega arith) | suc g ↦ λ r h. refl ]
 reads s c (arguments l) k = λ f. elim f [
   | zero ↦ λ r h. absurd (omega arith)
-  | suc g ↦ λ r h. by-items g (write l r) (items-first RightParen refl l r) ∙ rw (reads items c l k g r (omega arith))
+  | suc g ↦ λ r h. by-items g (write l r) (items-first RightParen refl refl l r) ∙ rw (reads items c l k g r (omega arith))
 ]
 reads s c (lastArgument true a) k = λ f. elim f [
   | zero ↦ λ r h. absurd (omega arith)
@@ -289,6 +289,6 @@ reads s c (lastArgument false a) k = λ f. elim f [
 reads s c (moreArguments a l) k = λ f. elim f [
   | zero ↦ λ r h. absurd (omega arith)
   | suc g ↦ λ r h.
-      by-item g a _ _ another (reads-whole NONE a (reads one NONE a (k .0)) loosest g (Comma ∷ write l r) (omega arith) (low a) tt (omega arith)) (item-more RightParen (write l r) refl (items-first RightParen refl l r))
+      by-item g a _ _ another (reads-whole NONE a (reads one NONE a (k .0)) loosest g (Comma ∷ write l r) (omega arith) (low a) tt (omega arith)) (item-more RightParen (write l r) refl (items-first RightParen refl refl l r))
       ∙ rw (reads items c l (k .1) g r (omega arith))
 ]

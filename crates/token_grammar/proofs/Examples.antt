@@ -8,7 +8,7 @@ use Rattle.token_grammar.specs.Tokens.{Operator, Add, Sub, Mul, And, Or,
 use Rattle.token_grammar.specs.Codes.{tokenOf, tokensOf}
 use Rattle.token_grammar.specs.Levels.{kind}
 use Rattle.token_grammar.specs.Types.{one, named, applied, types, lastType, moreTypes}
-use Rattle.token_grammar.specs.Expressions.{path, neg, byName, byNumber, Expr, atom, paren, prefix, binary, cast, member, try, call, method, noArguments, arguments, lastArgument, moreArguments}
+use Rattle.token_grammar.specs.Expressions.{path, literal, neg, byName, byNumber, Expr, atom, paren, prefix, binary, cast, member, try, call, method, noArguments, arguments, lastArgument, moreArguments}
 use Rattle.token_grammar.specs.Grammar.{NONE, opensArguments}
 use Rattle.token_grammar.proofs.Added.{strength, addPairs}
 use Rattle.token_grammar.specs.Parser.{Out, fail, ok, startOf, typeStartOf, afterDotOf, afterItem, goesOn, typeBy, exprBy, parse}
@@ -21,15 +21,24 @@ record Example : Type 0 where
 abbrev pairs : Expr one → Expr one → Example
 pairs e with = record { given = ok (addPairs e false) []; expected = ok with [] }
 
--- the codes of a token list, and its parse tree; or what the parser stops with
+-- cells of tokens without symbols, from the codes
+abbrev unnamed : List ℕ → List ℕ
+unnamed [] = []
+unnamed (n ∷ ns) = n ∷ 0 ∷ unnamed ns
+
+-- the cells of a token list, and its parse tree
+abbrev readsCells : List ℕ → Expr one → Example
+readsCells cells e = record { given = parse NONE (tokensOf cells); expected = ok e [] }
+
+-- the codes of a token list without symbols, and its parse tree; or what the parser stops with
 abbrev reads : List ℕ → Expr one → Example
-reads codes e = record { given = parse NONE (tokensOf codes); expected = ok e [] }
+reads codes e = readsCells (unnamed codes) e
 
 abbrev stops : List ℕ → Out (Expr one) → Example
-stops codes out = record { given = parse NONE (tokensOf codes); expected = out }
+stops codes out = record { given = parse NONE (tokensOf (unnamed codes)); expected = out }
 
 abbrev a : Expr one
-a = atom path
+a = atom (path 0)
 
 -- a o b o c without a pair: an operator that leans left
 abbrev leansLeft : Operator → Example
@@ -37,10 +46,10 @@ leansLeft o = pairs (binary o (binary o a a) a) (binary o (binary o a a) a)
 
 -- `a as T`, and `a as T<A>`
 abbrev bareCast : Expr one
-bareCast = cast a named
+bareCast = cast a (named 0)
 
 abbrev castWithArguments : Expr one
-castWithArguments = cast a (applied (types (lastType false named)))
+castWithArguments = cast a (applied 0 (types (lastType false (named 0))))
 
 abbrev examples : List Example
 examples =
@@ -55,8 +64,8 @@ examples =
     -- P5 "`x + (a as T) < b`: the pair stands round the cast."
     pairs (binary Lt (binary Add a bareCast) a) (binary Lt (binary Add a (paren bareCast)) a) ∷
     -- P6 "Call of a named Field: pair; of a numbered one: none."
-    pairs (call (member byName a) noArguments) (call (paren (member byName a)) noArguments) ∷
-    pairs (call (member byNumber a) noArguments) (call (member byNumber a) noArguments) ∷
+    pairs (call (member (byName 0) a) noArguments) (call (paren (member (byName 0) a)) noArguments) ∷
+    pairs (call (member (byNumber 0) a) noArguments) (call (member (byNumber 0) a) noArguments) ∷
     -- P7 "comparison under comparison, either side: pair."
     pairs (binary Eq (binary Lt a a) a) (binary Eq (paren (binary Lt a a)) a) ∷
     pairs (binary Eq a (binary Lt a a)) (binary Eq a (paren (binary Lt a a))) ∷
@@ -69,7 +78,7 @@ examples =
     leansLeft Shl ∷
     leansLeft Add ∷
     leansLeft Mul ∷
-    pairs (cast bareCast named) (cast bareCast named) ∷
+    pairs (cast bareCast (named 0)) (cast bareCast (named 0)) ∷
     -- "assignment (right operand first)": a = b = c, and (a = b) = c
     pairs (binary Assign a (binary Assign a a)) (binary Assign a (binary Assign a a)) ∷
     pairs (binary Assign (binary Assign a a) a) (binary Assign (paren (binary Assign a a)) a) ∷
@@ -77,28 +86,32 @@ examples =
     reads (32 ∷ 0 ∷ 32 ∷ 2 ∷ 32 ∷ []) (binary Add a (binary Mul a a)) ∷
     reads (35 ∷ 32 ∷ 0 ∷ 32 ∷ 36 ∷ []) (paren (binary Add a a)) ∷
     -- - a . f ( ); a . f ( b ) ?
-    reads (1 ∷ 32 ∷ 34 ∷ 32 ∷ 35 ∷ 36 ∷ []) (prefix neg (method a noArguments)) ∷
-    reads (32 ∷ 34 ∷ 32 ∷ 35 ∷ 32 ∷ 36 ∷ 40 ∷ []) (try (method a (arguments (lastArgument false a)))) ∷
+    reads (1 ∷ 32 ∷ 34 ∷ 32 ∷ 35 ∷ 36 ∷ []) (prefix neg (method 0 a noArguments)) ∷
+    reads (32 ∷ 34 ∷ 32 ∷ 35 ∷ 32 ∷ 36 ∷ 40 ∷ []) (try (method 0 a (arguments (lastArgument false a)))) ∷
     -- a as T < A >; a as T < A > < b
     reads (32 ∷ 31 ∷ 32 ∷ 13 ∷ 32 ∷ 17 ∷ []) castWithArguments ∷
     reads (32 ∷ 31 ∷ 32 ∷ 13 ∷ 32 ∷ 17 ∷ 13 ∷ 32 ∷ []) (binary Lt castWithArguments a) ∷
     -- a == b == c: the second `==` is left
-    stops (32 ∷ 12 ∷ 32 ∷ 12 ∷ 32 ∷ []) (ok (binary Eq a a) (tokensOf (12 ∷ 32 ∷ []))) ∷
+    stops (32 ∷ 12 ∷ 32 ∷ 12 ∷ 32 ∷ []) (ok (binary Eq a a) (tokensOf (unnamed (12 ∷ 32 ∷ [])))) ∷
     -- a as T << b: the `<<` is left
-    stops (32 ∷ 31 ∷ 32 ∷ 10 ∷ 32 ∷ []) (ok bareCast (tokensOf (10 ∷ 32 ∷ []))) ∷
+    stops (32 ∷ 31 ∷ 32 ∷ 10 ∷ 32 ∷ []) (ok bareCast (tokensOf (unnamed (10 ∷ 32 ∷ [])))) ∷
     -- one comma after the last item: f ( a , ); f ( a , b , ); a . f ( b , ); a as T < A , >; f ( a as T < A , B , > , )
     reads (32 ∷ 35 ∷ 32 ∷ 39 ∷ 36 ∷ []) (call a (arguments (lastArgument true a))) ∷
     reads (32 ∷ 35 ∷ 32 ∷ 39 ∷ 32 ∷ 39 ∷ 36 ∷ []) (call a (arguments (moreArguments a (lastArgument true a)))) ∷
-    reads (32 ∷ 34 ∷ 32 ∷ 35 ∷ 32 ∷ 39 ∷ 36 ∷ []) (method a (arguments (lastArgument true a))) ∷
-    reads (32 ∷ 31 ∷ 32 ∷ 13 ∷ 32 ∷ 39 ∷ 17 ∷ []) (cast a (applied (types (lastType true named)))) ∷
+    reads (32 ∷ 34 ∷ 32 ∷ 35 ∷ 32 ∷ 39 ∷ 36 ∷ []) (method 0 a (arguments (lastArgument true a))) ∷
+    reads (32 ∷ 31 ∷ 32 ∷ 13 ∷ 32 ∷ 39 ∷ 17 ∷ []) (cast a (applied 0 (types (lastType true (named 0))))) ∷
     reads (32 ∷ 35 ∷ 32 ∷ 31 ∷ 32 ∷ 13 ∷ 32 ∷ 39 ∷ 32 ∷ 39 ∷ 17 ∷ 39 ∷ 36 ∷ [])
-    (call a (arguments (lastArgument true (cast a (applied (types (moreTypes named (lastType true named)))))))) ∷
+    (call a (arguments (lastArgument true (cast a (applied 0 (types (moreTypes (named 0) (lastType true (named 0))))))))) ∷
     -- none in an empty list, no second one, none in parentheses or brackets: f ( , ); f ( a , , ); ( a , ); a [ b , ]; a as T < , >
     stops (32 ∷ 35 ∷ 39 ∷ 36 ∷ []) fail ∷
     stops (32 ∷ 35 ∷ 32 ∷ 39 ∷ 39 ∷ 36 ∷ []) fail ∷
     stops (35 ∷ 32 ∷ 39 ∷ 36 ∷ []) fail ∷
     stops (32 ∷ 37 ∷ 32 ∷ 39 ∷ 38 ∷ []) fail ∷
     stops (32 ∷ 31 ∷ 32 ∷ 13 ∷ 39 ∷ 17 ∷ []) fail ∷
+    -- each symbol on its own name, literal or member: 1 . 2 ( `3` ); 1 . 2 . 3; 1 as 2 < 3 >
+    readsCells (32 ∷ 1 ∷ 34 ∷ 0 ∷ 32 ∷ 2 ∷ 35 ∷ 0 ∷ 33 ∷ 3 ∷ 36 ∷ 0 ∷ []) (method 2 (atom (path 1)) (arguments (lastArgument false (atom (literal 3))))) ∷
+    readsCells (32 ∷ 1 ∷ 34 ∷ 0 ∷ 32 ∷ 2 ∷ 34 ∷ 0 ∷ 44 ∷ 3 ∷ []) (member (byNumber 3) (member (byName 2) (atom (path 1)))) ∷
+    readsCells (32 ∷ 1 ∷ 31 ∷ 0 ∷ 32 ∷ 2 ∷ 13 ∷ 0 ∷ 32 ∷ 3 ∷ 17 ∷ 0 ∷ []) (cast (atom (path 1)) (applied 2 (types (lastType false (named 3))))) ∷
     -- "The empty token list gives 15."
     stops [] fail ∷
     []

@@ -4,6 +4,7 @@ pub mod Sound
 pub mod Added
 pub mod Pairs
 pub mod Needed
+pub mod Erased
 pub mod Injective
 pub mod Commas
 pub mod Appended

@@ -40,8 +40,8 @@ bare-drop (index a b) g (inl q) = ap₂ index (at-bare (tooWeak (before postfixe
 bare-drop (index a b) g (inr q) = ap₂ index (with-bare (tooWeak (before postfixes) false a) false a (bare-pairs a)) (bare-drop b false q)
 bare-drop (call a l) g (inl q) = ap₂ call (at-bare (tooWeakToCall a) false a (bare-drop a) q) (bare-pairs l false)
 bare-drop (call a l) g (inr q) = ap₂ call (with-bare (tooWeakToCall a) false a (bare-pairs a)) (bare-drop l false q)
-bare-drop (method a l) g (inl q) = ap₂ method (at-bare (tooWeak (before postfixes) false a) false a (bare-drop a) q) (bare-pairs l false)
-bare-drop (method a l) g (inr q) = ap₂ method (with-bare (tooWeak (before postfixes) false a) false a (bare-pairs a)) (bare-drop l false q)
+bare-drop (method y a l) g (inl q) = ap₂ (method y) (at-bare (tooWeak (before postfixes) false a) false a (bare-drop a) q) (bare-pairs l false)
+bare-drop (method y a l) g (inr q) = ap₂ (method y) (with-bare (tooWeak (before postfixes) false a) false a (bare-pairs a)) (bare-drop l false q)
 bare-drop noArguments g q = absurd q
 bare-drop (arguments l) g q = ap arguments (bare-drop l false q)
 bare-drop (lastArgument comma a) g q = ap (lastArgument comma) (bare-drop a false q)
@@ -69,7 +69,7 @@ cast-ends (member m a) g h = no h
 cast-ends (try a) g h = no h
 cast-ends (index a b) g h = no h
 cast-ends (call a l) g h = no h
-cast-ends (method a l) g h = no h
+cast-ends (method y a l) g h = no h
 
 weakened : (g b : Bool) (n : ℕ) → pick (g && b) 0 n < n → (g ≡ true) × (b ≡ true)
 unfolding pick
@@ -126,8 +126,8 @@ needed s (index a b) c g (inl q) k = no (needed-at c (tooWeak (before postfixes)
 needed s (index a b) c g (inr q) k = no (needed one b NONE false q (k .2) .0)
 needed s (call a l) c g (inl q) k = absurd (no-call c (tooWeakToCall a) a refl (needed one a) q (k .0) (k .1) (k .2))
 needed s (call a l) c g (inr q) k = absurd (needed list l c false q (k .3))
-needed s (method a l) c g (inl q) k = no (needed-at c (tooWeak (before postfixes) false a) false 15 a refl (needed one a) q (k .0) (k .1) .0)
-needed s (method a l) c g (inr q) k = absurd (needed list l c false q (k .2))
+needed s (method y a l) c g (inl q) k = no (needed-at c (tooWeak (before postfixes) false a) false 15 a refl (needed one a) q (k .0) (k .1) .0)
+needed s (method y a l) c g (inr q) k = absurd (needed list l c false q (k .2))
 needed s noArguments c g q k = absurd q
 needed s (arguments l) c g q k = needed items l c false q k
 needed s (lastArgument comma a) c g q k = no (needed one a NONE false q k .0)

@@ -35,7 +35,7 @@ bare-pairs (member m a) g = ap (member m) (with-bare (tooWeak (before postfixes)
 bare-pairs (try a) g = ap try (with-bare (tooWeak (before postfixes) false a) false a (bare-pairs a))
 bare-pairs (index a b) g = ap₂ index (with-bare (tooWeak (before postfixes) false a) false a (bare-pairs a)) (bare-pairs b false)
 bare-pairs (call a l) g = ap₂ call (with-bare (tooWeakToCall a) false a (bare-pairs a)) (bare-pairs l false)
-bare-pairs (method a l) g = ap₂ method (with-bare (tooWeak (before postfixes) false a) false a (bare-pairs a)) (bare-pairs l false)
+bare-pairs (method y a l) g = ap₂ (method y) (with-bare (tooWeak (before postfixes) false a) false a (bare-pairs a)) (bare-pairs l false)
 bare-pairs noArguments g = refl
 bare-pairs (arguments l) g = ap arguments (bare-pairs l false)
 bare-pairs (lastArgument comma a) g = ap (lastArgument comma) (bare-pairs a false)
@@ -53,11 +53,11 @@ same-kind (member m a) g = refl
 same-kind (try a) g = refl
 same-kind (index a b) g = refl
 same-kind (call a l) g = refl
-same-kind (method a l) g = refl
+same-kind (method y a l) g = refl
 
 same-member : (m : Member) (a b : Expr one) → endsInDotName (member m a) ≡ endsInDotName (member m b)
-same-member byName a b = refl
-same-member byNumber a b = refl
+same-member (byName y) a b = refl
+same-member (byNumber y) a b = refl
 same-member awaited a b = refl
 
 pub same-dot-name : (e : Expr one) (g : Bool) → AtLeast (before postfixes) e → endsInDotName (addPairs e g) ≡ endsInDotName e
@@ -70,7 +70,7 @@ same-dot-name (member m a) g h = same-member m (withPair (tooWeak (before postfi
 same-dot-name (try a) g h = refl
 same-dot-name (index a b) g h = refl
 same-dot-name (call a l) g h = refl
-same-dot-name (method a l) g h = refl
+same-dot-name (method y a l) g h = refl
 
 -- ---- levels
 
@@ -139,7 +139,7 @@ no-end (member m a) h = refl
 no-end (try a) h = refl
 no-end (index a b) h = refl
 no-end (call a l) h = refl
-no-end (method a l) h = refl
+no-end (method y a l) h = refl
 
 and-false : (a : Bool) → a && false ≡ false
 and-false true = refl
@@ -188,7 +188,7 @@ fits-pairs (index a b) c g = (
 fits-pairs (call a l) c g =
     let d = call-level (tooWeakToCall a) a refl in
     (d .0, d .1, with-fits c (tooWeakToCall a) false a (fits-pairs a), fits-pairs l c false)
-fits-pairs (method a l) c g = (
+fits-pairs (method y a l) c g = (
   with-level (tooWeak (before postfixes) false a) false 15 a refl (omega arith),
   with-fits c (tooWeak (before postfixes) false a) false a (fits-pairs a),
   fits-pairs l c false,

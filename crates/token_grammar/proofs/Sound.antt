@@ -11,7 +11,7 @@ use Rattle.token_grammar.specs.Bounds.{loosest}
 use Rattle.token_grammar.specs.Types.{Sort, one, list, items}
 use Rattle.token_grammar.specs.Expressions.{Member, byName, byNumber, awaited, Expr, atom, paren, prefix, binary, cast, member, try, index, call, method, noArguments, arguments, lastArgument, moreArguments, prefixToken, memberToken, write}
 use Rattle.token_grammar.specs.Grammar.{Context, NONE, AtLeast, fits}
-use Rattle.token_grammar.specs.Parser.{Out, fail, ok, then, tail, isFirst, Start, noStart, anAtom, aPrefix, aGroup, start, AfterDot, noMember, aMember, afterDot, isByName, next, AfterItem, closes, another, noItem, afterItem, behind, goesOn, typeBy, exprBy, onBy, argumentsBy, someArgumentsBy}
+use Rattle.token_grammar.specs.Parser.{Out, fail, ok, then, tail, isFirst, Start, noStart, anAtom, aPrefix, aGroup, start, AfterDot, noMember, aMember, afterDot, isByName, memberSymbol, next, AfterItem, closes, another, noItem, afterItem, behind, goesOn, typeBy, exprBy, onBy, argumentsBy, someArgumentsBy}
 use Rattle.token_grammar.specs.Next.{Next, stops, operates, castsTo, dots, calls, indexes, tries, levelAt}
 use Rattle.token_grammar.proofs.FirstTokens.{first-is, start-is, after-dot-is, next-is, after-item-is}
 use Rattle.token_grammar.proofs.Levels.{after-high}
@@ -49,16 +49,16 @@ exprStep f c n ts x =
 abbrev memberStep : ℕ → Context → ℕ → Expr one → Member → List Token → Bool → Out (Expr one)
 memberStep f c n e m us y =
     elim y [
-      | true ↦ then (argumentsBy f (tail us)) (λ l r. onBy f c n (method e l) r)
+      | true ↦ then (argumentsBy f (tail us)) (λ l r. onBy f c n (method (memberSymbol m) e l) r)
       | false ↦ onBy f c n (member m e) us
     ]
 
 abbrev argumentsStep : ℕ → List Token → Bool → Out (Expr list)
 argumentsStep f ts y = elim y [ true ↦ ok noArguments (tail ts) | false ↦ then (someArgumentsBy f ts) (λ l r. ok (arguments l) r) ]
 
-is-name : (m : Member) → isByName m ≡ true → memberToken m ≡ Name
-is-name byName e = refl
-is-name byNumber e = true-not-false (sym e)
+is-name : (m : Member) → isByName m ≡ true → memberToken m ≡ Name (memberSymbol m)
+is-name (byName y) e = refl
+is-name (byNumber y) e = true-not-false (sym e)
 is-name awaited e = true-not-false (sym e)
 
 module _ (f : ℕ) (ih : Sounds f) (c : Context) where
@@ -68,7 +68,7 @@ module _ (f : ℕ) (ih : Sounds f) (c : Context) where
 
   module _ (n : ℕ) (ts : List Token) (small : n ≤ 14) where
     sound-group : (a : Expr one) (r : List Token) → fits NONE a → LeftParen ∷ write a r ≡ ts → (y : Bool) → isFirst RightParen r ≡ y → Good (Sound c n ts) (closeStep f c n (paren a) r y)
-    sound-group a r h q true e = let v = first-is RightParen r e in onward n ts (paren a) (tail r) (cc) (omega arith) h
+    sound-group a r h q true e = let v = first-is RightParen r refl e in onward n ts (paren a) (tail r) (cc) (omega arith) h
     sound-group a r h q false e = tt
 
     sound-expr : (x : Start) → start ts ≡ x → Good (Sound c n ts) (exprStep f c n ts x)
@@ -89,7 +89,7 @@ module _ (f : ℕ) (ih : Sounds f) (c : Context) where
 
     sound-index : (b : Expr one) (r : List Token) → LeftBracket ∷ write b r ≡ ts → AtLeast 15 e → fits NONE b → n ≤ 15 → (y : Bool) → isFirst RightBracket r ≡ y → Good S (closeStep f c n (index e b) r y)
     sound-index b r q h kb hn true z =
-        let v = first-is RightBracket r z in
+        let v = first-is RightBracket r refl z in
         onward n (write e ts) (index e b) (tail r) (cc) hn (h, k, kb)
     sound-index b r q h kb hn false z = tt
 
@@ -97,9 +97,9 @@ module _ (f : ℕ) (ih : Sounds f) (c : Context) where
     sound-member m us q h hn true z =
         let d = and-true (isByName m) (isFirst LeftParen us) z in
         let v = is-name m (d .0) in
-        let w = first-is LeftParen us (d .1) in
-        good-then (ListSound {s = list} (tail us)) S (argumentsBy f (tail us)) (λ l r. onBy f c n (method e l) r) (ih .2 (tail us))
-        (λ l r g. onward n (write e ts) (method e l) r (cc) hn (h, k, g .0 c))
+        let w = first-is LeftParen us refl (d .1) in
+        good-then (ListSound {s = list} (tail us)) S (argumentsBy f (tail us)) (λ l r. onBy f c n (method (memberSymbol m) e l) r) (ih .2 (tail us))
+        (λ l r g. onward n (write e ts) (method (memberSymbol m) e l) r (cc) hn (h, k, g .0 c))
     sound-member m us q h hn false z = onward n (write e ts) (member m e) us (cc) hn (h, k)
 
     sound-dot : (us : List Token) → Dot ∷ us ≡ ts → AtLeast 15 e → n ≤ 15 → (x : AfterDot) → afterDot us ≡ x → Good S (dotStep f c n e us x)
@@ -138,14 +138,14 @@ module _ (f : ℕ) (ih : Sounds f) (c : Context) where
 
 module _ (f : ℕ) (ih : Sounds f) (ts : List Token) where
   sound-arguments : (y : Bool) → isFirst RightParen ts ≡ y → Good (ListSound {s = list} ts) (argumentsStep f ts y)
-  sound-arguments true q = (λ c. tt, first-is RightParen ts q)
+  sound-arguments true q = (λ c. tt, first-is RightParen ts refl q)
   sound-arguments false q =
       good-then (ListSound {s = items} ts) (ListSound {s = list} ts) (someArgumentsBy f ts) (λ l r. ok (arguments l) r) (ih .3 ts) (λ l r h. h)
 
   sound-some : (a : Expr one) (r : List Token) → fits NONE a → write a r ≡ ts → (x : AfterItem) → afterItem RightParen r ≡ x → Good (ListSound {s = items} ts) (someStep f a r x)
-  sound-some a r k h (closes comma) p = (λ c. k, ap (write a) (after-item-is RightParen r (closes comma) p) ∙ h)
+  sound-some a r k h (closes comma) p = (λ c. k, ap (write a) (after-item-is RightParen r (closes comma) refl p) ∙ h)
   sound-some a r k h another p =
-      let v = after-item-is RightParen r another p in
+      let v = after-item-is RightParen r another refl p in
       good-then (ListSound {s = items} (tail r)) (ListSound {s = items} ts) (someArgumentsBy f (tail r)) (λ l w. ok (moreArguments a l) w) (ih .3 (tail r))
       (λ l w g. (λ c. (k, g .0 c), cc))
   sound-some a r k h noItem p = tt

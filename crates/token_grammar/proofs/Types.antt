@@ -6,7 +6,7 @@ use Prim.Native.Nat.{ℕ, zero, suc, _+_, _*_, _≤_}
 use native.Mathlib.Omega.{arith}
 use lib.ListN.{length}
 use Rattle.laws.specs.Choice.{pick, lookup}
-use Rattle.token_grammar.specs.Tokens.{Lt, Gt, Token, operator, Comma, Name}
+use Rattle.token_grammar.specs.Tokens.{Lt, Gt, Token, operator, code, Comma, Name, carries}
 use Rattle.token_grammar.specs.Types.{Sort, one, list, items, TypePrefix, constPtr, mutPtr, sharedRef, mutRef, TypeSign, infer, never, Ty, named, applied, pointing, sign, noTypes, types, lastType, moreTypes, typePrefixToken, typeSignToken, closing, writeType, typeEndsInName}
 use Rattle.token_grammar.specs.Parser.{Out, fail, ok, then, tail, isFirst, TypeStart, noType, aName, aTypePrefix, aSign, typeStartOf, typeStart, AfterItem, closes, another, noItem, afterItem, behind, typeBy, typesBy, someTypesBy}
 use Rattle.token_grammar.proofs.FirstTokens.{first-is, type-start-is, after-item-is, item-more, isTypeStart, type-begins}
@@ -16,8 +16,8 @@ use Rattle.token_grammar.proofs.Answers.{Good, good-then}
 
 -- fuel
 abbrev pub typeSize : {s : Sort} → Ty s → ℕ
-typeSize named = 1
-typeSize (applied l) = suc (typeSize l)
+typeSize (named y) = 1
+typeSize (applied y l) = suc (typeSize l)
 typeSize (pointing p t) = suc (typeSize t)
 typeSize (sign x) = 1
 typeSize noTypes = 1
@@ -26,8 +26,8 @@ typeSize (lastType comma t) = suc (typeSize t)
 typeSize (moreTypes t l) = suc (typeSize t + typeSize l)
 
 size-positive : {s : Sort} (t : Ty s) → 1 ≤ typeSize t
-size-positive named = omega arith
-size-positive (applied l) = omega arith
+size-positive (named y) = omega arith
+size-positive (applied y l) = omega arith
 size-positive (pointing p t) = omega arith
 size-positive (sign x) = omega arith
 size-positive noTypes = omega arith
@@ -48,16 +48,16 @@ start-sign infer = refl
 start-sign never = refl
 
 -- a token that begins no type does not stand first
-type-first : (u : Token) → isTypeStart (typeStartOf u) ≡ false → (t : Ty one) (r : List Token) → isFirst u (writeType t r) ≡ false
+type-first : (u : Token) → carries (code u) ≡ false → isTypeStart (typeStartOf u) ≡ false → (t : Ty one) (r : List Token) → isFirst u (writeType t r) ≡ false
 unfolding typeStartOf lookup pick
-type-first u n named r = type-begins u Name r n refl
-type-first u n (applied l) r = type-begins u Name (operator Lt ∷ writeType l r) n refl
-type-first u n (pointing p t) r = type-begins u (typePrefixToken p) (writeType t r) n (ap isTypeStart (start-prefix p))
-type-first u n (sign x) r = type-begins u (typeSignToken x) r n (ap isTypeStart (start-sign x))
+type-first u k n (named y) r = type-begins u (Name y) r k n refl
+type-first u k n (applied y l) r = type-begins u (Name y) (operator Lt ∷ writeType l r) k n refl
+type-first u k n (pointing p t) r = type-begins u (typePrefixToken p) (writeType t r) k n (ap isTypeStart (start-prefix p))
+type-first u k n (sign x) r = type-begins u (typeSignToken x) r k n (ap isTypeStart (start-sign x))
 
-pub items-first : (u : Token) → isTypeStart (typeStartOf u) ≡ false → (l : Ty items) (r : List Token) → isFirst u (writeType l r) ≡ false
-items-first u n (lastType comma t) r = type-first u n t (closing comma (operator Gt) r)
-items-first u n (moreTypes t l) r = type-first u n t (Comma ∷ writeType l r)
+pub items-first : (u : Token) → carries (code u) ≡ false → isTypeStart (typeStartOf u) ≡ false → (l : Ty items) (r : List Token) → isFirst u (writeType l r) ≡ false
+items-first u k n (lastType comma t) r = type-first u k n t (closing comma (operator Gt) r)
+items-first u k n (moreTypes t l) r = type-first u k n t (Comma ∷ writeType l r)
 
 -- one step of a parser whose test is answered
 by-prefix : (f : ℕ) (p : TypePrefix) (ts : List Token) → typeBy (suc f) (typePrefixToken p ∷ ts) ≡ then (typeBy f ts) (λ t r. ok (pointing p t) r)
@@ -96,18 +96,18 @@ ReadsType items f l = (r : List Token) → someTypesBy f (writeType l r) ≡ ok 
 pub reads-type : (s : Sort) (f : ℕ) (t : Ty s) → typeSize t ≤ f → ReadsType s f t
 unfolding typeBy typesBy someTypesBy afterItem typeStartOf lookup pick
 reads-type s zero t h = absurd (omega (arith, size-positive t))
-reads-type s (suc f) named h = λ r e. rw (e refl, typeBy)
-reads-type s (suc f) (applied l) h = λ r e. rw (reads-type list f l (omega arith) r)
+reads-type s (suc f) (named y) h = λ r e. rw (e refl, typeBy)
+reads-type s (suc f) (applied y l) h = λ r e. rw (reads-type list f l (omega arith) r)
 reads-type s (suc f) (pointing p t) h = λ r e. by-prefix f p (writeType t r) ∙ rw (reads-type one f t (omega arith) r e)
 reads-type s (suc f) (sign x) h = λ r e. by-sign f x r
 reads-type s (suc f) noTypes h = λ r. refl
-reads-type s (suc f) (types l) h = λ r. by-items f (writeType l r) (items-first (operator Gt) refl l r) ∙ rw (reads-type items f l (omega arith) r)
+reads-type s (suc f) (types l) h = λ r. by-items f (writeType l r) (items-first (operator Gt) refl refl l r) ∙ rw (reads-type items f l (omega arith) r)
 reads-type s (suc f) (lastType true t) h =
     λ r. by-item f t (writeType t (Comma ∷ operator Gt ∷ r)) _ (closes true) (reads-type one f t (omega arith) (Comma ∷ operator Gt ∷ r) (λ e. refl)) refl
 reads-type s (suc f) (lastType false t) h =
     λ r. by-item f t (writeType t (operator Gt ∷ r)) _ (closes false) (reads-type one f t (omega arith) (operator Gt ∷ r) (λ e. refl)) refl
 reads-type s (suc f) (moreTypes t l) h = λ r.
-    by-item f t (writeType t (Comma ∷ writeType l r)) _ another (reads-type one f t (omega arith) (Comma ∷ writeType l r) (λ e. refl)) (item-more (operator Gt) (writeType l r) refl (items-first (operator Gt) refl l r))
+    by-item f t (writeType t (Comma ∷ writeType l r)) _ another (reads-type one f t (omega arith) (Comma ∷ writeType l r) (λ e. refl)) (item-more (operator Gt) (writeType l r) refl (items-first (operator Gt) refl refl l r))
     ∙ rw (reads-type items f l (omega arith) r)
 
 -- The fuel is at most twice the tokens.
@@ -117,8 +117,8 @@ slack list = 0
 slack items = 1
 
 pub type-bound : (s : Sort) (t : Ty s) (r : List Token) → slack s + typeSize t + 2 * length r ≤ 2 * length (writeType t r)
-type-bound s named r = omega arith
-type-bound s (applied l) r = omega (arith, type-bound list l r)
+type-bound s (named y) r = omega arith
+type-bound s (applied y l) r = omega (arith, type-bound list l r)
 type-bound s (pointing p t) r = omega (arith, type-bound one t r)
 type-bound s (sign x) r = omega arith
 type-bound s noTypes r = omega arith
@@ -143,7 +143,7 @@ abbrev typeStep : ℕ → List Token → TypeStart → Bool → Out (Ty one)
 typeStep f ts x y =
     elim x [
       | noType ↦ fail
-      | aName ↦ elim y [ true ↦ then (typesBy f (tail (tail ts))) (λ l r. ok (applied l) r) | false ↦ ok named (tail ts) ]
+      | aName m ↦ elim y [ true ↦ then (typesBy f (tail (tail ts))) (λ l r. ok (applied m l) r) | false ↦ ok (named m) (tail ts) ]
       | aTypePrefix p ↦ then (typeBy f (tail ts)) (λ t r. ok (pointing p t) r)
       | aSign z ↦ ok (sign z) (tail ts)
     ]
@@ -154,12 +154,12 @@ typesStep f ts y = elim y [ true ↦ ok noTypes (tail ts) | false ↦ then (some
 module _ (f : ℕ) (ih : TypeSounds f) (ts : List Token) where
   sound-type : (x : TypeStart) (y : Bool) → typeStart ts ≡ x → isFirst (operator Lt) (tail ts) ≡ y → Good (TypeSound {s = one} ts) (typeStep f ts x y)
   sound-type noType y e q = tt
-  sound-type aName true e q =
-      let u : Name ∷ tail ts ≡ ts = type-start-is ts aName e in
-      let v = first-is (operator Lt) (tail ts) q in
-      good-then (TypeSound {s = list} (tail (tail ts))) (TypeSound {s = one} ts) (typesBy f (tail (tail ts))) (λ l r. ok (applied l) r) (ih .1 (tail (tail ts)))
+  sound-type (aName m) true e q =
+      let u : Name m ∷ tail ts ≡ ts = type-start-is ts (aName m) e in
+      let v = first-is (operator Lt) (tail ts) refl q in
+      good-then (TypeSound {s = list} (tail (tail ts))) (TypeSound {s = one} ts) (typesBy f (tail (tail ts))) (λ l r. ok (applied m l) r) (ih .1 (tail (tail ts)))
       (λ l r h. cc)
-  sound-type aName false e q = type-start-is ts aName e
+  sound-type (aName m) false e q = type-start-is ts (aName m) e
   sound-type (aTypePrefix p) y e q =
       let u : typePrefixToken p ∷ tail ts ≡ ts = type-start-is ts (aTypePrefix p) e in
       good-then (TypeSound {s = one} (tail ts)) (TypeSound {s = one} ts) (typeBy f (tail ts)) (λ t r. ok (pointing p t) r) (ih .0 (tail ts))
@@ -167,13 +167,13 @@ module _ (f : ℕ) (ih : TypeSounds f) (ts : List Token) where
   sound-type (aSign x) y e q = type-start-is ts (aSign x) e
 
   sound-types : (y : Bool) → isFirst (operator Gt) ts ≡ y → Good (TypeSound {s = list} ts) (typesStep f ts y)
-  sound-types true q = first-is (operator Gt) ts q
+  sound-types true q = first-is (operator Gt) ts refl q
   sound-types false q = good-then (TypeSound {s = items} ts) (TypeSound {s = list} ts) (someTypesBy f ts) (λ l r. ok (types l) r) (ih .2 ts) (λ l r h. h)
 
   sound-some : (t : Ty one) (r : List Token) → TypeSound ts t r → (x : AfterItem) → afterItem (operator Gt) r ≡ x → Good (TypeSound {s = items} ts) (someTypesStep f t r x)
-  sound-some t r h (closes comma) p = ap (writeType t) (after-item-is (operator Gt) r (closes comma) p) ∙ h
+  sound-some t r h (closes comma) p = ap (writeType t) (after-item-is (operator Gt) r (closes comma) refl p) ∙ h
   sound-some t r h another p =
-      let v = after-item-is (operator Gt) r another p in
+      let v = after-item-is (operator Gt) r another refl p in
       good-then (TypeSound {s = items} (tail r)) (TypeSound {s = items} ts) (someTypesBy f (tail r)) (λ l w. ok (moreTypes t l) w) (ih .2 (tail r))
       (λ l w k. cc)
   sound-some t r h noItem p = tt

@@ -2,21 +2,23 @@
 -- "Plain: Path, Lit, Paren, Unary, Reference, Binary, Assign, Cast, Field, Index, Call, MethodCall, Try, Await, no attributes; .. and the links of their lists."
 use mathlib.Core.Bool.{Bool, true, false}
 use mathlib.Core.List.{List, _∷_}
+use Prim.Native.Nat.{ℕ}
 use Rattle.token_grammar.specs.Tokens.{Operator, Sub, Mul, BitAnd, Token, operator, Bang, AndMut, As, Name, Literal, Dot, LeftParen, RightParen, LeftBracket, RightBracket, Comma, Question, NumberedMember, Await}
 use Rattle.token_grammar.specs.Levels.{Kind, casts, prefixes, postfixes, kind}
 use Rattle.token_grammar.specs.Types.{Sort, one, list, items, Ty, closing, writeType, typeEndsInName}
 
--- Path and Lit
+-- Path and Lit, each with its symbol
 pub data Atom : Type 0 where
-  path literal : Atom
+  path literal : ℕ → Atom
 
 -- Unary (Neg, Deref, Not), and Reference, shared or mutable
 pub data Prefix : Type 0 where
   neg deref invert ref refMut : Prefix
 
--- what stands after a dot: Field, named or numbered, and Await
+-- what stands after a dot: Field, named or numbered, with its symbol, and Await
 pub data Member : Type 0 where
-  byName byNumber awaited : Member
+  byName byNumber : ℕ → Member
+  awaited : Member
 
 pub data Expr : Sort → Type 0 where
   atom : Atom → Expr one
@@ -30,7 +32,8 @@ pub data Expr : Sort → Type 0 where
   try : Expr one → Expr one
   index : Expr one → Expr one → Expr one
   call : Expr one → Expr list → Expr one
-  method : Expr one → Expr list → Expr one
+  -- with the symbol of its name
+  method : ℕ → Expr one → Expr list → Expr one
   noArguments : Expr list
   arguments : Expr items → Expr list
   -- with a comma after it, or without
@@ -39,8 +42,8 @@ pub data Expr : Sort → Type 0 where
 
 -- "32 name, 33 literal"
 abbrev pub atomToken : Atom → Token
-atomToken path = Name
-atomToken literal = Literal
+atomToken (path y) = Name y
+atomToken (literal y) = Literal y
 
 -- "Neg, Deref and shared reference use 1, 2 and 8."; "29 `!`, 30 `&mut`"
 abbrev pub prefixToken : Prefix → Token
@@ -52,8 +55,8 @@ prefixToken refMut = AndMut
 
 -- "32 name", "44 numbered member, 45 await"
 abbrev pub memberToken : Member → Token
-memberToken byName = Name
-memberToken byNumber = NumberedMember
+memberToken (byName y) = Name y
+memberToken (byNumber y) = NumberedMember y
 memberToken awaited = Await
 
 -- A parse tree's tokens, and then `rest`. "Lists may be empty and have commas between items"; `closing` has the comma after a last item.
@@ -67,7 +70,7 @@ write (member m a) rest = write a (Dot ∷ memberToken m ∷ rest)
 write (try a) rest = write a (Question ∷ rest)
 write (index a b) rest = write a (LeftBracket ∷ write b (RightBracket ∷ rest))
 write (call a l) rest = write a (LeftParen ∷ write l rest)
-write (method a l) rest = write a (Dot ∷ Name ∷ LeftParen ∷ write l rest)
+write (method y a l) rest = write a (Dot ∷ Name y ∷ LeftParen ∷ write l rest)
 write noArguments rest = RightParen ∷ rest
 write (arguments l) rest = write l rest
 write (lastArgument comma a) rest = write a (closing comma RightParen rest)
@@ -84,7 +87,7 @@ kindOf (member m a) = postfixes
 kindOf (try a) = postfixes
 kindOf (index a b) = postfixes
 kindOf (call a l) = postfixes
-kindOf (method a l) = postfixes
+kindOf (method y a l) = postfixes
 
 -- whether the last token is a type name
 abbrev pub endsInTypeName : Expr one → Bool
@@ -97,7 +100,7 @@ endsInTypeName (member m a) = false
 endsInTypeName (try a) = false
 endsInTypeName (index a b) = false
 endsInTypeName (call a l) = false
-endsInTypeName (method a l) = false
+endsInTypeName (method y a l) = false
 
 -- whether the last two tokens are a dot and a name
 abbrev pub endsInDotName : Expr one → Bool
@@ -106,10 +109,10 @@ endsInDotName (paren a) = false
 endsInDotName (prefix p a) = endsInDotName a
 endsInDotName (binary o a b) = endsInDotName b
 endsInDotName (cast a t) = false
-endsInDotName (member byName a) = true
-endsInDotName (member byNumber a) = false
+endsInDotName (member (byName y) a) = true
+endsInDotName (member (byNumber y) a) = false
 endsInDotName (member awaited a) = false
 endsInDotName (try a) = false
 endsInDotName (index a b) = false
 endsInDotName (call a l) = false
-endsInDotName (method a l) = false
+endsInDotName (method y a l) = false

@@ -13,8 +13,8 @@ nextOf (operator o) = operates o
 nextOf Bang = stops
 nextOf AndMut = stops
 nextOf As = castsTo
-nextOf Name = stops
-nextOf Literal = stops
+nextOf (Name y) = stops
+nextOf (Literal y) = stops
 nextOf Dot = dots
 nextOf LeftParen = calls
 nextOf RightParen = stops
@@ -25,7 +25,7 @@ nextOf Question = tries
 nextOf StarConst = stops
 nextOf StarMut = stops
 nextOf Underscore = stops
-nextOf NumberedMember = stops
+nextOf (NumberedMember y) = stops
 nextOf Await = stops
 
 -- its level

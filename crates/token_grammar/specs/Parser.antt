@@ -5,7 +5,7 @@ use Prim.Native.Nat.{ℕ, zero, suc, _*_}
 use lib.Dec.{leb, eqb}
 use lib.ListN.{length}
 use Rattle.laws.specs.Choice.{Line, line, lookup}
-use Rattle.token_grammar.specs.Tokens.{Sub, Mul, BitAnd, Lt, Gt, number, Token, operator, code, Bang, AndMut, Name, Literal, LeftParen, RightParen, RightBracket, Comma, StarConst, StarMut, Underscore, NumberedMember, Await}
+use Rattle.token_grammar.specs.Tokens.{Sub, Mul, BitAnd, Lt, Gt, number, Token, operator, code, symbolOf, Bang, AndMut, Name, Literal, LeftParen, RightParen, RightBracket, Comma, StarConst, StarMut, Underscore, NumberedMember, Await}
 use Rattle.token_grammar.specs.Levels.{casts, prefixes, postfixes, kind, level, before, after}
 use Rattle.token_grammar.specs.Bounds.{loosest}
 use Rattle.token_grammar.specs.Next.{Next, stops, operates, castsTo, dots, calls, indexes, tries, nextOf, levelAt}
@@ -43,23 +43,24 @@ pub data Start : Type 0 where
   aPrefix : Prefix → Start
   aGroup : Start
 
-abbrev pub startLines : List (Line Start)
-startLines =
+-- by a token's code and its symbol
+abbrev pub startLines : ℕ → List (Line Start)
+startLines y =
     line (number Sub ∷ []) (aPrefix neg) ∷
     line (number Mul ∷ []) (aPrefix deref) ∷
     line (number BitAnd ∷ []) (aPrefix ref) ∷
     line (code Bang ∷ []) (aPrefix invert) ∷
     line (code AndMut ∷ []) (aPrefix refMut) ∷
-    line (code Name ∷ []) (anAtom path) ∷
-    line (code Literal ∷ []) (anAtom literal) ∷
+    line (code (Name y) ∷ []) (anAtom (path y)) ∷
+    line (code (Literal y) ∷ []) (anAtom (literal y)) ∷
     line (code LeftParen ∷ []) aGroup ∷
     []
 
-abbrev pub startBy : ℕ → Start
-startBy n = lookup startLines noStart n
+abbrev pub startBy : ℕ → ℕ → Start
+startBy n y = lookup (startLines y) noStart n
 
 unfoldable pub startOf : Token → Start
-startOf t = startBy (code t)
+startOf t = startBy (code t) (symbolOf t)
 
 abbrev pub start : List Token → Start
 start ts = firstBy noStart startOf ts
@@ -67,26 +68,26 @@ start ts = firstBy noStart startOf ts
 -- where a type is due
 pub data TypeStart : Type 0 where
   noType : TypeStart
-  aName : TypeStart
+  aName : ℕ → TypeStart
   aTypePrefix : TypePrefix → TypeStart
   aSign : TypeSign → TypeStart
 
-abbrev pub typeStartLines : List (Line TypeStart)
-typeStartLines =
+abbrev pub typeStartLines : ℕ → List (Line TypeStart)
+typeStartLines y =
     line (number BitAnd ∷ []) (aTypePrefix sharedRef) ∷
     line (code Bang ∷ []) (aSign never) ∷
     line (code AndMut ∷ []) (aTypePrefix mutRef) ∷
-    line (code Name ∷ []) aName ∷
+    line (code (Name y) ∷ []) (aName y) ∷
     line (code StarConst ∷ []) (aTypePrefix constPtr) ∷
     line (code StarMut ∷ []) (aTypePrefix mutPtr) ∷
     line (code Underscore ∷ []) (aSign infer) ∷
     []
 
-abbrev pub typeStartBy : ℕ → TypeStart
-typeStartBy n = lookup typeStartLines noType n
+abbrev pub typeStartBy : ℕ → ℕ → TypeStart
+typeStartBy n y = lookup (typeStartLines y) noType n
 
 unfoldable pub typeStartOf : Token → TypeStart
-typeStartOf t = typeStartBy (code t)
+typeStartOf t = typeStartBy (code t) (symbolOf t)
 
 abbrev pub typeStart : List Token → TypeStart
 typeStart ts = firstBy noType typeStartOf ts
@@ -96,26 +97,31 @@ pub data AfterDot : Type 0 where
   noMember : AfterDot
   aMember : Member → AfterDot
 
-abbrev pub afterDotLines : List (Line AfterDot)
-afterDotLines =
-    line (code Name ∷ []) (aMember byName) ∷
-    line (code NumberedMember ∷ []) (aMember byNumber) ∷
+abbrev pub afterDotLines : ℕ → List (Line AfterDot)
+afterDotLines y =
+    line (code (Name y) ∷ []) (aMember (byName y)) ∷
+    line (code (NumberedMember y) ∷ []) (aMember (byNumber y)) ∷
     line (code Await ∷ []) (aMember awaited) ∷
     []
 
-abbrev pub afterDotBy : ℕ → AfterDot
-afterDotBy n = lookup afterDotLines noMember n
+abbrev pub afterDotBy : ℕ → ℕ → AfterDot
+afterDotBy n y = lookup (afterDotLines y) noMember n
 
 unfoldable pub afterDotOf : Token → AfterDot
-afterDotOf t = afterDotBy (code t)
+afterDotOf t = afterDotBy (code t) (symbolOf t)
 
 abbrev pub afterDot : List Token → AfterDot
 afterDot ts = firstBy noMember afterDotOf ts
 
 abbrev pub isByName : Member → Bool
-isByName byName = true
-isByName byNumber = false
+isByName (byName y) = true
+isByName (byNumber y) = false
 isByName awaited = false
+
+abbrev pub memberSymbol : Member → ℕ
+memberSymbol (byName y) = y
+memberSymbol (byNumber y) = y
+memberSymbol awaited = 0
 
 -- after an expression
 abbrev pub next : List Token → Next
@@ -160,7 +166,7 @@ unfoldable mutual
   typeBy (suc f) ts =
       elim (typeStart ts) [
         | noType ↦ fail
-        | aName ↦ elim (isFirst (operator Lt) (tail ts)) [ true ↦ then (typesBy f (tail (tail ts))) (λ l r. ok (applied l) r) | false ↦ ok named (tail ts) ]
+        | aName y ↦ elim (isFirst (operator Lt) (tail ts)) [ true ↦ then (typesBy f (tail (tail ts))) (λ l r. ok (applied y l) r) | false ↦ ok (named y) (tail ts) ]
         | aTypePrefix p ↦ then (typeBy f (tail ts)) (λ t r. ok (pointing p t) r)
         | aSign x ↦ ok (sign x) (tail ts)
       ]
@@ -204,7 +210,7 @@ unfoldable mutual
           | dots ↦ elim (afterDot (tail ts)) [
             | noMember ↦ fail
             | aMember m ↦ elim (isByName m && isFirst LeftParen (tail (tail ts))) [
-              | true ↦ then (argumentsBy f (tail (tail (tail ts)))) (λ l r. onBy f c n (method e l) r)
+              | true ↦ then (argumentsBy f (tail (tail (tail ts)))) (λ l r. onBy f c n (method (memberSymbol m) e l) r)
               | false ↦ onBy f c n (member m e) (tail (tail ts))
             ]
           ]

@@ -1,6 +1,7 @@
 -- The parse trees of plain types, and their tokens. "Plain: .. types Path (1 or 2), Ptr, Reference, Infer, Never; and the links of their lists."
 use mathlib.Core.Bool.{Bool, true, false}
 use mathlib.Core.List.{List, _∷_}
+use Prim.Native.Nat.{ℕ}
 use Rattle.token_grammar.specs.Tokens.{Token, operator, BitAnd, Lt, Gt, Bang, AndMut, Name, Comma, StarConst, StarMut, Underscore}
 
 -- An expression or a type; a list of them, perhaps empty, with the sign that closes it; the same with at least one item.
@@ -15,9 +16,9 @@ pub data TypeSign : Type 0 where
   infer never : TypeSign
 
 pub data Ty : Sort → Type 0 where
-  -- a path without arguments, and one with them
-  named : Ty one
-  applied : Ty list → Ty one
+  -- a path without arguments, and one with them, each with its symbol
+  named : ℕ → Ty one
+  applied : ℕ → Ty list → Ty one
   -- Ptr and Reference
   pointing : TypePrefix → Ty one → Ty one
   -- Infer and Never
@@ -47,8 +48,8 @@ closing false close rest = close ∷ rest
 
 -- A type's tokens, and then `rest`. "`<` there opens type arguments, closed by 17." "Lists may be empty and have commas between items"
 abbrev pub writeType : {s : Sort} → Ty s → List Token → List Token
-writeType named rest = Name ∷ rest
-writeType (applied l) rest = Name ∷ operator Lt ∷ writeType l rest
+writeType (named y) rest = Name y ∷ rest
+writeType (applied y l) rest = Name y ∷ operator Lt ∷ writeType l rest
 writeType (pointing p t) rest = typePrefixToken p ∷ writeType t rest
 writeType (sign x) rest = typeSignToken x ∷ rest
 writeType noTypes rest = operator Gt ∷ rest
@@ -58,7 +59,7 @@ writeType (moreTypes t l) rest = writeType t (Comma ∷ writeType l rest)
 
 -- whether its last token is a type name
 abbrev pub typeEndsInName : Ty one → Bool
-typeEndsInName named = true
-typeEndsInName (applied l) = false
+typeEndsInName (named y) = true
+typeEndsInName (applied y l) = false
 typeEndsInName (pointing p t) = typeEndsInName t
 typeEndsInName (sign x) = false

@@ -13,8 +13,8 @@ use Rattle.laws.specs.Each.{some}
 use Rattle.laws.proofs.Choice.{and-true, true-not-false, pick-false}
 use Rattle.laws.proofs.Each.{some-none}
 use Rattle.tree_places.specs.declared.place.Place.the-variants.{Nothing, Required, List as ListOf, Item, Next}
-use Rattle.tree.specs.Forms.{ExprAssign, ExprAwait, ExprBinary, ExprCall, ExprCast, ExprField, ExprIndex, ExprLit, ExprMethodCall, ExprParen, ExprPath, ExprReference, ExprTry, ExprUnary, TypeInfer, TypeNever, TypePath, TypePtr, TypeReference, Link, anExpression, aType, aLink, classOf, highestAttributes, details, highestDetail, allowed}
-use Rattle.tree.specs.Table.{formAt, attributesAt, detailAt, firstAt, secondAt, classAt}
+use Rattle.tree.specs.Forms.{ExprAssign, ExprAwait, ExprBinary, ExprCall, ExprCast, ExprField, ExprIndex, ExprLit, ExprMethodCall, ExprParen, ExprPath, ExprReference, ExprTry, ExprUnary, TypeInfer, TypeNever, TypePath, TypePtr, TypeReference, Link, anExpression, aType, aLink, classOf, highestAttributes, details, highestDetail, symbols, highestSymbol, allowed}
+use Rattle.tree.specs.Table.{formAt, attributesAt, detailAt, firstAt, secondAt, symbolAt, classAt}
 use Rattle.tree.specs.Trees.{Label, Tree, none, node, labelAt, treeAt}
 use Rattle.tree_places.specs.Places.{firstPlaces, firstPlace, secondPlaces, secondPlace}
 use Rattle.tree_rules.specs.Refusals.{Accepted}
@@ -25,7 +25,7 @@ use Rattle.token_grammar.specs.Types.{one, list, items, TypePrefix, constPtr, m
 use Rattle.token_grammar.specs.Expressions.{Atom, path, literal, Prefix, neg, deref, invert, ref, refMut, Member, byName, byNumber, awaited, Expr, atom, paren, prefix, binary, cast, member, try, index, call, method, noArguments, arguments, lastArgument, moreArguments}
 use Rattle.token_grammar.proofs.Tokens.{number-operator}
 use Rattle.token_plain.specs.Plain.{plainExpressions, plainTypes, isPlain, plainTable}
-use Rattle.token_plain.specs.Trees.{label, operatorLabel, treeOf, treeOfType}
+use Rattle.token_plain.specs.Trees.{labelWith, label, operatorLabel, treeOf, treeOfType}
 
 -- ---- a number that is one of those listed
 
@@ -88,119 +88,123 @@ module _ (cells : List ℕ) (count : ℕ) where
 
     -- ---- a node, by its form: what stands at its places, and the parse tree that it is
 
-    module _ (d p q : ℕ) where
+    module _ (d s p q : ℕ) where
       abbrev here : ℕ → Tree
-      here form = node (label form d) (treeAt cells count p) (treeAt cells count q)
+      here form = node (labelWith form d s) (treeAt cells count p) (treeAt cells count q)
 
       abbrev Node : (Tree → Type 0) → ℕ → Type 0
-      Node Is form = d ≤ highestDetail form → Fits cells count i (firstPlace form d) p → Fits cells count i (secondPlace form d) q → Is (here form)
+      Node Is form = d ≤ highestDetail form → s ≤ highestSymbol form d → Fits cells count i (firstPlace form d) p → Fits cells count i (secondPlace form d) q → Is (here form)
 
-      -- the node with no detail
-      bare-node : (form : ℕ) → d ≤ 0 → node (label form 0) (treeAt cells count p) (treeAt cells count q) ≡ here form
-      bare-node form h = ap (λ n. node (label form n) (treeAt cells count p) (treeAt cells count q)) (omega arith)
+      -- the node of a label that is known to be this one
+      same-node : (form m y : ℕ) → m ≡ d → y ≡ s → node (labelWith form m y) (treeAt cells count p) (treeAt cells count q) ≡ here form
+      same-node form m y h k = ap₂ (λ n z. node (labelWith form n z) (treeAt cells count p) (treeAt cells count q)) h k
+
+      -- the node with no detail and no symbol
+      bare-node : (form : ℕ) → d ≤ 0 → s ≤ 0 → node (label form 0) (treeAt cells count p) (treeAt cells count q) ≡ here form
+      bare-node form h k = same-node form 0 0 (omega arith) (omega arith)
 
       -- ---- expressions
 
-      closed : (x : Atom) (form : ℕ) → treeOf (atom x) ≡ node (label form 0) none none → d ≤ 0 → p ≡ 0 → q ≡ 0 → AnExpr (here form)
-      closed x form e h u v = (atom x, e ∙ ap₂ (node (label form 0)) (none-at p u) (none-at q v) ∙ bare-node form h)
+      closed : (x : Atom) (form : ℕ) → treeOf (atom x) ≡ node (labelWith form 0 s) none none → d ≤ 0 → p ≡ 0 → q ≡ 0 → AnExpr (here form)
+      closed x form e h u v = (atom x, e ∙ ap₂ (node (labelWith form 0 s)) (none-at p u) (none-at q v) ∙ same-node form 0 s (omega arith) refl)
 
       is-path : Node AnExpr ExprPath
-      unfolding highestDetail details firstPlace firstPlaces secondPlace secondPlaces lookup pick
-      is-path h u v = closed path ExprPath refl h u v
+      unfolding highestDetail details highestSymbol symbols firstPlace firstPlaces secondPlace secondPlaces lookup pick
+      is-path h k u v = closed (path s) ExprPath refl h u v
 
       is-lit : Node AnExpr ExprLit
-      unfolding highestDetail details firstPlace firstPlaces secondPlace secondPlaces lookup pick
-      is-lit h u v = closed literal ExprLit refl h u v
+      unfolding highestDetail details highestSymbol symbols firstPlace firstPlaces secondPlace secondPlaces lookup pick
+      is-lit h k u v = closed (literal s) ExprLit refl h u v
 
       -- with one operand
-      over : (wrap : Expr one → Expr one) (form : ℕ) (m : ℕ) → ((a : Expr one) → treeOf (wrap a) ≡ node (label form m) (treeOf a) none) → m ≡ d
+      over : (wrap : Expr one → Expr one) (form m y : ℕ) → ((a : Expr one) → treeOf (wrap a) ≡ node (labelWith form m y) (treeOf a) none) → m ≡ d → y ≡ s
           → Fits cells count i (Required anExpression) p → q ≡ 0 → AnExpr (here form)
-      over wrap form m e h u v =
+      over wrap form m y e h k u v =
           let a = expr-at p u in
-          (wrap (a .0), e (a .0) ∙ ap₂ (node (label form m)) (a .1) (none-at q v) ∙ ap (λ n. node (label form n) (treeAt cells count p) (treeAt cells count q)) h)
+          (wrap (a .0), e (a .0) ∙ ap₂ (node (labelWith form m y)) (a .1) (none-at q v) ∙ same-node form m y h k)
 
       is-paren : Node AnExpr ExprParen
-      unfolding highestDetail details firstPlace firstPlaces secondPlace secondPlaces lookup pick
-      is-paren h u v = over paren ExprParen 0 (λ a. refl) (omega arith) u v
+      unfolding highestDetail details highestSymbol symbols firstPlace firstPlaces secondPlace secondPlaces lookup pick
+      is-paren h k u v = over paren ExprParen 0 0 (λ a. refl) (omega arith) (omega arith) u v
 
       is-try : Node AnExpr ExprTry
-      unfolding highestDetail details firstPlace firstPlaces secondPlace secondPlaces lookup pick
-      is-try h u v = over try ExprTry 0 (λ a. refl) (omega arith) u v
+      unfolding highestDetail details highestSymbol symbols firstPlace firstPlaces secondPlace secondPlaces lookup pick
+      is-try h k u v = over try ExprTry 0 0 (λ a. refl) (omega arith) (omega arith) u v
 
       is-await : Node AnExpr ExprAwait
-      unfolding highestDetail details firstPlace firstPlaces secondPlace secondPlaces lookup pick
-      is-await h u v = over (member awaited) ExprAwait 0 (λ a. refl) (omega arith) u v
+      unfolding highestDetail details highestSymbol symbols firstPlace firstPlaces secondPlace secondPlaces lookup pick
+      is-await h k u v = over (member awaited) ExprAwait 0 0 (λ a. refl) (omega arith) (omega arith) u v
 
       is-field : Node AnExpr ExprField
-      unfolding highestDetail details firstPlace firstPlaces secondPlace secondPlaces lookup pick
-      is-field h u v = go (up-to-one d h)
+      unfolding highestDetail details highestSymbol symbols firstPlace firstPlaces secondPlace secondPlaces lookup pick
+      is-field h k u v = go (up-to-one d h)
         where
           go : (0 ≡ d) ⊎ (1 ≡ d) → AnExpr (here ExprField)
-          go (inl e) = over (member byName) ExprField 0 (λ a. refl) e u v
-          go (inr e) = over (member byNumber) ExprField 1 (λ a. refl) e u v
+          go (inl e) = over (member (byName s)) ExprField 0 s (λ a. refl) e refl u v
+          go (inr e) = over (member (byNumber s)) ExprField 1 s (λ a. refl) e refl u v
 
       is-reference : Node AnExpr ExprReference
-      unfolding highestDetail details firstPlace firstPlaces secondPlace secondPlaces lookup pick
-      is-reference h u v = go (up-to-one d h)
+      unfolding highestDetail details highestSymbol symbols firstPlace firstPlaces secondPlace secondPlaces lookup pick
+      is-reference h k u v = go (up-to-one d h)
         where
           go : (0 ≡ d) ⊎ (1 ≡ d) → AnExpr (here ExprReference)
-          go (inl e) = over (prefix ref) ExprReference 0 (λ a. refl) e u v
-          go (inr e) = over (prefix refMut) ExprReference 1 (λ a. refl) e u v
+          go (inl e) = over (prefix ref) ExprReference 0 0 (λ a. refl) e (omega arith) u v
+          go (inr e) = over (prefix refMut) ExprReference 1 0 (λ a. refl) e (omega arith) u v
 
       is-unary : Node AnExpr ExprUnary
-      unfolding highestDetail details firstPlace firstPlaces secondPlace secondPlaces lookup pick
-      is-unary h u v = go (up-to-two d h)
+      unfolding highestDetail details highestSymbol symbols firstPlace firstPlaces secondPlace secondPlaces lookup pick
+      is-unary h k u v = go (up-to-two d h)
         where
           go : (0 ≡ d) ⊎ ((1 ≡ d) ⊎ (2 ≡ d)) → AnExpr (here ExprUnary)
-          go (inl e) = over (prefix deref) ExprUnary 0 (λ a. refl) e u v
-          go (inr (inl e)) = over (prefix invert) ExprUnary 1 (λ a. refl) e u v
-          go (inr (inr e)) = over (prefix neg) ExprUnary 2 (λ a. refl) e u v
+          go (inl e) = over (prefix deref) ExprUnary 0 0 (λ a. refl) e (omega arith) u v
+          go (inr (inl e)) = over (prefix invert) ExprUnary 1 0 (λ a. refl) e (omega arith) u v
+          go (inr (inr e)) = over (prefix neg) ExprUnary 2 0 (λ a. refl) e (omega arith) u v
 
       -- with two
-      between : (o : Operator) (form m : ℕ) → operatorLabel o ≡ label form m → m ≡ d
+      between : (o : Operator) (form m : ℕ) → operatorLabel o ≡ label form m → m ≡ d → s ≤ 0
           → Fits cells count i (Required anExpression) p → Fits cells count i (Required anExpression) q → AnExpr (here form)
-      between o form m e h u v =
+      between o form m e h k u v =
           let a = expr-at p u in
           let b = expr-at q v in
-          (binary o (a .0) (b .0), ap (λ l. node l (treeOf (a .0)) (treeOf (b .0))) e ∙ ap₂ (node (label form m)) (a .1) (b .1) ∙ ap (λ n. node (label form n) (treeAt cells count p) (treeAt cells count q)) h)
+          (binary o (a .0) (b .0), ap (λ l. node l (treeOf (a .0)) (treeOf (b .0))) e ∙ ap₂ (node (label form m)) (a .1) (b .1) ∙ same-node form m 0 h (omega arith))
 
       is-binary : Node AnExpr ExprBinary
-      unfolding highestDetail details firstPlace firstPlaces secondPlace secondPlaces lookup pick operatorLabel
-      is-binary h u v =
+      unfolding highestDetail details highestSymbol symbols firstPlace firstPlaces secondPlace secondPlaces lookup pick operatorLabel
+      is-binary h k u v =
           let n = number-operator d (omega arith) in
-          between (operatorOf d) ExprBinary (number (operatorOf d)) (pick-false _ _ (ne-eqb (number (operatorOf d)) (number Assign) (λ e. omega arith))) n u v
+          between (operatorOf d) ExprBinary (number (operatorOf d)) (pick-false _ _ (ne-eqb (number (operatorOf d)) (number Assign) (λ e. omega arith))) n k u v
 
       is-assign : Node AnExpr ExprAssign
-      unfolding highestDetail details firstPlace firstPlaces secondPlace secondPlaces lookup pick operatorLabel
-      is-assign h u v = between Assign ExprAssign 0 refl (omega arith) u v
+      unfolding highestDetail details highestSymbol symbols firstPlace firstPlaces secondPlace secondPlaces lookup pick operatorLabel
+      is-assign h k u v = between Assign ExprAssign 0 refl (omega arith) k u v
 
       is-index : Node AnExpr ExprIndex
-      unfolding highestDetail details firstPlace firstPlaces secondPlace secondPlaces lookup pick
-      is-index h u v =
+      unfolding highestDetail details highestSymbol symbols firstPlace firstPlaces secondPlace secondPlaces lookup pick
+      is-index h k u v =
           let a = expr-at p u in
           let b = expr-at q v in
-          (index (a .0) (b .0), ap₂ (node (label ExprIndex 0)) (a .1) (b .1) ∙ bare-node ExprIndex h)
+          (index (a .0) (b .0), ap₂ (node (label ExprIndex 0)) (a .1) (b .1) ∙ bare-node ExprIndex h k)
 
       is-cast : Node AnExpr ExprCast
-      unfolding highestDetail details firstPlace firstPlaces secondPlace secondPlaces lookup pick
-      is-cast h u v =
+      unfolding highestDetail details highestSymbol symbols firstPlace firstPlaces secondPlace secondPlaces lookup pick
+      is-cast h k u v =
           let a = expr-at p u in
           let b = type-at q v in
-          (cast (a .0) (b .0), ap₂ (node (label ExprCast 0)) (a .1) (b .1) ∙ bare-node ExprCast h)
+          (cast (a .0) (b .0), ap₂ (node (label ExprCast 0)) (a .1) (b .1) ∙ bare-node ExprCast h k)
 
       is-call : Node AnExpr ExprCall
-      unfolding highestDetail details firstPlace firstPlaces secondPlace secondPlaces lookup pick
-      is-call h u v =
+      unfolding highestDetail details highestSymbol symbols firstPlace firstPlaces secondPlace secondPlaces lookup pick
+      is-call h k u v =
           let a = expr-at p u in
           let b = list-at q v in
-          (call (a .0) (b .0), ap₂ (node (label ExprCall 0)) (a .1) (b .1) ∙ bare-node ExprCall h)
+          (call (a .0) (b .0), ap₂ (node (label ExprCall 0)) (a .1) (b .1) ∙ bare-node ExprCall h k)
 
       is-method : Node AnExpr ExprMethodCall
-      unfolding highestDetail details firstPlace firstPlaces secondPlace secondPlaces lookup pick
-      is-method h u v =
+      unfolding highestDetail details highestSymbol symbols firstPlace firstPlaces secondPlace secondPlaces lookup pick
+      is-method h k u v =
           let a = expr-at p u in
           let b = list-at q v in
-          (method (a .0) (b .0), ap₂ (node (label ExprMethodCall 0)) (a .1) (b .1) ∙ bare-node ExprMethodCall h)
+          (method s (a .0) (b .0), ap₂ (node (labelWith ExprMethodCall 0 s)) (a .1) (b .1) ∙ same-node ExprMethodCall 0 s (omega arith) refl)
 
       expression : (form : ℕ) → isOneOf plainExpressions form ≡ true → Node AnExpr form
       expression form e =
@@ -210,54 +214,53 @@ module _ (cells : List ℕ) (count : ℕ) where
 
       -- ---- types
 
-      alone : (y : Ty one) (form m : ℕ) → treeOfType y ≡ node (label form m) none none → m ≡ d → p ≡ 0 → q ≡ 0 → AType (here form)
-      alone y form m e h u v =
-          (y, e ∙ ap₂ (node (label form m)) (none-at p u) (none-at q v) ∙ ap (λ n. node (label form n) (treeAt cells count p) (treeAt cells count q)) h)
+      alone : (t : Ty one) (form m y : ℕ) → treeOfType t ≡ node (labelWith form m y) none none → m ≡ d → y ≡ s → p ≡ 0 → q ≡ 0 → AType (here form)
+      alone t form m y e h k u v = (t, e ∙ ap₂ (node (labelWith form m y)) (none-at p u) (none-at q v) ∙ same-node form m y h k)
 
       is-infer : Node AType TypeInfer
-      unfolding highestDetail details firstPlace firstPlaces secondPlace secondPlaces lookup pick
-      is-infer h u v = alone (sign infer) TypeInfer 0 refl (omega arith) u v
+      unfolding highestDetail details highestSymbol symbols firstPlace firstPlaces secondPlace secondPlaces lookup pick
+      is-infer h k u v = alone (sign infer) TypeInfer 0 0 refl (omega arith) (omega arith) u v
 
       is-never : Node AType TypeNever
-      unfolding highestDetail details firstPlace firstPlaces secondPlace secondPlaces lookup pick
-      is-never h u v = alone (sign never) TypeNever 0 refl (omega arith) u v
+      unfolding highestDetail details highestSymbol symbols firstPlace firstPlaces secondPlace secondPlaces lookup pick
+      is-never h k u v = alone (sign never) TypeNever 0 0 refl (omega arith) (omega arith) u v
 
-      to : (y : TypePrefix) (form m : ℕ) → ((t : Ty one) → treeOfType (pointing y t) ≡ node (label form m) (treeOfType t) none) → m ≡ d
+      to : (y : TypePrefix) (form m : ℕ) → ((t : Ty one) → treeOfType (pointing y t) ≡ node (label form m) (treeOfType t) none) → m ≡ d → s ≤ 0
           → Fits cells count i (Required aType) p → q ≡ 0 → AType (here form)
-      to y form m e h u v =
+      to y form m e h k u v =
           let t = type-at p u in
-          (pointing y (t .0), e (t .0) ∙ ap₂ (node (label form m)) (t .1) (none-at q v) ∙ ap (λ n. node (label form n) (treeAt cells count p) (treeAt cells count q)) h)
+          (pointing y (t .0), e (t .0) ∙ ap₂ (node (label form m)) (t .1) (none-at q v) ∙ same-node form m 0 h (omega arith))
 
       is-ptr : Node AType TypePtr
-      unfolding highestDetail details firstPlace firstPlaces secondPlace secondPlaces lookup pick
-      is-ptr h u v = go (up-to-one d h)
+      unfolding highestDetail details highestSymbol symbols firstPlace firstPlaces secondPlace secondPlaces lookup pick
+      is-ptr h k u v = go (up-to-one d h)
         where
           go : (0 ≡ d) ⊎ (1 ≡ d) → AType (here TypePtr)
-          go (inl e) = to constPtr TypePtr 0 (λ t. refl) e u v
-          go (inr e) = to mutPtr TypePtr 1 (λ t. refl) e u v
+          go (inl e) = to constPtr TypePtr 0 (λ t. refl) e k u v
+          go (inr e) = to mutPtr TypePtr 1 (λ t. refl) e k u v
 
       is-type-reference : Node AType TypeReference
-      unfolding highestDetail details firstPlace firstPlaces secondPlace secondPlaces lookup pick
-      is-type-reference h u v = go (up-to-one d h)
+      unfolding highestDetail details highestSymbol symbols firstPlace firstPlaces secondPlace secondPlaces lookup pick
+      is-type-reference h k u v = go (up-to-one d h)
         where
           go : (0 ≡ d) ⊎ (1 ≡ d) → AType (here TypeReference)
-          go (inl e) = to sharedRef TypeReference 0 (λ t. refl) e u v
-          go (inr e) = to mutRef TypeReference 1 (λ t. refl) e u v
+          go (inl e) = to sharedRef TypeReference 0 (λ t. refl) e k u v
+          go (inr e) = to mutRef TypeReference 1 (λ t. refl) e k u v
 
       -- a path without arguments, and one with them
       path-one : 1 ≡ d → Fits cells count i (firstPlace TypePath 1) p → Fits cells count i (secondPlace TypePath 1) q → AType (here TypePath)
       unfolding firstPlace firstPlaces secondPlace secondPlaces lookup pick
-      path-one z u v = alone named TypePath 1 refl z u v
+      path-one z u v = alone (named s) TypePath 1 s refl z refl u v
 
       path-two : 2 ≡ d → Fits cells count i (firstPlace TypePath 2) p → Fits cells count i (secondPlace TypePath 2) q → AType (here TypePath)
       unfolding firstPlace firstPlaces secondPlace secondPlaces lookup pick
       path-two z u v =
           let l = types-at q v in
-          (applied (l .0), ap₂ (node (label TypePath 2)) (none-at p u) (l .1) ∙ ap (λ n. node (label TypePath n) (treeAt cells count p) (treeAt cells count q)) z)
+          (applied s (l .0), ap₂ (node (labelWith TypePath 2 s)) (none-at p u) (l .1) ∙ same-node TypePath 2 s z refl)
 
       -- "Path (1 or 2)"
       is-type-path : isOneOf (1 ∷ 2 ∷ []) d ≡ true → Node AType TypePath
-      is-type-path e h u v =
+      is-type-path e h k u v =
           one-of (λ n. n ≡ d → AType (here TypePath)) (1 ∷ 2 ∷ []) d ((λ z. path-one z (subst (λ n. Fits cells count i (firstPlace TypePath n) p) (sym z) u) (subst (λ n. Fits cells count i (secondPlace TypePath n) q) (sym z) v)), ((λ z. path-two z (subst (λ n. Fits cells count i (firstPlace TypePath n) p) (sym z) u) (subst (λ n. Fits cells count i (secondPlace TypePath n) q) (sym z) v)), tt)) e refl
 
       typed-form : (form : ℕ) → classOf form ≡ aType → isOneOf plainTypes form ≡ true → Node AType form
@@ -269,15 +272,15 @@ module _ (cells : List ℕ) (count : ℕ) where
 
       -- ---- links
 
-      is-link : (l : Expr one) → treeOf l ≡ treeAt cells count p → d ≤ 0
+      is-link : (l : Expr one) → treeOf l ≡ treeAt cells count p → d ≤ 0 → s ≤ 0
           → ((q ≡ 0) ⊎ ((more : Expr items) × (treeOf more ≡ treeAt cells count q))) → (m : Expr items) × (treeOf m ≡ here Link)
-      is-link a e h (inl z) = (lastArgument false a, ap₂ (node (label Link 0)) e (none-at q z) ∙ bare-node Link h)
-      is-link a e h (inr l) = (moreArguments a (l .0), ap₂ (node (label Link 0)) e (l .1) ∙ bare-node Link h)
+      is-link a e h k (inl z) = (lastArgument false a, ap₂ (node (label Link 0)) e (none-at q z) ∙ bare-node Link h k)
+      is-link a e h k (inr l) = (moreArguments a (l .0), ap₂ (node (label Link 0)) e (l .1) ∙ bare-node Link h k)
 
-      is-type-link : (t : Ty one) → treeOfType t ≡ treeAt cells count p → d ≤ 0
+      is-type-link : (t : Ty one) → treeOfType t ≡ treeAt cells count p → d ≤ 0 → s ≤ 0
           → ((q ≡ 0) ⊎ ((more : Ty items) × (treeOfType more ≡ treeAt cells count q))) → (m : Ty items) × (treeOfType m ≡ here Link)
-      is-type-link a e h (inl z) = (lastType false a, ap₂ (node (label Link 0)) e (none-at q z) ∙ bare-node Link h)
-      is-type-link a e h (inr l) = (moreTypes a (l .0), ap₂ (node (label Link 0)) e (l .1) ∙ bare-node Link h)
+      is-type-link a e h k (inl z) = (lastType false a, ap₂ (node (label Link 0)) e (none-at q z) ∙ bare-node Link h k)
+      is-type-link a e h k (inr l) = (moreTypes a (l .0), ap₂ (node (label Link 0)) e (l .1) ∙ bare-node Link h k)
 
 -- ---- the forms of plain nodes, by class
 
@@ -340,18 +343,24 @@ module _ (context count : ℕ) (cells : List ℕ) (ok : Accepted context count c
     plain-node = plain-form (labelAt cells i) (node-plain i low high) .1
 
     -- the tree at a plain node
-    tree-is : node (label (formAt cells i) (detailAt cells i)) (treeAt cells count p) (treeAt cells count q) ≡ treeAt cells count i
+    tree-is : node (labelWith (formAt cells i) (detailAt cells i) (symbolAt cells i)) (treeAt cells count p) (treeAt cells count q) ≡ treeAt cells count i
     unfolding labelAt
     tree-is =
         let a : attributesAt cells i ≡ 0 = plain-form (labelAt cells i) (node-plain i low high) .0 in
         sym (unfolds cells count i low high
         ∙ rw (first-operand context count cells ok i low high, second-operand context count cells ok i low high, a))
 
-    detail-most : detailAt cells i ≤ highestDetail (formAt cells i)
+    numbers-most : (leb (detailAt cells i) (highestDetail (formAt cells i)) ≡ true) × (leb (symbolAt cells i) (highestSymbol (formAt cells i) (detailAt cells i)) ≡ true)
     unfolding allowed
-    detail-most =
-        let d = and-true (not (eqb (classAt cells i) 0)) (leb (attributesAt cells i) (highestAttributes (formAt cells i)) && leb (detailAt cells i) (highestDetail (formAt cells i))) (numbers-allowed context count cells ok i low high) in
-        leb-true (detailAt cells i) (highestDetail (formAt cells i)) (and-true (leb (attributesAt cells i) (highestAttributes (formAt cells i))) _ (d .1) .1)
+    numbers-most =
+        let d = and-true (not (eqb (classAt cells i) 0)) _ (numbers-allowed context count cells ok i low high) in
+        and-true (leb (detailAt cells i) (highestDetail (formAt cells i))) _ (and-true (leb (attributesAt cells i) (highestAttributes (formAt cells i))) _ (d .1) .1)
+
+    detail-most : detailAt cells i ≤ highestDetail (formAt cells i)
+    detail-most = leb-true (detailAt cells i) (highestDetail (formAt cells i)) (numbers-most .0)
+
+    symbol-most : symbolAt cells i ≤ highestSymbol (formAt cells i) (detailAt cells i)
+    symbol-most = leb-true (symbolAt cells i) (highestSymbol (formAt cells i) (detailAt cells i)) (numbers-most .1)
 
     one-first : Fits cells count i (firstPlace (formAt cells i) (detailAt cells i)) p
     one-first = first-fits context count cells ok i low high
@@ -369,7 +378,7 @@ module _ (context count : ℕ) (cells : List ℕ) (ok : Accepted context count c
       where
         go : PlainForm (labelAt cells i) → AnExpr cells count (treeAt cells count i)
         go (an-expression e) =
-            subst (AnExpr cells count) tree-is (expression cells count i below (detailAt cells i) p q (formAt cells i) e detail-most one-first one-second)
+            subst (AnExpr cells count) tree-is (expression cells count i below (detailAt cells i) (symbolAt cells i) p q (formAt cells i) e detail-most symbol-most one-first one-second)
         go (a-type e) = absurd (other (types-class (formAt cells i) e))
           where
             other : (classOf (formAt cells i) ≡ aType) ⊎ (formAt cells i ≡ Link) → ⊥
@@ -383,10 +392,10 @@ module _ (context count : ℕ) (cells : List ℕ) (ok : Accepted context count c
       where
         go : PlainForm (labelAt cells i) → AType cells count (treeAt cells count i)
         go (an-expression e) = not-expression (λ k. omega arith) e
-        go (a-type e) = subst (AType cells count) tree-is (typed-form cells count i below (detailAt cells i) p q (formAt cells i) c e detail-most one-first one-second)
+        go (a-type e) = subst (AType cells count) tree-is (typed-form cells count i below (detailAt cells i) (symbolAt cells i) p q (formAt cells i) c e detail-most symbol-most one-first one-second)
         go (a-path e k) =
             subst (AType cells count) tree-is
-            (subst (Node cells count i below (detailAt cells i) p q (AType cells count)) (sym e) (is-type-path cells count i below (detailAt cells i) p q k) detail-most one-first one-second)
+            (subst (Node cells count i below (detailAt cells i) (symbolAt cells i) p q (AType cells count)) (sym e) (is-type-path cells count i below (detailAt cells i) (symbolAt cells i) p q k) detail-most symbol-most one-first one-second)
 
     link-form : classAt cells i ≡ aLink → formAt cells i ≡ Link
     unfolding labelAt
@@ -404,25 +413,27 @@ module _ (context count : ℕ) (cells : List ℕ) (ok : Accepted context count c
     -- what a link holds
     record Linked : Type 0 where
       no-detail : detailAt cells i ≤ 0
+      no-symbol : symbolAt cells i ≤ 0
       item : Fits cells count i Item p
       next : Fits cells count i Next q
-      tree : node (label Link (detailAt cells i)) (treeAt cells count p) (treeAt cells count q) ≡ treeAt cells count i
+      tree : node (labelWith Link (detailAt cells i) (symbolAt cells i)) (treeAt cells count p) (treeAt cells count q) ≡ treeAt cells count i
 
     linked : formAt cells i ≡ Link → Linked
-    unfolding highestDetail details firstPlace firstPlaces secondPlace secondPlaces lookup pick
+    unfolding highestDetail details highestSymbol symbols firstPlace firstPlaces secondPlace secondPlaces lookup pick
     linked e =
         record {
           no-detail = rw e at detail-most;
+          no-symbol = rw e at symbol-most;
           item = subst (λ f. Fits cells count i (firstPlace f (detailAt cells i)) p) e one-first;
           next = subst (λ f. Fits cells count i (secondPlace f (detailAt cells i)) q) e one-second;
-          tree = subst (λ f. node (label f (detailAt cells i)) (treeAt cells count p) (treeAt cells count q) ≡ treeAt cells count i) e tree-is;
+          tree = subst (λ f. node (labelWith f (detailAt cells i) (symbolAt cells i)) (treeAt cells count p) (treeAt cells count q) ≡ treeAt cells count i) e tree-is;
         }
 
     made-exprs : classAt cells i ≡ aLink → classAt cells p ≡ anExpression → (l : Expr items) × (treeOf l ≡ treeAt cells count i)
     made-exprs c k =
         let w = linked (link-form c) in
         let a = below p (w .item .0) .expr k in
-        let l = is-link cells count i below (detailAt cells i) p q (a .0) (a .1) (w .no-detail) (more (w .next)) in
+        let l = is-link cells count i below (detailAt cells i) (symbolAt cells i) p q (a .0) (a .1) (w .no-detail) (w .no-symbol) (more (w .next)) in
         (l .0, l .1 ∙ w .tree)
       where
         more : Fits cells count i Next q → (q ≡ 0) ⊎ ((l : Expr items) × (treeOf l ≡ treeAt cells count q))
@@ -433,7 +444,7 @@ module _ (context count : ℕ) (cells : List ℕ) (ok : Accepted context count c
     made-typed c k =
         let w = linked (link-form c) in
         let a = below p (w .item .0) .type k in
-        let l = is-type-link cells count i below (detailAt cells i) p q (a .0) (a .1) (w .no-detail) (more (w .next)) in
+        let l = is-type-link cells count i below (detailAt cells i) (symbolAt cells i) p q (a .0) (a .1) (w .no-detail) (w .no-symbol) (more (w .next)) in
         (l .0, l .1 ∙ w .tree)
       where
         more : Fits cells count i Next q → (q ≡ 0) ⊎ ((l : Ty items) × (treeOfType l ≡ treeAt cells count q))

@@ -32,27 +32,27 @@ typesOf p = pick (p .there) (types (p .typed)) noTypes
 exprBy : Label → Parts → Parts → Expr one
 exprBy l a b =
     lookup
-    (line (ExprLit ∷ []) (atom literal) ∷
+    (line (ExprLit ∷ []) (atom (literal (l .symbol))) ∷
     line (ExprParen ∷ []) (paren (a .expr)) ∷
     line (ExprUnary ∷ []) (prefix (pick (eqb (l .detail) 0) deref (pick (eqb (l .detail) 1) invert neg)) (a .expr)) ∷
     line (ExprReference ∷ []) (prefix (pick (eqb (l .detail) 0) ref refMut) (a .expr)) ∷
     line (ExprBinary ∷ []) (binary (operatorOf (l .detail)) (a .expr) (b .expr)) ∷
     line (ExprAssign ∷ []) (binary Assign (a .expr) (b .expr)) ∷
     line (ExprCast ∷ []) (cast (a .expr) (b .type)) ∷
-    line (ExprField ∷ []) (member (pick (eqb (l .detail) 0) byName byNumber) (a .expr)) ∷
+    line (ExprField ∷ []) (member (pick (eqb (l .detail) 0) (byName (l .symbol)) (byNumber (l .symbol))) (a .expr)) ∷
     line (ExprAwait ∷ []) (member awaited (a .expr)) ∷
     line (ExprTry ∷ []) (try (a .expr)) ∷
     line (ExprIndex ∷ []) (index (a .expr) (b .expr)) ∷
     line (ExprCall ∷ []) (call (a .expr) (listOf b)) ∷
-    line (ExprMethodCall ∷ []) (method (a .expr) (listOf b)) ∷
+    line (ExprMethodCall ∷ []) (method (l .symbol) (a .expr) (listOf b)) ∷
     [])
-    (atom path)
+    (atom (path (l .symbol)))
     (l .form)
 
 typeBy : Label → Parts → Parts → Ty one
 typeBy l a b =
     lookup
-    (line (TypePath ∷ []) (pick (eqb (l .detail) 2) (applied (typesOf b)) named) ∷
+    (line (TypePath ∷ []) (pick (eqb (l .detail) 2) (applied (l .symbol) (typesOf b)) (named (l .symbol))) ∷
     line (TypePtr ∷ []) (pointing (pick (eqb (l .detail) 0) constPtr mutPtr) (a .type)) ∷
     line (TypeReference ∷ []) (pointing (pick (eqb (l .detail) 0) sharedRef mutRef) (a .type)) ∷
     line (TypeInfer ∷ []) (sign infer) ∷
@@ -61,7 +61,7 @@ typeBy l a b =
     (l .form)
 
 partsOf : Tree → Parts
-partsOf none = record { expr = atom path; exprs = lastArgument false (atom path); type = named; typed = lastType false named; there = false }
+partsOf none = record { expr = atom (path 0); exprs = lastArgument false (atom (path 0)); type = named 0; typed = lastType false (named 0); there = false }
 partsOf (node l a b) =
     record {
       expr = exprBy l (partsOf a) (partsOf b);
@@ -80,8 +80,8 @@ BackType items l = (partsOf (treeOfType l) .typed ≡ withoutTypeCommas l) × (p
 
 back-type : (s : Sort) (t : Ty s) → BackType s t
 unfolding partsOf typeBy lookup pick
-back-type s named = refl
-back-type s (applied l) = ap applied (back-type list l)
+back-type s (named y) = refl
+back-type s (applied y l) = ap (applied y) (back-type list l)
 back-type s (pointing constPtr t) = ap (pointing constPtr) (back-type one t)
 back-type s (pointing mutPtr t) = ap (pointing mutPtr) (back-type one t)
 back-type s (pointing sharedRef t) = ap (pointing sharedRef) (back-type one t)
@@ -109,8 +109,8 @@ back-operator o a b = go (eqb (number o) (number Assign)) refl
 
 back : (s : Sort) (e : Expr s) → Back s e
 unfolding partsOf exprBy lookup pick
-back s (atom path) = refl
-back s (atom literal) = refl
+back s (atom (path y)) = refl
+back s (atom (literal y)) = refl
 back s (paren a) = ap paren (back one a)
 back s (prefix neg a) = ap (prefix neg) (back one a)
 back s (prefix deref a) = ap (prefix deref) (back one a)
@@ -119,13 +119,13 @@ back s (prefix ref a) = ap (prefix ref) (back one a)
 back s (prefix refMut a) = ap (prefix refMut) (back one a)
 back s (binary o a b) = back-operator o (partsOf (treeOf a)) (partsOf (treeOf b)) ∙ ap₂ (binary o) (back one a) (back one b)
 back s (cast a t) = ap₂ cast (back one a) (back-type one t)
-back s (member byName a) = ap (member byName) (back one a)
-back s (member byNumber a) = ap (member byNumber) (back one a)
+back s (member (byName y) a) = ap (member (byName y)) (back one a)
+back s (member (byNumber y) a) = ap (member (byNumber y)) (back one a)
 back s (member awaited a) = ap (member awaited) (back one a)
 back s (try a) = ap try (back one a)
 back s (index a b) = ap₂ index (back one a) (back one b)
 back s (call a l) = ap₂ call (back one a) (back list l)
-back s (method a l) = ap₂ method (back one a) (back list l)
+back s (method y a l) = ap₂ (method y) (back one a) (back list l)
 back s noArguments = refl
 back s (arguments l) = let h = back items l in rw (h .1, h .0)
 back s (lastArgument comma a) = (ap (lastArgument false) (back one a), refl)

@@ -4,7 +4,7 @@ use mathlib.Core.Bool.{Bool, true, false}
 use lib.Dec.{eqb}
 use Rattle.laws.specs.Choice.{pick}
 use Rattle.laws.proofs.Choice.{pick-false}
-use Rattle.tree.specs.Forms.{ExprParen}
+use Rattle.tree.specs.Forms.{ExprAssign, ExprBinary, ExprParen}
 use Rattle.tree.specs.Trees.{Label, Tree, none, node}
 use Rattle.token_grammar.specs.Tokens.{Operator, Assign, number}
 use Rattle.token_grammar.specs.Types.{Sort, TypePrefix, constPtr, mutPtr, sharedRef, mutRef, TypeSign, infer, never, Ty, named, applied, pointing, sign, noTypes, types, lastType, moreTypes}
@@ -22,8 +22,8 @@ unfolding withoutParens
 nothing = refl
 
 atom-keeps : (x : Atom) → eqb (atomLabel x .form) ExprParen ≡ false
-atom-keeps path = refl
-atom-keeps literal = refl
+atom-keeps (path y) = refl
+atom-keeps (literal y) = refl
 
 prefix-keeps : (p : Prefix) → eqb (prefixLabel p .form) ExprParen ≡ false
 prefix-keeps neg = refl
@@ -36,13 +36,13 @@ operator-keeps : (o : Operator) → eqb (operatorLabel o .form) ExprParen ≡ fa
 unfolding operatorLabel pick
 operator-keeps o = go (eqb (number o) (number Assign))
   where
-    go : (b : Bool) → eqb ((pick {A = Label} b (record { form = 2; attributes = 0; detail = 0 }) (record { form = 5; attributes = 0; detail = number o })) .form) ExprParen ≡ false
+    go : (b : Bool) → eqb ((pick {A = Label} b (label ExprAssign 0) (label ExprBinary (number o))) .form) ExprParen ≡ false
     go true = refl
     go false = refl
 
 member-keeps : (m : Member) → eqb (memberLabel m .form) ExprParen ≡ false
-member-keeps byName = refl
-member-keeps byNumber = refl
+member-keeps (byName y) = refl
+member-keeps (byNumber y) = refl
 member-keeps awaited = refl
 
 type-keeps : (p : TypePrefix) → eqb (typePrefixLabel p .form) ExprParen ≡ false
@@ -56,8 +56,8 @@ sign-keeps infer = refl
 sign-keeps never = refl
 
 without-types : {s : Sort} (t : Ty s) → withoutParens (treeOfType t) ≡ treeOfType t
-without-types named = keeps _ _ _ refl nothing nothing
-without-types (applied l) = keeps _ _ _ refl nothing (without-types l)
+without-types (named y) = keeps _ _ _ refl nothing nothing
+without-types (applied y l) = keeps _ _ _ refl nothing (without-types l)
 without-types (pointing p t) = keeps _ _ _ (type-keeps p) (without-types t) nothing
 without-types (sign x) = keeps _ _ _ (sign-keeps x) nothing nothing
 without-types noTypes = nothing
@@ -80,7 +80,7 @@ without-bare (member m a) = keeps _ _ _ (member-keeps m) (without-bare a) nothin
 without-bare (try a) = keeps _ _ _ refl (without-bare a) nothing
 without-bare (index a b) = keeps _ _ _ refl (without-bare a) (without-bare b)
 without-bare (call a l) = keeps _ _ _ refl (without-bare a) (without-bare l)
-without-bare (method a l) = keeps _ _ _ refl (without-bare a) (without-bare l)
+without-bare (method y a l) = keeps _ _ _ refl (without-bare a) (without-bare l)
 without-bare noArguments = nothing
 without-bare (arguments l) = without-bare l
 without-bare (lastArgument comma a) = keeps _ _ _ refl (without-bare a) nothing

@@ -8,13 +8,17 @@ use Rattle.token_grammar.specs.Tokens.{Operator, Assign, number}
 use Rattle.token_grammar.specs.Types.{Sort, TypePrefix, constPtr, mutPtr, sharedRef, mutRef, TypeSign, infer, never, Ty, named, applied, pointing, sign, noTypes, types, lastType, moreTypes}
 use Rattle.token_grammar.specs.Expressions.{Atom, path, literal, Prefix, neg, deref, invert, ref, refMut, Member, byName, byNumber, awaited, Expr, atom, paren, prefix, binary, cast, member, try, index, call, method, noArguments, arguments, lastArgument, moreArguments}
 
--- a form and its detail, with no attributes
+-- a form, its detail and its symbol, with no attributes
+abbrev pub labelWith : ℕ → ℕ → ℕ → Label
+labelWith form detail symbol = record { form = form; attributes = 0; detail = detail; symbol = symbol }
+
+-- and one without a symbol
 abbrev pub label : ℕ → ℕ → Label
-label form detail = record { form = form; attributes = 0; detail = detail }
+label form detail = labelWith form detail 0
 
 abbrev pub atomLabel : Atom → Label
-atomLabel path = label ExprPath 0
-atomLabel literal = label ExprLit 0
+atomLabel (path y) = labelWith ExprPath 0 y
+atomLabel (literal y) = labelWith ExprLit 0 y
 
 -- "Unary: Deref, Not, Neg as 0 to 2." ".. both References: 1 mutable."
 abbrev pub prefixLabel : Prefix → Label
@@ -30,8 +34,8 @@ operatorLabel o = pick (eqb (number o) (number Assign)) (label ExprAssign 0) (la
 
 -- "Field: 0 named, 1 numbered."
 abbrev pub memberLabel : Member → Label
-memberLabel byName = label ExprField 0
-memberLabel byNumber = label ExprField 1
+memberLabel (byName y) = labelWith ExprField 0 y
+memberLabel (byNumber y) = labelWith ExprField 1 y
 memberLabel awaited = label ExprAwait 0
 
 -- "Ptr, .. both References: 1 mutable."
@@ -47,8 +51,8 @@ typeSignLabel never = label TypeNever 0
 
 -- "Path type, by last segment: .. 1 no arguments, 2 angle"; "56 is a list link: first an item, second the next link or 0."
 abbrev pub treeOfType : {s : Sort} → Ty s → Tree
-treeOfType named = node (label TypePath 1) none none
-treeOfType (applied l) = node (label TypePath 2) none (treeOfType l)
+treeOfType (named y) = node (labelWith TypePath 1 y) none none
+treeOfType (applied y l) = node (labelWith TypePath 2 y) none (treeOfType l)
 treeOfType (pointing p t) = node (typePrefixLabel p) (treeOfType t) none
 treeOfType (sign x) = node (typeSignLabel x) none none
 treeOfType noTypes = none
@@ -67,7 +71,7 @@ treeOf (member m a) = node (memberLabel m) (treeOf a) none
 treeOf (try a) = node (label ExprTry 0) (treeOf a) none
 treeOf (index a b) = node (label ExprIndex 0) (treeOf a) (treeOf b)
 treeOf (call a l) = node (label ExprCall 0) (treeOf a) (treeOf l)
-treeOf (method a l) = node (label ExprMethodCall 0) (treeOf a) (treeOf l)
+treeOf (method y a l) = node (labelWith ExprMethodCall 0 y) (treeOf a) (treeOf l)
 treeOf noArguments = none
 treeOf (arguments l) = treeOf l
 treeOf (lastArgument comma a) = node (label Link 0) (treeOf a) none

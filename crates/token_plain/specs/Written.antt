@@ -34,23 +34,24 @@ unary detail = pick (eqb detail 0) (operator Mul) (byDetail (detail - 1) Bang (o
 abbrev pub comma : Bool → List Token
 comma more = pick more (Comma ∷ []) []
 
-unfoldable pub signLines : ℕ → Bool → List (Line Signs)
-signLines detail second =
-    line (ExprPath ∷ []) (signs (Name ∷ []) [] []) ∷
-    line (ExprLit ∷ []) (signs (Literal ∷ []) [] []) ∷
+-- Document 02, Paper 4: "A written plain tree reads back with each symbol where it was. Symbols stand on tokens 32, 33 and 44."
+unfoldable pub signLines : ℕ → ℕ → Bool → List (Line Signs)
+signLines detail symbol second =
+    line (ExprPath ∷ []) (signs (Name symbol ∷ []) [] []) ∷
+    line (ExprLit ∷ []) (signs (Literal symbol ∷ []) [] []) ∷
     line (ExprParen ∷ []) (signs (LeftParen ∷ []) (RightParen ∷ []) []) ∷
     line (ExprUnary ∷ []) (signs (unary detail ∷ []) [] []) ∷
     line (ExprReference ∷ TypeReference ∷ []) (signs (byDetail detail (operator BitAnd) AndMut ∷ []) [] []) ∷
     line (ExprBinary ∷ []) (signs [] (operator (operatorOf detail) ∷ []) []) ∷
     line (ExprAssign ∷ []) (signs [] (operator Assign ∷ []) []) ∷
     line (ExprCast ∷ []) (signs [] (As ∷ []) []) ∷
-    line (ExprField ∷ []) (signs [] (Dot ∷ byDetail detail Name NumberedMember ∷ []) []) ∷
+    line (ExprField ∷ []) (signs [] (Dot ∷ byDetail detail (Name symbol) (NumberedMember symbol) ∷ []) []) ∷
     line (ExprIndex ∷ []) (signs [] (LeftBracket ∷ []) (RightBracket ∷ [])) ∷
     line (ExprCall ∷ []) (signs [] (LeftParen ∷ []) (RightParen ∷ [])) ∷
-    line (ExprMethodCall ∷ []) (signs [] (Dot ∷ Name ∷ LeftParen ∷ []) (RightParen ∷ [])) ∷
+    line (ExprMethodCall ∷ []) (signs [] (Dot ∷ Name symbol ∷ LeftParen ∷ []) (RightParen ∷ [])) ∷
     line (ExprTry ∷ []) (signs [] (Question ∷ []) []) ∷
     line (ExprAwait ∷ []) (signs [] (Dot ∷ Await ∷ []) []) ∷
-    line (TypePath ∷ []) (pick (eqb detail 2) (signs (Name ∷ operator Lt ∷ []) [] (operator Gt ∷ [])) (signs (Name ∷ []) [] [])) ∷
+    line (TypePath ∷ []) (pick (eqb detail 2) (signs (Name symbol ∷ operator Lt ∷ []) [] (operator Gt ∷ [])) (signs (Name symbol ∷ []) [] [])) ∷
     line (TypePtr ∷ []) (signs (byDetail detail StarConst StarMut ∷ []) [] []) ∷
     line (TypeInfer ∷ []) (signs (Underscore ∷ []) [] []) ∷
     line (TypeNever ∷ []) (signs (Bang ∷ []) [] []) ∷
@@ -58,7 +59,7 @@ signLines detail second =
     []
 
 unfoldable pub signsOf : Label → Tree → Signs
-signsOf l second = lookup (signLines (l .detail) (isThere second)) (signs [] [] []) (l .form)
+signsOf l second = lookup (signLines (l .detail) (l .symbol) (isThere second)) (signs [] [] []) (l .form)
 
 -- what `inside` puts before a rest, within a further `(` and `)` where there is a pair
 abbrev pub within : Bool → (List Token → List Token) → List Token → List Token

@@ -1,44 +1,37 @@
--- A code above the highest, looked for from a place on. Assumes nothing.
+-- Whether cells are tokens', looked at from a place on. Assumes nothing.
 use mathlib.Core.Path.{_≡_, refl, sym, ap, _∙_}
-use mathlib.Core.Bool.{true, false}
+use mathlib.Core.Bool.{true, false, _&&_}
 use mathlib.Core.List.{List, [], _∷_}
-use Prim.Native.Nat.{ℕ, zero, suc, _+_, _≤_, _<_}
+use Prim.Native.Nat.{ℕ, suc, _+_, _≤_, _<_}
 use native.Mathlib.Omega.{arith}
-use native.Mathlib.Numerals.{add-one}
-use lib.Dec.{T, ltb}
-use lib.ListN.{length, drop, getD}
-use borrow.Author.Tests.{lt-ltb, le-ltb, ltb-false}
-use Rattle.laws.proofs.Choice.{or-false}
-use Rattle.laws.proofs.Keys.{allBelow}
-use Rattle.tree.specs.Sizes.{lastCode, listEnd}
-use Rattle.token_reader.specs.Reading.{anyAbove}
+use lib.ListN.{length, drop, getD, length-drop}
+use lib.Seq.{drop-cons}
+use Rattle.token_grammar.specs.Codes.{isToken, areTokens}
 
-module _ (most : ℕ) where
-  pub above-here : (codes : List ℕ) (at : ℕ) → at < length codes → most < getD codes at 0 → anyAbove most (drop at codes) ≡ true
-  unfolding anyAbove
-  above-here [] at h k = absurd (omega arith)
-  above-here (n ∷ ns) zero h k = rw (lt-ltb most n k)
-  above-here (n ∷ ns) (suc at) h k = above-here ns at (omega arith) k
-
-  pub above-next : (codes : List ℕ) (at : ℕ) → at < length codes → getD codes at 0 ≤ most → anyAbove most (drop at codes) ≡ anyAbove most (drop (at + 1) codes)
-  unfolding anyAbove
-  above-next codes at h k = go codes at h k ∙ ap (λ n. anyAbove most (drop n codes)) (sym (add-one at))
+module _ (cells : List ℕ) (at : ℕ) where
+  -- a last cell by itself
+  pub are-odd : at < length cells → length cells ≤ at + 1 → areTokens (drop at cells) ≡ false
+  are-odd h k = rw (drop-cons cells at 0 h) (go (drop (suc at) cells) (let e = length-drop (suc at) cells in omega arith))
     where
-      go : (ns : List ℕ) (n : ℕ) → n < length ns → getD ns n 0 ≤ most → anyAbove most (drop n ns) ≡ anyAbove most (drop (suc n) ns)
-      go [] n h k = absurd (omega arith)
-      go (m ∷ ms) zero h k = rw (le-ltb most m k)
-      go (m ∷ ms) (suc n) h k = go ms n (omega arith) k
+      go : (l : List ℕ) → length l ≡ 0 → areTokens (getD cells at 0 ∷ l) ≡ false
+      go [] e = refl
+      go (n ∷ ns) e = absurd (omega arith)
 
-  pub above-end : (codes : List ℕ) (at : ℕ) → length codes ≤ at → anyAbove most (drop at codes) ≡ false
-  unfolding anyAbove
-  above-end [] zero h = refl
-  above-end [] (suc at) h = refl
-  above-end (n ∷ ns) zero h = absurd (omega arith)
-  above-end (n ∷ ns) (suc at) h = above-end ns at (omega arith)
+  two : at + 1 < length cells → drop at cells ≡ getD cells at 0 ∷ getD cells (at + 1) 0 ∷ drop (at + 2) cells
+  two h =
+      let e : at + 1 ≡ suc at = omega arith in
+      let f : at + 2 ≡ suc (suc at) = omega arith in
+      drop-cons cells at 0 (omega arith) ∙ ap (λ l. getD cells at 0 ∷ l) (rw (e, f) (drop-cons cells (suc at) 0 (omega arith)))
 
-pub all-below : (codes : List ℕ) → anyAbove lastCode codes ≡ false → T (allBelow listEnd codes)
-unfolding anyAbove
-all-below [] h = tt
-all-below (n ∷ ns) h =
-    let d = or-false (ltb lastCode n) (anyAbove lastCode ns) h in
-    rw (lt-ltb n listEnd (omega (arith, ltb-false lastCode n (d .0)))) (all-below ns (d .1))
+  pub are-not : at + 1 < length cells → isToken (getD cells at 0) (getD cells (at + 1) 0) ≡ false → areTokens (drop at cells) ≡ false
+  are-not h e = ap areTokens (two h) ∙ rw e
+
+  pub are-next : at + 1 < length cells → isToken (getD cells at 0) (getD cells (at + 1) 0) ≡ true → areTokens (drop at cells) ≡ areTokens (drop (at + 2) cells)
+  are-next h e = ap areTokens (two h) ∙ rw e
+
+  pub are-end : length cells ≤ at → areTokens (drop at cells) ≡ true
+  are-end h = go (drop at cells) (let e = length-drop at cells in omega arith)
+    where
+      go : (l : List ℕ) → length l ≡ 0 → areTokens l ≡ true
+      go [] e = refl
+      go (n ∷ ns) e = absurd (omega arith)

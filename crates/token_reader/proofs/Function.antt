@@ -11,21 +11,21 @@ use Rattle.token_plain.proofs.Readings.{read-or-not}
 use Rattle.token_reader.specs.declared.Reply.{Reply}
 use Rattle.token_reader.specs.Reading.{readRefusal12, refusal14, Answers}
 
-pub answers-one : {codes table after after′ : List ℕ} {reply reply′ : Reply} → Answers codes table reply after → Answers codes table reply′ after′
+pub answers-one : {tokens table after after′ : List ℕ} {reply reply′ : Reply} → Answers tokens table reply after → Answers tokens table reply′ after′
     → (reply ≡ reply′) × (after ≡ after′)
-answers-one {codes} {table} {after} {after′} {reply} {reply′} a b = short (readRefusal12 (length table)) refl
+answers-one {tokens} {table} {after} {after′} {reply} {reply′} a b = short (readRefusal12 (length table)) refl
   where
     alike : {r : Reply} {t : List ℕ} → (reply ≡ r) × (after ≡ t) → (reply′ ≡ r) × (after′ ≡ t) → (reply ≡ reply′) × (after ≡ after′)
     alike p q = (p .0 ∙ sym (q .0), p .1 ∙ sym (q .1))
 
-    read : readRefusal12 (length table) ≡ false → refusal14 codes ≡ false → ((t : Tree) × Reads codes t) ⊎ ((t : Tree) → Reads codes t → ⊥) → (reply ≡ reply′) × (after ≡ after′)
+    read : readRefusal12 (length table) ≡ false → refusal14 tokens ≡ false → ((t : Tree) × Reads tokens t) ⊎ ((t : Tree) → Reads tokens t → ⊥) → (reply ≡ reply′) × (after ≡ after′)
     read p q (inl x) = alike (a .read p q (x .0) (x .1)) (b .read p q (x .0) (x .1))
     read p q (inr n) = alike (a .unread p q n) (b .unread p q n)
 
-    known : readRefusal12 (length table) ≡ false → (c : Bool) → refusal14 codes ≡ c → (reply ≡ reply′) × (after ≡ after′)
+    known : readRefusal12 (length table) ≡ false → (c : Bool) → refusal14 tokens ≡ c → (reply ≡ reply′) × (after ≡ after′)
     known p true q = alike (a .unknown p q) (b .unknown p q)
-    known p false q = read p q (read-or-not codes)
+    known p false q = read p q (read-or-not tokens)
 
     short : (c : Bool) → readRefusal12 (length table) ≡ c → (reply ≡ reply′) × (after ≡ after′)
     short true p = alike (a .short p) (b .short p)
-    short false p = known p (refusal14 codes) refl
+    short false p = known p (refusal14 tokens) refl

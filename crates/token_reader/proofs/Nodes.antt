@@ -6,19 +6,19 @@ use native.Mathlib.Omega.{arith}
 use lib.ListN.{length, getD, set, length-set}
 use lib.Seq.{getD-set-same, getD-set-other}
 use Rattle.tree.specs.Sizes.{nodeCells, mostTokens}
-use Rattle.tree.specs.Table.{cellAt, firstAt, secondAt}
+use Rattle.tree.specs.Table.{cellAt, firstAt, secondAt, symbolColumn}
 use Rattle.tree.specs.Trees.{Label, Tree, none, node, labelAt, operandOf, treeAt}
 use Rattle.tree.proofs.Unfold.{operand-in, operand-zero, tree-zero, unfolds}
-use Rattle.token_plain.specs.Trees.{label}
+use Rattle.token_plain.specs.Trees.{labelWith}
 use Rattle.token_reader.specs.Pieces.{Kept, Placed, Stored, Grew}
 
 -- ---- a node is stored
 
--- five cells from n on
-abbrev put : List ℕ → ℕ → ℕ → ℕ → ℕ → ℕ → List ℕ
-put own n form detail first second = set (set (set (set (set own n form) (n + 1) 0) (n + 2) detail) (n + 3) first) (n + 4) second
+-- six cells from n on
+abbrev put : List ℕ → ℕ → ℕ → ℕ → ℕ → ℕ → ℕ → List ℕ
+put own n form detail first second symbol = set (set (set (set (set (set own n form) (n + 1) 0) (n + 2) detail) (n + 3) first) (n + 4) second) (n + symbolColumn) symbol
 
-module _ (own : List ℕ) (n form detail first second : ℕ) (h : n + nodeCells ≤ length own) where
+module _ (own : List ℕ) (n form detail first second symbol : ℕ) (h : n + nodeCells ≤ length own) where
   abbrev one : List ℕ
   one = set own n form
 
@@ -34,69 +34,82 @@ module _ (own : List ℕ) (n form detail first second : ℕ) (h : n + nodeCells 
   abbrev five : List ℕ
   five = set four (n + 4) second
 
-  length-put : length five ≡ length own
+  abbrev six : List ℕ
+  six = set five (n + symbolColumn) symbol
+
+  length-put : length six ≡ length own
   length-put = simp length-set
 
-  put-other : (j : ℕ) → n + nodeCells ≤ j → getD five j 0 ≡ getD own j 0
+  put-other : (j : ℕ) → n + nodeCells ≤ j → getD six j 0 ≡ getD own j 0
   put-other j k =
-      getD-set-other four (n + 4) j second 0 (λ e. omega arith)
+      getD-set-other five (n + symbolColumn) j symbol 0 (λ e. omega arith)
+      ∙ getD-set-other four (n + 4) j second 0 (λ e. omega arith)
       ∙ getD-set-other three (n + 3) j first 0 (λ e. omega arith)
       ∙ getD-set-other two (n + 2) j detail 0 (λ e. omega arith)
       ∙ getD-set-other one (n + 1) j 0 0 (λ e. omega arith)
       ∙ getD-set-other own n j form 0 (λ e. omega arith)
 
-  put-4 : getD five (n + 4) 0 ≡ second
-  put-4 = getD-set-same four (n + 4) second 0 (simp length-set (omega arith))
+  put-5 : getD six (n + symbolColumn) 0 ≡ symbol
+  put-5 = getD-set-same five (n + symbolColumn) symbol 0 (simp length-set (omega arith))
 
-  put-3 : getD five (n + 3) 0 ≡ first
+  put-4 : getD six (n + 4) 0 ≡ second
+  put-4 =
+      getD-set-other five (n + symbolColumn) (n + 4) symbol 0 (λ e. omega arith)
+      ∙ getD-set-same four (n + 4) second 0 (simp length-set (omega arith))
+
+  put-3 : getD six (n + 3) 0 ≡ first
   put-3 =
-      getD-set-other four (n + 4) (n + 3) second 0 (λ e. omega arith)
+      getD-set-other five (n + symbolColumn) (n + 3) symbol 0 (λ e. omega arith)
+      ∙ getD-set-other four (n + 4) (n + 3) second 0 (λ e. omega arith)
       ∙ getD-set-same three (n + 3) first 0 (simp length-set (omega arith))
 
-  put-2 : getD five (n + 2) 0 ≡ detail
+  put-2 : getD six (n + 2) 0 ≡ detail
   put-2 =
-      getD-set-other four (n + 4) (n + 2) second 0 (λ e. omega arith)
+      getD-set-other five (n + symbolColumn) (n + 2) symbol 0 (λ e. omega arith)
+      ∙ getD-set-other four (n + 4) (n + 2) second 0 (λ e. omega arith)
       ∙ getD-set-other three (n + 3) (n + 2) first 0 (λ e. omega arith)
       ∙ getD-set-same two (n + 2) detail 0 (simp length-set (omega arith))
 
-  put-1 : getD five (n + 1) 0 ≡ 0
+  put-1 : getD six (n + 1) 0 ≡ 0
   put-1 =
-      getD-set-other four (n + 4) (n + 1) second 0 (λ e. omega arith)
+      getD-set-other five (n + symbolColumn) (n + 1) symbol 0 (λ e. omega arith)
+      ∙ getD-set-other four (n + 4) (n + 1) second 0 (λ e. omega arith)
       ∙ getD-set-other three (n + 3) (n + 1) first 0 (λ e. omega arith)
       ∙ getD-set-other two (n + 2) (n + 1) detail 0 (λ e. omega arith)
       ∙ getD-set-same one (n + 1) 0 0 (simp length-set (omega arith))
 
-  put-0 : getD five (n + 0) 0 ≡ form
+  put-0 : getD six (n + 0) 0 ≡ form
   put-0 =
-      getD-set-other four (n + 4) (n + 0) second 0 (λ e. omega arith)
+      getD-set-other five (n + symbolColumn) (n + 0) symbol 0 (λ e. omega arith)
+      ∙ getD-set-other four (n + 4) (n + 0) second 0 (λ e. omega arith)
       ∙ getD-set-other three (n + 3) (n + 0) first 0 (λ e. omega arith)
       ∙ getD-set-other two (n + 2) (n + 0) detail 0 (λ e. omega arith)
       ∙ getD-set-other one (n + 1) (n + 0) 0 0 (λ e. omega arith)
       ∙ subst (λ m. getD one m 0 ≡ form) (let e : n ≡ n + 0 = omega arith in e) (getD-set-same own n form 0 (omega arith))
 
-  label-put : (a b c : ℕ) → a ≡ form → b ≡ 0 → c ≡ detail → _≡_ {A = Label} (record { form = a; attributes = b; detail = c }) (label form detail)
-  label-put a b c p q r = rw (p, q, r)
+  label-put : (a b c d : ℕ) → a ≡ form → b ≡ 0 → c ≡ detail → d ≡ symbol → _≡_ {A = Label} (record { form = a; attributes = b; detail = c; symbol = d }) (labelWith form detail symbol)
+  label-put a b c d p q r s = rw (p, q, r, s)
 
-stored-at : (own : List ℕ) (m form detail first second : ℕ) → nodeCells * m + nodeCells ≤ length own → Stored own (put own (nodeCells * m) form detail first second) (suc m) m form detail first second
+stored-at : (own : List ℕ) (m form detail first second symbol : ℕ) → nodeCells * m + nodeCells ≤ length own → Stored own (put own (nodeCells * m) form detail first second symbol) (suc m) m form detail first second symbol
 unfolding cellAt labelAt
-stored-at own m form detail first second l =
+stored-at own m form detail first second symbol l =
     record {
       fewer = omega arith;
-      kept = λ j g. put-other own (nodeCells * m) form detail first second l j (omega arith);
-      same = length-put own (nodeCells * m) form detail first second l;
+      kept = λ j g. put-other own (nodeCells * m) form detail first second symbol l j (omega arith);
+      same = length-put own (nodeCells * m) form detail first second symbol l;
       labelled =
-          label-put own (nodeCells * m) form detail first second l _ _ _ (put-0 own (nodeCells * m) form detail first second l) (put-1 own (nodeCells * m) form detail first second l) (put-2 own (nodeCells * m) form detail first second l);
-      to-first = put-3 own (nodeCells * m) form detail first second l;
-      to-second = put-4 own (nodeCells * m) form detail first second l;
+          label-put own (nodeCells * m) form detail first second symbol l _ _ _ _ (put-0 own (nodeCells * m) form detail first second symbol l) (put-1 own (nodeCells * m) form detail first second symbol l) (put-2 own (nodeCells * m) form detail first second symbol l) (put-5 own (nodeCells * m) form detail first second symbol l);
+      to-first = put-3 own (nodeCells * m) form detail first second symbol l;
+      to-second = put-4 own (nodeCells * m) form detail first second symbol l;
     }
 
-pub stored : (own : List ℕ) (free form detail first second : ℕ) → 1 ≤ free → nodeCells * free ≤ length own →
-    Stored own (put own (nodeCells * (free - 1)) form detail first second) free (free - 1) form detail first second
-stored own zero form detail first second h k = absurd (omega arith)
-stored own (suc m) form detail first second h k =
-    subst (λ n. Stored own (put own (nodeCells * n) form detail first second) (suc m) n form detail first second)
+pub stored : (own : List ℕ) (free form detail first second symbol : ℕ) → 1 ≤ free → nodeCells * free ≤ length own →
+    Stored own (put own (nodeCells * (free - 1)) form detail first second symbol) free (free - 1) form detail first second symbol
+stored own zero form detail first second symbol h k = absurd (omega arith)
+stored own (suc m) form detail first second symbol h k =
+    subst (λ n. Stored own (put own (nodeCells * n) form detail first second symbol) (suc m) n form detail first second symbol)
     (let e : m ≡ suc m - 1 = omega arith in e)
-    (stored-at own m form detail first second (omega arith))
+    (stored-at own m form detail first second symbol (omega arith))
 
 -- ---- what is placed stays
 
@@ -113,7 +126,7 @@ carried own now free low i (node l a b) h k p =
     let cell : (n : ℕ) → cellAt now i n ≡ cellAt own i n = λ n. kept-cell own now free i n h (omega (arith, p .0)) in (
       p .0,
       p .1,
-      rw (cell 0, cell 1, cell 2) (p .2),
+      rw (cell 0, cell 1, cell 2, cell symbolColumn) (p .2),
       subst (λ o. Placed now i o a) (sym (cell 3)) (carried own now free i _ a h (omega (arith, p .0)) (p .3)),
       subst (λ o. Placed now i o b) (sym (cell 4)) (carried own now free i _ b h (omega (arith, p .0)) (p .4)),
     )
@@ -123,7 +136,7 @@ lower own low to i none h p = p
 lower own low to i (node l a b) h p = (omega (arith, p .0), p .1, p .2, p .3, p .4)
 
 -- a node whose operands are placed above it
-pub placed : {own now : List ℕ} {free left form detail first second : ℕ} (a b : Tree) (l : Label) → Stored own now free left form detail first second → label form detail ≡ l →
+pub placed : {own now : List ℕ} {free left form detail first second symbol : ℕ} (a b : Tree) (l : Label) → Stored own now free left form detail first second symbol → labelWith form detail symbol ≡ l →
     free ≤ mostTokens → Placed own free first a → Placed own free second b → Placed now left (left + 1) (node l a b)
 placed {own} {now} {free} {left} a b l s e h p q =
     subst (λ i. Placed now left i (node l a b)) (sym (s .fewer)) (
@@ -170,8 +183,8 @@ grew-on at₃ h g k =
     }
 
 -- and a node, for which a token of its own was read
-pub grew-node : {own mid now : List ℕ} {at free to left : ℕ} {left₂ form detail first second : ℕ} (at₂ to₂ : ℕ) → at₂ ≤ to₂ → at₂ + free + to + 1 ≤ to₂ + at + free → Grew own mid at free to left →
-    Stored mid now left left₂ form detail first second → Grew own now at₂ free to₂ left₂
+pub grew-node : {own mid now : List ℕ} {at free to left : ℕ} {left₂ form detail first second symbol : ℕ} (at₂ to₂ : ℕ) → at₂ ≤ to₂ → at₂ + free + to + 1 ≤ to₂ + at + free → Grew own mid at free to left →
+    Stored mid now left left₂ form detail first second symbol → Grew own now at₂ free to₂ left₂
 grew-node at₂ to₂ h k g s =
     record {
       upto = h;

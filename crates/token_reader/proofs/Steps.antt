@@ -9,7 +9,7 @@ use Rattle.token_grammar.specs.Bounds.{loosest}
 use Rattle.token_grammar.specs.Types.{one}
 use Rattle.token_grammar.specs.Expressions.{Expr, Member, atom, paren, prefix, binary, cast, member, index, call, method}
 use Rattle.token_grammar.specs.Grammar.{NONE}
-use Rattle.token_grammar.specs.Parser.{Out, fail, ok, then, tail, isFirst, Start, noStart, anAtom, aPrefix, aGroup, start, AfterDot, noMember, aMember, afterDot, isByName, next, goesOn, typeBy, exprBy, onBy, argumentsBy}
+use Rattle.token_grammar.specs.Parser.{Out, fail, ok, then, tail, isFirst, Start, noStart, anAtom, aPrefix, aGroup, start, AfterDot, noMember, aMember, afterDot, isByName, memberSymbol, next, goesOn, typeBy, exprBy, onBy, argumentsBy}
 use Rattle.token_grammar.specs.Next.{Next, stops, operates, castsTo, dots, calls, indexes, tries}
 use Rattle.token_grammar.proofs.Complete.{dotStep, onStep, on-step}
 use Rattle.token_reader.specs.Pieces.{closeBy, operandBy, memberBy, dotBy, stepBy}
@@ -58,8 +58,8 @@ expr-step g n ts = by-operand g n (tail ts) (start ts)
 -- ---- what it goes on with
 
 by-member : (g n : ℕ) (e : Expr one) (m : Member) (ts : List Token) (b : Bool) →
-    elim b [ true ↦ then (argumentsBy g (tail ts)) (λ l r. onBy g NONE n (method e l) r) | false ↦ onBy g NONE n (member m e) ts ] ≡ then (memberBy g e m ts b) (λ x r. onBy g NONE n x r)
-by-member g n e m ts true = then-then (argumentsBy g (tail ts)) (λ l r. ok (method e l) r) (λ x r. onBy g NONE n x r)
+    elim b [ true ↦ then (argumentsBy g (tail ts)) (λ l r. onBy g NONE n (method (memberSymbol m) e l) r) | false ↦ onBy g NONE n (member m e) ts ] ≡ then (memberBy g e m ts b) (λ x r. onBy g NONE n x r)
+by-member g n e m ts true = then-then (argumentsBy g (tail ts)) (λ l r. ok (method (memberSymbol m) e l) r) (λ x r. onBy g NONE n x r)
 by-member g n e m ts false = refl
 
 by-dot : (g n : ℕ) (e : Expr one) (ts : List Token) (x : AfterDot) → dotStep g NONE n e ts x ≡ then (dotBy g e ts x) (λ y r. onBy g NONE n y r)

@@ -11,8 +11,8 @@ use Rattle.laws.proofs.Choice.{of-true, and-true, alike, alike-same}
 use Rattle.laws.proofs.Each.{all-at}
 use Rattle.tree.specs.Sizes.{listEnd}
 use Rattle.tree.specs.Forms.{ExprAssign, ExprBinary}
-use Rattle.token_grammar.specs.Tokens.{Assign, number, operator, As, Dot, LeftParen, LeftBracket, Question, code, operatorOf}
-use Rattle.token_grammar.specs.Codes.{tokenOf}
+use Rattle.token_grammar.specs.Tokens.{Assign, number, operator, As, Dot, LeftParen, LeftBracket, Question, code, operatorOf, carries}
+use Rattle.token_grammar.specs.Codes.{tokenOf, signOf}
 use Rattle.token_grammar.specs.Levels.{casts, postfixes, kind, level, before, after}
 use Rattle.token_grammar.specs.Bounds.{pastOperators, highest}
 use Rattle.token_grammar.specs.Types.{one}
@@ -20,15 +20,18 @@ use Rattle.token_grammar.specs.Expressions.{Expr, kindOf, endsInTypeName, endsI
 use Rattle.token_grammar.specs.Grammar.{opensArguments}
 use Rattle.token_grammar.specs.Next.{Next, stops, operates, castsTo, dots, calls, indexes, tries, nextOf, levelAt}
 use Rattle.token_grammar.specs.Parser.{follows, goesOn}
-use Rattle.token_grammar.proofs.Tokens.{number-operator, code-same, code-token}
+use Rattle.token_grammar.proofs.Tokens.{number-operator, code-same, sign-symbol, code-token}
+use Rattle.token_grammar.proofs.FirstTokens.{operator-bare}
 use Rattle.token_plain.specs.Trees.{label, operatorLabel}
 use Rattle.token_follow.specs.Follow.{beforeAt, barredAt, goesOnBy}
 use Rattle.token_reader.specs.Tables.{levelOf, afterOf, goesOnWith, operatorForm, operatorDetail}
 
 -- ---- operators
 
-pub operator-token : (n : ℕ) → n < pastOperators → tokenOf n ≡ operator (operatorOf n)
-operator-token n h = code-same (tokenOf n) (operator (operatorOf n)) (code-token n (omega arith) ∙ sym (number-operator n h))
+pub operator-token : (n : ℕ) → n < pastOperators → signOf n ≡ operator (operatorOf n)
+operator-token n h =
+    let e = code-token n 0 (omega arith) ∙ sym (number-operator n h) in
+    code-same (signOf n) (operator (operatorOf n)) e (sign-symbol (signOf n) (ap carries e ∙ operator-bare (operatorOf n)))
 
 pub operator-level : (n : ℕ) → n < pastOperators → levelOf n ≡ level (kind (operatorOf n))
 unfolding operatorOf tokenOf kind lookup pick
@@ -113,11 +116,11 @@ stop-is tries t = absurd t
 abbrev pub formCodes : List ℕ
 formCodes = code As ∷ code Dot ∷ code LeftParen ∷ code LeftBracket ∷ code Question ∷ []
 
-pub others-stop : (n : ℕ) → n < listEnd + 1 → pastOperators ≤ n → isOneOf formCodes n ≡ false → nextOf (tokenOf n) ≡ stops
+pub others-stop : (n : ℕ) → n < listEnd + 1 → pastOperators ≤ n → isOneOf formCodes n ≡ false → nextOf (signOf n) ≡ stops
 unfolding tokenOf
 others-stop n h k e =
-    stop-is (nextOf (tokenOf n))
-    (rw (le-ltb n pastOperators k, e) at (all-at (λ m. ltb m pastOperators || (isOneOf formCodes m || isStop (nextOf (tokenOf m)))) (listEnd + 1) tt n h))
+    stop-is (nextOf (signOf n))
+    (rw (le-ltb n pastOperators k, e) at (all-at (λ m. ltb m pastOperators || (isOneOf formCodes m || isStop (nextOf (signOf m)))) (listEnd + 1) tt n h))
 
 -- what the reader's last arm knows of a code
 pub no-form : (n : ℕ) → (n ≡ code As → ⊥) → (n ≡ code Dot → ⊥) → (n ≡ code LeftParen → ⊥) → (n ≡ code LeftBracket → ⊥) → (n ≡ code Question → ⊥) → isOneOf formCodes n ≡ false

@@ -4,17 +4,16 @@ use mathlib.Core.Bool.{Bool, true, false}
 use mathlib.Core.List.{List}
 use Prim.Native.Nat.{ℕ, zero, suc, _+_, _≤_, _<_}
 use native.Mathlib.Omega.{arith}
-use lib.ListN.{length, getD}
-use Rattle.tree.specs.Sizes.{listEnd}
 use Rattle.tree.specs.Forms.{TypePath, Link}
 use Rattle.tree.specs.Trees.{none}
 use Rattle.token_grammar.specs.Tokens.{Lt, Gt, number, Token, operator, Comma, code}
+use Rattle.token_grammar.specs.Codes.{codeAt, tokenSymbolAt}
 use Rattle.token_grammar.specs.Types.{one, list, items, TypePrefix, TypeSign, Ty, named, applied, pointing, sign, noTypes, types, lastType, moreTypes}
 use Rattle.token_grammar.specs.Parser.{Out, fail, ok, then, tail, isFirst, TypeStart, noType, aName, aTypePrefix, aSign, typeStart, typeStartBy, AfterItem, closes, another, noItem, afterItem, behind, typeBy, typesBy, someTypesBy}
-use Rattle.token_plain.specs.Trees.{label, treeOfType, typePrefixLabel, typeSignLabel}
+use Rattle.token_plain.specs.Trees.{labelWith, label, treeOfType, typePrefixLabel, typeSignLabel}
 use Rattle.token_reader.specs.declared.piece.Piece.{Piece}
 use Rattle.token_reader.specs.Tables.{pastComma}
-use Rattle.token_reader.specs.Pieces.{Placed, Stored, Ready, Tells, from, Enough, IsType, IsTypes, TypeAt, TypesAt, SignAt, PointingAt, pathBy, PathAt}
+use Rattle.token_reader.specs.Pieces.{many, Placed, Stored, Ready, Tells, from, Enough, IsType, IsTypes, TypeAt, TypesAt, SignAt, PointingAt, pathBy, PathAt}
 use Rattle.token_reader.proofs.First.{there, tail-from, tail-from-next, first-there, first-other, type-start-at}
 use Rattle.token_reader.proofs.Lists.{comma-there, closed-past, closed-at, more-at, none-at}
 use Rattle.token_reader.proofs.Nodes.{carried, lower, placed, grew-none, grew-on, grew-node}
@@ -26,7 +25,7 @@ abbrev typeStep : ℕ → List Token → TypeStart → Out (Ty one)
 typeStep g ts x =
     elim x [
       | noType ↦ fail
-      | aName ↦ pathBy g (tail ts)
+      | aName y ↦ pathBy y g (tail ts)
       | aTypePrefix p ↦ then (typeBy g (tail ts)) (λ t r. ok (pointing p t) r)
       | aSign y ↦ ok (sign y) (tail ts)
     ]
@@ -36,153 +35,153 @@ unfolding typeBy
 type-step g ts x e = rw (e, typeBy)
 
 -- a type that starts with a token there
-begins : (Is : Ty one → Type 0) (codes : List ℕ) (at to : ℕ) (x : TypeStart) → at < length codes → typeStart (from codes at) ≡ x →
-    ((g : ℕ) → Enough codes at 0 (suc g) → Tells Is codes to (typeStep g (from codes at) x)) → (f : ℕ) → Enough codes at 0 f → Tells Is codes to (typeBy f (from codes at))
-begins Is codes at to x h e k zero q = absurd (omega arith)
-begins Is codes at to x h e k (suc g) q = rw (type-step g (from codes at) x e) (k g q)
+begins : (Is : Ty one → Type 0) (tokens : List ℕ) (at to : ℕ) (x : TypeStart) → at < many tokens → typeStart (from tokens at) ≡ x →
+    ((g : ℕ) → Enough tokens at 0 (suc g) → Tells Is tokens to (typeStep g (from tokens at) x)) → (f : ℕ) → Enough tokens at 0 f → Tells Is tokens to (typeBy f (from tokens at))
+begins Is tokens at to x h e k zero q = absurd (omega arith)
+begins Is tokens at to x h e k (suc g) q = rw (type-step g (from tokens at) x e) (k g q)
 
 -- and one that starts with none
-begins-not : (Is : Ty one → Type 0) (codes : List ℕ) (at to : ℕ) → typeStart (from codes at) ≡ noType → length codes < to → (f : ℕ) → Tells Is codes to (typeBy f (from codes at))
+begins-not : (Is : Ty one → Type 0) (tokens : List ℕ) (at to : ℕ) → typeStart (from tokens at) ≡ noType → many tokens < to → (f : ℕ) → Tells Is tokens to (typeBy f (from tokens at))
 unfolding typeBy
-begins-not Is codes at to e h zero = h
-begins-not Is codes at to e h (suc g) = rw (type-step g (from codes at) noType e) h
+begins-not Is tokens at to e h zero = h
+begins-not Is tokens at to e h (suc g) = rw (type-step g (from tokens at) noType e) h
 
-module _ {codes own now : List ℕ} {at free : ℕ} (ready : Ready codes own at free) where
+module _ {tokens own now : List ℕ} {at free : ℕ} (ready : Ready tokens own at free) where
   -- ---- Infer and Never
 
-  pub sign-stored : {form left : ℕ} → at < length codes → Stored own now free left form 0 0 0 →
-      SignAt codes own now at free form (record { at = at + 1; free = left; named = false })
+  pub sign-stored : {form left : ℕ} → at < many tokens → Stored own now free left form 0 0 0 0 →
+      SignAt tokens own now at free form (record { at = at + 1; free = left; named = false })
   sign-stored h s =
       record {
         grew = grew-node at (at + 1) (omega arith) (omega arith) (grew-none own at free at (omega arith)) s;
         tells = λ x e. (omega arith, refl, record { ends = refl; placed = placed none none (typeSignLabel x) s e (ready .most) refl refl });
       }
 
-  pub type-sign : {form : ℕ} {r : Piece} (x : TypeSign) → at < length codes → typeStartBy (getD codes at listEnd) ≡ aSign x → label form 0 ≡ typeSignLabel x →
-      SignAt codes own now at free form r → TypeAt codes own now at free r
+  pub type-sign : {form : ℕ} {r : Piece} (x : TypeSign) → at < many tokens → typeStartBy (codeAt tokens at) (tokenSymbolAt tokens at) ≡ aSign x → label form 0 ≡ typeSignLabel x →
+      SignAt tokens own now at free form r → TypeAt tokens own now at free r
   type-sign {form} {r} x h e l s =
       record {
         grew = λ q. s .grew;
-        tells = begins (IsType now r) codes at (r .at) (aSign x) h (type-start-at codes at (ready .known) ∙ e) (λ g q. rw (tail-from codes at) (s .tells x l));
+        tells = begins (IsType now r) tokens at (r .at) (aSign x) h (type-start-at tokens at (ready .known) ∙ e) (λ g q. rw (tail-from tokens at) (s .tells x l));
       }
 
-  pub type-pointing : {form detail : ℕ} {r : Piece} (p : TypePrefix) → at < length codes → typeStartBy (getD codes at listEnd) ≡ aTypePrefix p → label form detail ≡ typePrefixLabel p →
-      PointingAt codes own now at free form detail r → TypeAt codes own now at free r
+  pub type-pointing : {form detail : ℕ} {r : Piece} (p : TypePrefix) → at < many tokens → typeStartBy (codeAt tokens at) (tokenSymbolAt tokens at) ≡ aTypePrefix p → label form detail ≡ typePrefixLabel p →
+      PointingAt tokens own now at free form detail r → TypeAt tokens own now at free r
   type-pointing {form} {detail} {r} p h e l s =
       record {
         grew = s .grew;
-        tells = begins (IsType now r) codes at (r .at) (aTypePrefix p) h (type-start-at codes at (ready .known) ∙ e) (λ g q. rw (tail-from codes at) (s .tells p l g (omega arith)));
+        tells = begins (IsType now r) tokens at (r .at) (aTypePrefix p) h (type-start-at tokens at (ready .known) ∙ e) (λ g q. rw (tail-from tokens at) (s .tells p l g (omega arith)));
       }
 
-  pub type-path : {r : Piece} → at < length codes → typeStartBy (getD codes at listEnd) ≡ aName → PathAt codes own now at free r → TypeAt codes own now at free r
+  pub type-path : {r : Piece} → at < many tokens → typeStartBy (codeAt tokens at) (tokenSymbolAt tokens at) ≡ aName (tokenSymbolAt tokens at) → PathAt tokens own now at free r → TypeAt tokens own now at free r
   type-path {r} h e s =
       record {
         grew = s .grew;
-        tells = begins (IsType now r) codes at (r .at) aName h (type-start-at codes at (ready .known) ∙ e) (λ g q. rw (tail-from codes at) (s .tells g (omega arith)));
+        tells = begins (IsType now r) tokens at (r .at) (aName (tokenSymbolAt tokens at)) h (type-start-at tokens at (ready .known) ∙ e) (λ g q. rw (tail-from tokens at) (s .tells g (omega arith)));
       }
 
-  pub type-none : {r : Piece} → typeStartBy (getD codes at listEnd) ≡ noType → r .at ≡ length codes + 1 → TypeAt codes own now at free r
+  pub type-none : {r : Piece} → typeStartBy (codeAt tokens at) (tokenSymbolAt tokens at) ≡ noType → r .at ≡ many tokens + 1 → TypeAt tokens own now at free r
   type-none {r} e z =
       record {
         grew = λ q. absurd (omega arith);
-        tells = λ f q. begins-not (IsType now r) codes at (r .at) (type-start-at codes at (ready .known) ∙ e) (omega arith) f;
+        tells = λ f q. begins-not (IsType now r) tokens at (r .at) (type-start-at tokens at (ready .known) ∙ e) (omega arith) f;
       }
 
   -- ---- Ptr and Reference
 
-  pub pointing-none : {form detail : ℕ} {r : Piece} → length codes < r .at → TypeAt codes own now (at + 1) free r → PointingAt codes own now at free form detail r
+  pub pointing-none : {form detail : ℕ} {r : Piece} → many tokens < r .at → TypeAt tokens own now (at + 1) free r → PointingAt tokens own now at free form detail r
   pointing-none {form} {detail} {r} h i =
       record {
         grew = λ q. absurd (omega arith);
-        tells = λ p e g q. tells-none (IsType now r) (IsType now r) codes (r .at) (r .at) (typeBy g (from codes (at + 1))) (λ t rest. ok (pointing p t) rest) h h (i .tells g q);
+        tells = λ p e g q. tells-none (IsType now r) (IsType now r) tokens (r .at) (r .at) (typeBy g (from tokens (at + 1))) (λ t rest. ok (pointing p t) rest) h h (i .tells g q);
       }
 
-module _ {codes own mid now : List ℕ} {at free : ℕ} (ready : Ready codes own at free) where
-  pub pointing-stored : {form detail left : ℕ} (r : Piece) → r .at ≤ length codes → TypeAt codes own mid (at + 1) free r → Stored mid now (r .free) left form detail (r .free + 1) 0 →
-      PointingAt codes own now at free form detail (record { at = r .at; free = left; named = r .named })
+module _ {tokens own mid now : List ℕ} {at free : ℕ} (ready : Ready tokens own at free) where
+  pub pointing-stored : {form detail left : ℕ} (r : Piece) → r .at ≤ many tokens → TypeAt tokens own mid (at + 1) free r → Stored mid now (r .free) left form detail (r .free + 1) 0 0 →
+      PointingAt tokens own now at free form detail (record { at = r .at; free = left; named = r .named })
   pointing-stored {form} {detail} {left} r h i s =
       let w = i .grew h in
       record {
         grew = λ q. grew-node at (r .at) (omega (arith, w .upto)) (omega arith) w s;
         tells = λ p e g q.
-            tells-some (IsType mid r) (IsType now (record { at = r .at; free = left; named = r .named })) codes (r .at) (r .at) (typeBy g (from codes (at + 1))) (λ t rest. ok (pointing p t) rest) h (i .tells g q)
+            tells-some (IsType mid r) (IsType now (record { at = r .at; free = left; named = r .named })) tokens (r .at) (r .at) (typeBy g (from tokens (at + 1))) (λ t rest. ok (pointing p t) rest) h (i .tells g q)
             (λ t y. (h, refl, record { ends = y .ends; placed = placed (treeOfType t) none (typePrefixLabel p) s e (omega (arith, ready .most, w .less)) (y .placed) refl }));
       }
 
 -- ---- paths
 
-path-opens : (g : ℕ) (ts us : List Token) → isFirst (operator Lt) ts ≡ true → tail ts ≡ us → pathBy g ts ≡ then (typesBy g us) (λ l r. ok (applied l) r)
-path-opens g ts us e q = rw (e, pathBy) (ap (λ x. then (typesBy g x) (λ l r. ok (applied l) r)) q)
+path-opens : (y g : ℕ) (ts us : List Token) → isFirst (operator Lt) ts ≡ true → tail ts ≡ us → pathBy y g ts ≡ then (typesBy g us) (λ l r. ok (applied y l) r)
+path-opens y g ts us e q = rw (e, pathBy) (ap (λ x. then (typesBy g x) (λ l r. ok (applied y l) r)) q)
 
-path-ends : (g : ℕ) (ts : List Token) → isFirst (operator Lt) ts ≡ false → pathBy g ts ≡ ok named ts
-path-ends g ts e = rw (e, pathBy)
+path-ends : (y g : ℕ) (ts : List Token) → isFirst (operator Lt) ts ≡ false → pathBy y g ts ≡ ok (named y) ts
+path-ends y g ts e = rw (e, pathBy)
 
 -- an empty list of arguments, and one that is not
-types-empty : (codes : List ℕ) (at f : ℕ) → at < length codes → Enough codes at 2 f → isFirst (operator Gt) (from codes at) ≡ true → typesBy f (from codes at) ≡ ok noTypes (from codes (at + 1))
+types-empty : (tokens : List ℕ) (at f : ℕ) → at < many tokens → Enough tokens at 2 f → isFirst (operator Gt) (from tokens at) ≡ true → typesBy f (from tokens at) ≡ ok noTypes (from tokens (at + 1))
 unfolding typesBy
-types-empty codes at zero h q e = absurd (omega arith)
-types-empty codes at (suc g) h q e = rw (e, typesBy) (ap (ok noTypes) (tail-from codes at))
+types-empty tokens at zero h q e = absurd (omega arith)
+types-empty tokens at (suc g) h q e = rw (e, typesBy) (ap (ok noTypes) (tail-from tokens at))
 
-types-items : (Is : Ty items → Type 0) (Be : Ty list → Type 0) (codes : List ℕ) (at to f : ℕ) → at ≤ length codes → Enough codes at 2 f → isFirst (operator Gt) (from codes at) ≡ false →
-    ((g : ℕ) → Enough codes at 1 g → Tells Is codes to (someTypesBy g (from codes at))) → ((l : Ty items) → Is l → Be (types l)) → Tells Be codes to (typesBy f (from codes at))
+types-items : (Is : Ty items → Type 0) (Be : Ty list → Type 0) (tokens : List ℕ) (at to f : ℕ) → at ≤ many tokens → Enough tokens at 2 f → isFirst (operator Gt) (from tokens at) ≡ false →
+    ((g : ℕ) → Enough tokens at 1 g → Tells Is tokens to (someTypesBy g (from tokens at))) → ((l : Ty items) → Is l → Be (types l)) → Tells Be tokens to (typesBy f (from tokens at))
 unfolding typesBy
-types-items Is Be codes at to zero h q e t k = absurd (omega arith)
-types-items Is Be codes at to (suc g) h q e t k =
+types-items Is Be tokens at to zero h q e t k = absurd (omega arith)
+types-items Is Be tokens at to (suc g) h q e t k =
     rw (e, typesBy)
-    (tells-then Is Be codes to to (someTypesBy g (from codes at)) (λ l r. ok (types l) r) (t g (omega arith)) (λ z. z) (λ l z y. (z, refl, k l y)))
+    (tells-then Is Be tokens to to (someTypesBy g (from tokens at)) (λ l r. ok (types l) r) (t g (omega arith)) (λ z. z) (λ l z y. (z, refl, k l y)))
 
-module _ {codes own now : List ℕ} {at free : ℕ} (ready : Ready codes own at free) (here : at < length codes) where
-  pub path-named : {left : ℕ} → (getD codes (at + 1) listEnd ≡ number Lt → ⊥) → Stored own now free left TypePath 1 0 0 → PathAt codes own now at free (record { at = at + 1; free = left; named = true })
+module _ {tokens own now : List ℕ} {at free : ℕ} (ready : Ready tokens own at free) (here : at < many tokens) where
+  pub path-named : {left : ℕ} → (codeAt tokens (at + 1) ≡ number Lt → ⊥) → Stored own now free left TypePath 1 0 0 (tokenSymbolAt tokens at) → PathAt tokens own now at free (record { at = at + 1; free = left; named = true })
   path-named n s =
       record {
         grew = λ q. grew-node at (at + 1) (omega arith) (omega arith) (grew-none own at free at (omega arith)) s;
         tells = λ g q.
-            rw (path-ends g (from codes (at + 1)) (first-other (operator Lt) codes (at + 1) (ready .known) n))
-            (omega arith, refl, record { ends = refl; placed = placed none none (label TypePath 1) s refl (ready .most) refl refl });
+            rw (path-ends (tokenSymbolAt tokens at) g (from tokens (at + 1)) (first-other (operator Lt) tokens (at + 1) (ready .known) n))
+            (omega arith, refl, record { ends = refl; placed = placed none none (labelWith TypePath 1 (tokenSymbolAt tokens at)) s refl (ready .most) refl refl });
       }
 
-  pub path-empty : {left : ℕ} → getD codes (at + 1) listEnd ≡ number Lt → getD codes (at + 2) listEnd ≡ number Gt → Stored own now free left TypePath 2 0 0 →
-      PathAt codes own now at free (record { at = at + 3; free = left; named = false })
+  pub path-empty : {left : ℕ} → codeAt tokens (at + 1) ≡ number Lt → codeAt tokens (at + 2) ≡ number Gt → Stored own now free left TypePath 2 0 0 (tokenSymbolAt tokens at) →
+      PathAt tokens own now at free (record { at = at + 3; free = left; named = false })
   path-empty {left} e z s =
-      let b = there codes (at + 2) (number Gt) z (omega arith) in
+      let b = there tokens (at + 2) (number Gt) z (omega arith) in
       record {
         grew = λ q. grew-node at (at + 3) (omega arith) (omega arith) (grew-none own at free at (omega arith)) s;
         tells = λ g q.
             rw (
-              path-opens g (from codes (at + 1)) (from codes (at + 2)) (first-there (operator Lt) codes (at + 1) (ready .known) e) (tail-from-next codes at),
-              types-empty codes (at + 2) g b q (first-there (operator Gt) codes (at + 2) (ready .known) z),
+              path-opens (tokenSymbolAt tokens at) g (from tokens (at + 1)) (from tokens (at + 2)) (first-there (operator Lt) tokens (at + 1) (ready .known) e) (tail-from-next tokens at),
+              types-empty tokens (at + 2) g b q (first-there (operator Gt) tokens (at + 2) (ready .known) z),
             )
-            (omega arith, ap (from codes) (let p : at + 2 + 1 ≡ at + 3 = omega arith in p), record { ends = refl; placed = placed none none (label TypePath 2) s refl (ready .most) refl refl });
+            (omega arith, ap (from tokens) (let p : at + 2 + 1 ≡ at + 3 = omega arith in p), record { ends = refl; placed = placed none none (labelWith TypePath 2 (tokenSymbolAt tokens at)) s refl (ready .most) refl refl });
       }
 
-  pub path-none : {r : Piece} → getD codes (at + 1) listEnd ≡ number Lt → (getD codes (at + 2) listEnd ≡ number Gt → ⊥) → length codes < r .at → TypesAt codes own now (at + 2) free r → PathAt codes own now at free r
+  pub path-none : {r : Piece} → codeAt tokens (at + 1) ≡ number Lt → (codeAt tokens (at + 2) ≡ number Gt → ⊥) → many tokens < r .at → TypesAt tokens own now (at + 2) free r → PathAt tokens own now at free r
   path-none {r} e n h i =
-      let b = there codes (at + 1) (number Lt) e (omega arith) in
+      let b = there tokens (at + 1) (number Lt) e (omega arith) in
       record {
         grew = λ q. absurd (omega arith);
         tells = λ g q.
-            rw (path-opens g (from codes (at + 1)) (from codes (at + 2)) (first-there (operator Lt) codes (at + 1) (ready .known) e) (tail-from-next codes at))
-            (tells-none (λ l. Unit {0}) (IsType now r) codes (r .at) (r .at) (typesBy g (from codes (at + 2))) (λ l w. ok (applied l) w) h h
-            (types-items (IsTypes now r) (λ l. Unit {0}) codes (at + 2) (r .at) g (omega arith) q (first-other (operator Gt) codes (at + 2) (ready .known) n) (i .tells) (λ l y. tt)));
+            rw (path-opens (tokenSymbolAt tokens at) g (from tokens (at + 1)) (from tokens (at + 2)) (first-there (operator Lt) tokens (at + 1) (ready .known) e) (tail-from-next tokens at))
+            (tells-none (λ l. Unit {0}) (IsType now r) tokens (r .at) (r .at) (typesBy g (from tokens (at + 2))) (λ l w. ok (applied (tokenSymbolAt tokens at) l) w) h h
+            (types-items (IsTypes now r) (λ l. Unit {0}) tokens (at + 2) (r .at) g (omega arith) q (first-other (operator Gt) tokens (at + 2) (ready .known) n) (i .tells) (λ l y. tt)));
       }
 
 -- the arguments of a path, placed
 pub record Listed (mid : List ℕ) (r : Piece) (l : Ty list) : Type 0 where
   pub placed : Placed mid (r .free) (r .free + 1) (treeOfType l)
 
-module _ {codes own mid now : List ℕ} {at free : ℕ} (ready : Ready codes own at free) where
-  pub path-stored : {left : ℕ} (r : Piece) → getD codes (at + 1) listEnd ≡ number Lt → (getD codes (at + 2) listEnd ≡ number Gt → ⊥) → r .at ≤ length codes → TypesAt codes own mid (at + 2) free r →
-      Stored mid now (r .free) left TypePath 2 0 (r .free + 1) → PathAt codes own now at free (record { at = r .at; free = left; named = false })
+module _ {tokens own mid now : List ℕ} {at free : ℕ} (ready : Ready tokens own at free) where
+  pub path-stored : {left : ℕ} (r : Piece) → codeAt tokens (at + 1) ≡ number Lt → (codeAt tokens (at + 2) ≡ number Gt → ⊥) → r .at ≤ many tokens → TypesAt tokens own mid (at + 2) free r →
+      Stored mid now (r .free) left TypePath 2 0 (r .free + 1) (tokenSymbolAt tokens at) → PathAt tokens own now at free (record { at = r .at; free = left; named = false })
   path-stored {left} r e n h i s =
-      let b = there codes (at + 1) (number Lt) e (omega arith) in
+      let b = there tokens (at + 1) (number Lt) e (omega arith) in
       let w = i .grew h in
       record {
         grew = λ q. grew-node at (r .at) (omega (arith, w .upto)) (omega arith) w s;
         tells = λ g q.
-            rw (path-opens g (from codes (at + 1)) (from codes (at + 2)) (first-there (operator Lt) codes (at + 1) (ready .known) e) (tail-from-next codes at))
-            (tells-some (Listed mid r) (IsType now (record { at = r .at; free = left; named = false })) codes (r .at) (r .at) (typesBy g (from codes (at + 2))) (λ l z. ok (applied l) z) h
-            (types-items (IsTypes mid r) (Listed mid r) codes (at + 2) (r .at) g (omega arith) q (first-other (operator Gt) codes (at + 2) (ready .known) n) (i .tells) (λ l y. record { placed = y .placed }))
-            (λ l y. (h, refl, record { ends = refl; placed = placed none (treeOfType l) (label TypePath 2) s refl (omega (arith, ready .most, w .less)) refl (y .placed) })));
+            rw (path-opens (tokenSymbolAt tokens at) g (from tokens (at + 1)) (from tokens (at + 2)) (first-there (operator Lt) tokens (at + 1) (ready .known) e) (tail-from-next tokens at))
+            (tells-some (Listed mid r) (IsType now (record { at = r .at; free = left; named = false })) tokens (r .at) (r .at) (typesBy g (from tokens (at + 2))) (λ l z. ok (applied (tokenSymbolAt tokens at) l) z) h
+            (types-items (IsTypes mid r) (Listed mid r) tokens (at + 2) (r .at) g (omega arith) q (first-other (operator Gt) tokens (at + 2) (ready .known) n) (i .tells) (λ l y. record { placed = y .placed }))
+            (λ l y. (h, refl, record { ends = refl; placed = placed none (treeOfType l) (labelWith TypePath 2 (tokenSymbolAt tokens at)) s refl (omega (arith, ready .most, w .less)) refl (y .placed) })));
       }
 
 -- ---- lists of types
@@ -195,63 +194,63 @@ typesStep g t r x =
       | noItem ↦ fail
     ]
 
-module _ {codes own mid : List ℕ} {at free : ℕ} (ready : Ready codes own at free) (first : Piece) (i : TypeAt codes own mid at free first) {end : ℕ} (is : end ≡ pastComma codes (first .at) (number Gt)) where
-  after-first : (Be : Ty items → Type 0) (to : ℕ) (x : AfterItem) → afterItem (operator Gt) (from codes (first .at)) ≡ x → (length codes < first .at → length codes < to) →
-      ((g : ℕ) → Enough codes at 0 g → (t : Ty one) → first .at ≤ length codes → IsType mid first t → Tells Be codes to (typesStep g t (from codes (first .at)) x)) →
-      (f : ℕ) → Enough codes at 1 f → Tells Be codes to (someTypesBy f (from codes at))
+module _ {tokens own mid : List ℕ} {at free : ℕ} (ready : Ready tokens own at free) (first : Piece) (i : TypeAt tokens own mid at free first) {end : ℕ} (is : end ≡ pastComma tokens (first .at) (number Gt)) where
+  after-first : (Be : Ty items → Type 0) (to : ℕ) (x : AfterItem) → afterItem (operator Gt) (from tokens (first .at)) ≡ x → (many tokens < first .at → many tokens < to) →
+      ((g : ℕ) → Enough tokens at 0 g → (t : Ty one) → first .at ≤ many tokens → IsType mid first t → Tells Be tokens to (typesStep g t (from tokens (first .at)) x)) →
+      (f : ℕ) → Enough tokens at 1 f → Tells Be tokens to (someTypesBy f (from tokens at))
   unfolding someTypesBy
   after-first Be to x p b k zero h = absurd (omega (arith, ready .within))
   after-first Be to x p b k (suc g) h =
-      tells-then (IsType mid first) Be codes (first .at) to (typeBy g (from codes at)) _ (i .tells g (omega arith)) b
-      (λ t z y. subst (λ x. Tells Be codes to (typesStep g t (from codes (first .at)) x)) (sym p) (k g (omega arith) t z y))
+      tells-then (IsType mid first) Be tokens (first .at) to (typeBy g (from tokens at)) _ (i .tells g (omega arith)) b
+      (λ t z y. subst (λ x. Tells Be tokens to (typesStep g t (from tokens (first .at)) x)) (sym p) (k g (omega arith) t z y))
 
-  pub types-last : {now : List ℕ} {left : ℕ} → getD codes end listEnd ≡ number Gt → Stored mid now (first .free) left Link 0 (first .free + 1) 0 →
-      TypesAt codes own now at free (record { at = end + 1; free = left; named = false })
+  pub types-last : {now : List ℕ} {left : ℕ} → codeAt tokens end ≡ number Gt → Stored mid now (first .free) left Link 0 (first .free + 1) 0 0 →
+      TypesAt tokens own now at free (record { at = end + 1; free = left; named = false })
   types-last {now} {left} e s =
-      let b = closed-past codes (first .at) (operator Gt) (λ z. omega arith) is e in
+      let b = closed-past tokens (first .at) (operator Gt) (λ z. omega arith) is e in
       let l = b .0 in
       let h = b .1 in
       let w = i .grew (omega arith) in
-      let d = closed-at codes (first .at) (operator Gt) (λ z. omega arith) is (ready .known) e in
+      let d = closed-at tokens (first .at) (operator Gt) (λ z. omega arith) is (ready .known) e in
       record {
         grew = λ q. grew-node at (end + 1) (omega (arith, w .upto)) (omega arith) w s;
         tells = after-first (IsTypes now (record { at = end + 1; free = left; named = false })) (end + 1) (closes (d .0)) (d .1) (λ z. omega arith)
             (λ g q t z y. (omega arith, d .2, record { placed = placed (treeOfType t) none (label Link 0) s refl (omega (arith, ready .most, w .less)) (y .placed) refl }));
       }
 
-  pub types-none : {now : List ℕ} {r : Piece} → (getD codes end listEnd ≡ number Gt → ⊥) → (getD codes end listEnd ≡ code Comma → ⊥) → r .at ≡ length codes + 1 → TypesAt codes own now at free r
+  pub types-none : {now : List ℕ} {r : Piece} → (codeAt tokens end ≡ number Gt → ⊥) → (codeAt tokens end ≡ code Comma → ⊥) → r .at ≡ many tokens + 1 → TypesAt tokens own now at free r
   types-none {now} {r} n m z =
       record {
         grew = λ q. absurd (omega arith);
-        tells = after-first (IsTypes now r) (r .at) noItem (none-at codes (first .at) (operator Gt) (λ z. omega arith) is (ready .known) n m) (λ q. omega arith) (λ g q t x y. omega arith);
+        tells = after-first (IsTypes now r) (r .at) noItem (none-at tokens (first .at) (operator Gt) (λ z. omega arith) is (ready .known) n m) (λ q. omega arith) (λ g q t x y. omega arith);
       }
 
-  pub types-more-none : {now : List ℕ} {r : Piece} → (getD codes end listEnd ≡ number Gt → ⊥) → getD codes end listEnd ≡ code Comma → length codes < r .at →
-      TypesAt codes mid now (first .at + 1) (first .free) r → TypesAt codes own now at free r
+  pub types-more-none : {now : List ℕ} {r : Piece} → (codeAt tokens end ≡ number Gt → ⊥) → codeAt tokens end ≡ code Comma → many tokens < r .at →
+      TypesAt tokens mid now (first .at + 1) (first .free) r → TypesAt tokens own now at free r
   types-more-none {now} {r} n m h j =
-      let b = comma-there codes (first .at) (operator Gt) (λ z. omega arith) is m in
+      let b = comma-there tokens (first .at) (operator Gt) (λ z. omega arith) is m in
       let w = i .grew (omega arith) in
       record {
         grew = λ q. absurd (omega arith);
-        tells = after-first (IsTypes now r) (r .at) another (more-at codes (first .at) (operator Gt) (λ z. omega arith) is (ready .known) n m) (λ q. h)
+        tells = after-first (IsTypes now r) (r .at) another (more-at tokens (first .at) (operator Gt) (λ z. omega arith) is (ready .known) n m) (λ q. h)
             (λ g q t x y.
-            rw (tail-from codes (first .at))
-            (tells-none (IsTypes now r) (IsTypes now r) codes (r .at) (r .at) (someTypesBy g (from codes (first .at + 1))) (λ l z. ok (moreTypes t l) z) h h (j .tells g (omega (arith, w .upto)))));
+            rw (tail-from tokens (first .at))
+            (tells-none (IsTypes now r) (IsTypes now r) tokens (r .at) (r .at) (someTypesBy g (from tokens (first .at + 1))) (λ l z. ok (moreTypes t l) z) h h (j .tells g (omega (arith, w .upto)))));
       }
 
-  pub types-more : {mid₂ now : List ℕ} {left : ℕ} (r : Piece) → (getD codes end listEnd ≡ number Gt → ⊥) → getD codes end listEnd ≡ code Comma → r .at ≤ length codes →
-      TypesAt codes mid mid₂ (first .at + 1) (first .free) r → Stored mid₂ now (r .free) left Link 0 (first .free + 1) (r .free + 1) →
-      TypesAt codes own now at free (record { at = r .at; free = left; named = false })
+  pub types-more : {mid₂ now : List ℕ} {left : ℕ} (r : Piece) → (codeAt tokens end ≡ number Gt → ⊥) → codeAt tokens end ≡ code Comma → r .at ≤ many tokens →
+      TypesAt tokens mid mid₂ (first .at + 1) (first .free) r → Stored mid₂ now (r .free) left Link 0 (first .free + 1) (r .free + 1) 0 →
+      TypesAt tokens own now at free (record { at = r .at; free = left; named = false })
   types-more {mid₂} {now} {left} r n m h j s =
-      let b = comma-there codes (first .at) (operator Gt) (λ z. omega arith) is m in
+      let b = comma-there tokens (first .at) (operator Gt) (λ z. omega arith) is m in
       let w = i .grew (omega arith) in
       let v = j .grew h in
       record {
         grew = λ q. grew-node at (r .at) (omega (arith, w .upto, v .upto)) (omega arith) (grew-on (at + 1) (omega arith) w v) s;
-        tells = after-first (IsTypes now (record { at = r .at; free = left; named = false })) (r .at) another (more-at codes (first .at) (operator Gt) (λ z. omega arith) is (ready .known) n m) (λ q. absurd (omega arith))
+        tells = after-first (IsTypes now (record { at = r .at; free = left; named = false })) (r .at) another (more-at tokens (first .at) (operator Gt) (λ z. omega arith) is (ready .known) n m) (λ q. absurd (omega arith))
             (λ g q t x y.
-            rw (tail-from codes (first .at))
-            (tells-some (IsTypes mid₂ r) (IsTypes now (record { at = r .at; free = left; named = false })) codes (r .at) (r .at) (someTypesBy g (from codes (first .at + 1))) (λ l z. ok (moreTypes t l) z) h (j .tells g (omega (arith, w .upto)))
+            rw (tail-from tokens (first .at))
+            (tells-some (IsTypes mid₂ r) (IsTypes now (record { at = r .at; free = left; named = false })) tokens (r .at) (r .at) (someTypesBy g (from tokens (first .at + 1))) (λ l z. ok (moreTypes t l) z) h (j .tells g (omega (arith, w .upto)))
             (λ l u. (
               h,
               refl,

@@ -1,24 +1,24 @@
 -- What is read of the whole list is its reading, and a list of which something else is read has none. Assumes nothing.
 use mathlib.Core.Path.{_≡_, refl, sym, subst, ap, _∙_}
-use mathlib.Core.Bool.{Bool, true, false}
+use mathlib.Core.Bool.{Bool, true, false, not}
 use mathlib.Core.List.{List, [], _∷_}
-use Prim.Native.Nat.{ℕ, suc, _+_, _*_, _≤_, _<_}
+use Prim.Native.Nat.{ℕ, _+_, _*_, _≤_, _<_}
 use native.Mathlib.Omega.{arith}
 use lib.ListN.{length, drop, length-drop}
 use borrow.Author.Tests.{ltb-false, lt-ltb, le-ltb}
 use Rattle.laws.specs.Choice.{pick}
-use Rattle.laws.proofs.Choice.{true-not-false, or-false, or-here, or-next}
-use Rattle.tree.specs.Sizes.{nodeCells, mostNodes, mostTokens, lastCode}
+use Rattle.laws.proofs.Choice.{true-not-false, of-true, or-false, or-here, or-next}
+use Rattle.tree.specs.Sizes.{nodeCells, tokenCells, mostNodes, mostTokens}
 use Rattle.tree.specs.Trees.{Tree, treeAt}
 use Rattle.token_grammar.specs.Tokens.{Token}
-use Rattle.token_grammar.specs.Codes.{tokensOf}
+use Rattle.token_grammar.specs.Codes.{tokensOf, areTokens}
 use Rattle.token_grammar.specs.Bounds.{loosest}
 use Rattle.token_grammar.specs.Types.{one}
 use Rattle.token_grammar.specs.Expressions.{Expr}
 use Rattle.token_grammar.specs.Grammar.{NONE}
 use Rattle.token_grammar.specs.Bare.{bare}
 use Rattle.token_grammar.specs.Parser.{Out, fail, ok, exprBy, parse}
-use Rattle.token_grammar.proofs.Tokens.{codes-tokens}
+use Rattle.token_grammar.proofs.Tokens.{cells-tokens}
 use Rattle.token_plain.specs.Trees.{treeOf, withoutParens}
 use Rattle.token_plain.specs.Reads.{Reads}
 use Rattle.token_plain.proofs.Parens.{without-bare}
@@ -28,14 +28,14 @@ use Rattle.tree_numbering.specs.Renumbering.{tooShort, renumbered, renumberedAf
 use Rattle.token_reader.specs.declared.Reply.{Reply}
 use Rattle.token_reader.specs.declared.Reply.the-variants.{Refused}
 use Rattle.token_reader.specs.declared.piece.Parsed.{Parsed}
-use Rattle.token_reader.specs.Reading.{readRefusal12, anyAbove, refusal14, countOrLarge, readTable, Answers}
-use Rattle.token_reader.specs.Pieces.{Tells, IsExpr, ExprAt, replyOf}
-use Rattle.token_reader.proofs.Codes.{all-below}
+use Rattle.token_reader.specs.Reading.{readRefusal12, refusal14, countOrLarge, readTable, Answers}
+use Rattle.token_reader.specs.Pieces.{many, Tells, IsExpr, ExprAt, replyOf}
 use Rattle.token_reader.proofs.Nodes.{placed-tree}
 
-length-tokens : (codes : List ℕ) → length (tokensOf codes) ≡ length codes
-length-tokens [] = refl
-length-tokens (n ∷ ns) = ap suc (length-tokens ns)
+length-tokens : (tokens : List ℕ) → length (tokensOf tokens) ≡ many tokens
+length-tokens [] = omega arith
+length-tokens (n ∷ []) = omega arith
+length-tokens (n ∷ y ∷ ns) = omega (arith, length-tokens ns)
 
 -- nothing is left exactly at the end
 left-none : (ts : List Token) (n : ℕ) → n ≤ length ts → drop n ts ≡ [] → n ≡ length ts
@@ -45,27 +45,27 @@ none-left : (ts : List Token) → drop (length ts) ts ≡ []
 none-left [] = refl
 none-left (t ∷ ts) = none-left ts
 
-module _ {codes own now : List ℕ} {free : ℕ} (r : Parsed) (i : ExprAt codes own now 0 free loosest r) where
-  tells : Tells (IsExpr now r) codes (r .at) (parse NONE (tokensOf codes))
+module _ {tokens own now : List ℕ} {free : ℕ} (r : Parsed) (i : ExprAt tokens own now 0 free loosest r) where
+  tells : Tells (IsExpr now r) tokens (r .at) (parse NONE (tokensOf tokens))
   unfolding parse
-  tells = subst (λ n. Tells (IsExpr now r) codes (r .at) (exprBy (2 * n) NONE loosest (tokensOf codes))) (sym (length-tokens codes)) (i .tells (2 * length codes) (omega arith))
+  tells = subst (λ n. Tells (IsExpr now r) tokens (r .at) (exprBy (2 * n) NONE loosest (tokensOf tokens))) (sym (length-tokens tokens)) (i .tells (2 * many tokens) (omega arith))
 
-  pub unread : (r .at ≡ length codes → ⊥) → (t : Tree) → Reads codes t → ⊥
+  pub unread : (r .at ≡ many tokens → ⊥) → (t : Tree) → Reads tokens t → ⊥
   unread n t x =
-      let g = subst (Tells (IsExpr now r) codes (r .at)) (finds x) tells in
-      n (left-none (tokensOf codes) (r .at) (omega (arith, length-tokens codes, g .0)) (sym (g .1)) ∙ length-tokens codes)
+      let g = subst (Tells (IsExpr now r) tokens (r .at)) (finds x) tells in
+      n (left-none (tokensOf tokens) (r .at) (omega (arith, length-tokens tokens, g .0)) (sym (g .1)) ∙ length-tokens tokens)
 
   -- the tree at the node after the free ones
-  pub whole : anyAbove lastCode codes ≡ false → r .at ≡ length codes → Reads codes (treeAt now mostTokens (r .free + 1))
-  whole known e = go (parse NONE (tokensOf codes)) refl tells
+  pub whole : areTokens tokens ≡ true → r .at ≡ many tokens → Reads tokens (treeAt now mostTokens (r .free + 1))
+  whole known e = go (parse NONE (tokensOf tokens)) refl tells
     where
-      go : (o : Out (Expr one)) → parse NONE (tokensOf codes) ≡ o → Tells (IsExpr now r) codes (r .at) o → Reads codes (treeAt now mostTokens (r .free + 1))
+      go : (o : Out (Expr one)) → parse NONE (tokensOf tokens) ≡ o → Tells (IsExpr now r) tokens (r .at) o → Reads tokens (treeAt now mostTokens (r .free + 1))
       go fail q k = absurd (omega arith)
       go (ok x rest) q k =
-          let z : rest ≡ [] = k .1 ∙ ap (λ n. drop n (tokensOf codes)) (e ∙ sym (length-tokens codes)) ∙ none-left (tokensOf codes) in
+          let z : rest ≡ [] = k .1 ∙ ap (λ n. drop n (tokensOf tokens)) (e ∙ sym (length-tokens tokens)) ∙ none-left (tokensOf tokens) in
           let here = placed-tree now (r .free) (r .free + 1) (treeOf (bare x)) (omega arith) (k .2 .placed) in
-          subst (λ t. Reads codes t) (without-bare x ∙ sym here)
-          (subst (λ n. Reads n (withoutParens (treeOf x))) (codes-tokens codes (all-below codes known)) (found (tokensOf codes) x (q ∙ ap (ok x) z)))
+          subst (λ t. Reads tokens t) (without-bare x ∙ sym here)
+          (subst (λ n. Reads n (withoutParens (treeOf x))) (cells-tokens tokens (of-true known)) (found (tokensOf tokens) x (q ∙ ap (ok x) z)))
 
 -- ---- replies
 
@@ -90,8 +90,8 @@ after t table h = go (tooLarge t) refl
     go true e = rw e
     go false e = rw (e, long-enough t (length table) h e)
 
-module _ (codes table : List ℕ) where
-  pub answers-short : length table < nodeCells * mostNodes → Answers codes table (Refused 12) table
+module _ (tokens table : List ℕ) where
+  pub answers-short : length table < nodeCells * mostNodes → Answers tokens table (Refused 12) table
   unfolding readRefusal12
   answers-short h =
       let e = lt-ltb (length table) (nodeCells * mostNodes) h in
@@ -102,7 +102,7 @@ module _ (codes table : List ℕ) where
         read = λ p q t x. true-not-false (sym e ∙ p);
       }
 
-  answers-unknown : nodeCells * mostNodes ≤ length table → refusal14 codes ≡ true → Answers codes table (Refused 14) table
+  answers-unknown : nodeCells * mostNodes ≤ length table → refusal14 tokens ≡ true → Answers tokens table (Refused 14) table
   unfolding readRefusal12
   answers-unknown h e =
       record {
@@ -112,19 +112,19 @@ module _ (codes table : List ℕ) where
         read = λ p q t x. true-not-false (sym e ∙ q);
       }
 
-  pub answers-long : nodeCells * mostNodes ≤ length table → mostTokens < length codes → Answers codes table (Refused 14) table
+  pub answers-long : nodeCells * mostNodes ≤ length table → tokenCells * mostTokens < length tokens → Answers tokens table (Refused 14) table
   unfolding refusal14
-  answers-long h k = answers-unknown h (or-here _ (lt-ltb mostTokens (length codes) k))
+  answers-long h k = answers-unknown h (or-here _ (lt-ltb (tokenCells * mostTokens) (length tokens) k))
 
-  pub answers-above : nodeCells * mostNodes ≤ length table → length codes ≤ mostTokens → anyAbove lastCode codes ≡ true → Answers codes table (Refused 14) table
+  pub answers-other : nodeCells * mostNodes ≤ length table → length tokens ≤ tokenCells * mostTokens → areTokens tokens ≡ false → Answers tokens table (Refused 14) table
   unfolding refusal14
-  answers-above h k e = answers-unknown h (or-next _ (le-ltb mostTokens (length codes) k) ∙ e)
+  answers-other h k e = answers-unknown h (or-next _ (le-ltb (tokenCells * mostTokens) (length tokens) k) ∙ ap not e)
 
-  known-fits : length codes ≤ mostTokens → anyAbove lastCode codes ≡ false → refusal14 codes ≡ false
+  known-fits : length tokens ≤ tokenCells * mostTokens → areTokens tokens ≡ true → refusal14 tokens ≡ false
   unfolding refusal14
-  known-fits k e = or-next _ (le-ltb mostTokens (length codes) k) ∙ e
+  known-fits k e = or-next _ (le-ltb (tokenCells * mostTokens) (length tokens) k) ∙ ap not e
 
-  pub answers-unread : nodeCells * mostNodes ≤ length table → length codes ≤ mostTokens → anyAbove lastCode codes ≡ false → ((t : Tree) → Reads codes t → ⊥) → Answers codes table (Refused 15) table
+  pub answers-unread : nodeCells * mostNodes ≤ length table → length tokens ≤ tokenCells * mostTokens → areTokens tokens ≡ true → ((t : Tree) → Reads tokens t → ⊥) → Answers tokens table (Refused 15) table
   unfolding readRefusal12
   answers-unread h k e n =
       record {
@@ -134,8 +134,8 @@ module _ (codes table : List ℕ) where
         read = λ p q t x. absurd (n t x);
       }
 
-  pub answers-read : {own now out : List ℕ} {free : ℕ} {r : Reply} (x : Parsed) → nodeCells * mostNodes ≤ length table → length codes ≤ mostTokens → anyAbove lastCode codes ≡ false → ExprAt codes own now 0 free loosest x → x .at ≡ length codes →
-      r ≡ replyOf (renumbered (treeAt now mostTokens (x .free + 1)) (length table)) → out ≡ renumberedAfter (treeAt now mostTokens (x .free + 1)) table → Answers codes table r out
+  pub answers-read : {own now out : List ℕ} {free : ℕ} {r : Reply} (x : Parsed) → nodeCells * mostNodes ≤ length table → length tokens ≤ tokenCells * mostTokens → areTokens tokens ≡ true → ExprAt tokens own now 0 free loosest x → x .at ≡ many tokens →
+      r ≡ replyOf (renumbered (treeAt now mostTokens (x .free + 1)) (length table)) → out ≡ renumberedAfter (treeAt now mostTokens (x .free + 1)) table → Answers tokens table r out
   unfolding readRefusal12
   answers-read {own} {now} {out} {free} {r} x h k e i z p q =
       let w = whole x i e z in

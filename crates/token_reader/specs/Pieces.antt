@@ -2,23 +2,22 @@
 use mathlib.Core.Path.{_≡_}
 use mathlib.Core.Bool.{Bool, true, false, _&&_}
 use mathlib.Core.List.{List}
-use Prim.Native.Nat.{ℕ, _+_, _*_, _≤_, _<_}
+use Prim.Native.Nat.{ℕ, _+_, _*_, _/_, _≤_, _<_}
 use lib.ListN.{length, drop, getD}
-use Rattle.tree.specs.Sizes.{nodeCells, mostTokens, lastCode}
+use Rattle.tree.specs.Sizes.{nodeCells, tokenCells, mostTokens}
 use Rattle.tree.specs.Table.{firstAt, secondAt}
 use Rattle.tree.specs.Trees.{Tree, none, node, labelAt}
 use Rattle.token_grammar.specs.Tokens.{Token, Operator, operator, Lt, LeftParen, RightBracket, RightParen, operatorOf}
-use Rattle.token_grammar.specs.Codes.{tokensOf}
+use Rattle.token_grammar.specs.Codes.{tokensOf, tokenSymbolAt, areTokens}
 use Rattle.token_grammar.specs.Levels.{prefixes, postfixes, kind, level, after}
 use Rattle.token_grammar.specs.Bounds.{loosest}
 use Rattle.token_grammar.specs.Types.{one, list, items, TypePrefix, TypeSign, Ty, named, applied, pointing, sign, typeEndsInName}
 use Rattle.token_grammar.specs.Expressions.{Atom, Prefix, Member, byName, Expr, atom, paren, prefix, binary, cast, member, try, index, call, method, kindOf, endsInTypeName, endsInDotName}
 use Rattle.token_grammar.specs.Grammar.{NONE}
 use Rattle.token_grammar.specs.Bare.{bare}
-use Rattle.token_grammar.specs.Parser.{Out, fail, ok, then, tail, isFirst, Start, noStart, anAtom, aPrefix, aGroup, start, AfterDot, noMember, aMember, afterDot, isByName, next, typeBy, typesBy, someTypesBy, exprBy, argumentsBy, someArgumentsBy}
+use Rattle.token_grammar.specs.Parser.{Out, fail, ok, then, tail, isFirst, Start, noStart, anAtom, aPrefix, aGroup, start, AfterDot, noMember, aMember, afterDot, isByName, memberSymbol, next, typeBy, typesBy, someTypesBy, exprBy, argumentsBy, someArgumentsBy}
 use Rattle.token_grammar.specs.Next.{Next, stops, operates, castsTo, dots, calls, indexes, tries}
-use Rattle.token_plain.specs.Trees.{label, treeOf, treeOfType, atomLabel, prefixLabel, memberLabel, typePrefixLabel, typeSignLabel}
-use Rattle.token_reader.specs.Reading.{anyAbove}
+use Rattle.token_plain.specs.Trees.{labelWith, label, treeOf, treeOfType, atomLabel, prefixLabel, memberLabel, typePrefixLabel, typeSignLabel}
 use Rattle.tree_numbering.specs.declared.Renumbered.{Renumbered}
 use Rattle.tree_numbering.specs.declared.Renumbered.the-variants as renumbered
 use Rattle.token_reader.specs.declared.Reply.{Reply}
@@ -38,22 +37,26 @@ Placed own low i none = i ≡ 0
 Placed own low i (node l a b) = (low < i) × (i ≤ mostTokens) × (labelAt own i ≡ l) × Placed own i (firstAt own i) a × Placed own i (secondAt own i) b
 
 -- the last free node is taken
-pub record Stored (own now : List ℕ) (free left form detail first second : ℕ) : Type 0 where
+pub record Stored (own now : List ℕ) (free left form detail first second symbol : ℕ) : Type 0 where
   pub fewer : left + 1 ≡ free
   pub kept : Kept own now free
   pub same : length now ≡ length own
-  pub labelled : labelAt now free ≡ label form detail
+  pub labelled : labelAt now free ≡ labelWith form detail symbol
   pub to-first : firstAt now free ≡ first
   pub to-second : secondAt now free ≡ second
 
+-- how many tokens there are in a list of cells
+abbrev pub many : List ℕ → ℕ
+many tokens = length tokens / tokenCells
+
 -- where reading goes on: there are no fewer free nodes than unread tokens
-pub record Ready (codes own : List ℕ) (at free : ℕ) : Type 0 where
-  pub short : length codes ≤ mostTokens
-  pub known : anyAbove lastCode codes ≡ false
+pub record Ready (tokens own : List ℕ) (at free : ℕ) : Type 0 where
+  pub short : many tokens ≤ mostTokens
+  pub known : areTokens tokens ≡ true
   pub cells : length own ≡ nodeCells * mostTokens
   pub room : mostTokens ≤ at + free
   pub most : free ≤ mostTokens
-  pub within : at ≤ length codes
+  pub within : at ≤ many tokens
 
 -- tokens were read, and no more nodes taken
 pub record Grew (own now : List ℕ) (at free to left : ℕ) : Type 0 where
@@ -65,15 +68,15 @@ pub record Grew (own now : List ℕ) (at free to left : ℕ) : Type 0 where
 
 -- ---- what the parser gives: nothing, and `to` is past the end; or something that `Is` says is there, and the tokens from `to` on
 abbrev pub Tells : {A : Type 0} → (A → Type 0) → List ℕ → ℕ → Out A → Type 0
-Tells Is codes to fail = length codes < to
-Tells Is codes to (ok a rest) = (to ≤ length codes) × (rest ≡ drop to (tokensOf codes)) × Is a
+Tells Is tokens to fail = many tokens < to
+Tells Is tokens to (ok a rest) = (to ≤ many tokens) × (rest ≡ drop to (tokensOf tokens)) × Is a
 
 abbrev pub from : List ℕ → ℕ → List Token
-from codes at = drop at (tokensOf codes)
+from tokens at = drop at (tokensOf tokens)
 
 -- the parser's fuel suffices, and k more is left
 abbrev pub Enough : List ℕ → ℕ → ℕ → ℕ → Type 0
-Enough codes at k fuel = k + 2 * length codes ≤ fuel + 2 * at
+Enough tokens at k fuel = k + 2 * many tokens ≤ fuel + 2 * at
 
 -- ---- types
 
@@ -84,32 +87,32 @@ pub record IsType (now : List ℕ) (r : Piece) (t : Ty one) : Type 0 where
 pub record IsTypes (now : List ℕ) (r : Piece) (l : Ty items) : Type 0 where
   pub placed : Placed now (r .free) (r .free + 1) (treeOfType l)
 
-pub record TypeAt (codes own now : List ℕ) (at free : ℕ) (r : Piece) : Type 0 where
-  pub grew : r .at ≤ length codes → Grew own now at free (r .at) (r .free)
-  pub tells : (f : ℕ) → Enough codes at 0 f → Tells (IsType now r) codes (r .at) (typeBy f (from codes at))
+pub record TypeAt (tokens own now : List ℕ) (at free : ℕ) (r : Piece) : Type 0 where
+  pub grew : r .at ≤ many tokens → Grew own now at free (r .at) (r .free)
+  pub tells : (f : ℕ) → Enough tokens at 0 f → Tells (IsType now r) tokens (r .at) (typeBy f (from tokens at))
 
-pub record TypesAt (codes own now : List ℕ) (at free : ℕ) (r : Piece) : Type 0 where
-  pub grew : r .at ≤ length codes → Grew own now at free (r .at) (r .free)
-  pub tells : (f : ℕ) → Enough codes at 1 f → Tells (IsTypes now r) codes (r .at) (someTypesBy f (from codes at))
+pub record TypesAt (tokens own now : List ℕ) (at free : ℕ) (r : Piece) : Type 0 where
+  pub grew : r .at ≤ many tokens → Grew own now at free (r .at) (r .free)
+  pub tells : (f : ℕ) → Enough tokens at 1 f → Tells (IsTypes now r) tokens (r .at) (someTypesBy f (from tokens at))
 
 -- a type of one token
-pub record SignAt (codes own now : List ℕ) (at free form : ℕ) (r : Piece) : Type 0 where
+pub record SignAt (tokens own now : List ℕ) (at free form : ℕ) (r : Piece) : Type 0 where
   pub grew : Grew own now at free (r .at) (r .free)
-  pub tells : (x : TypeSign) → label form 0 ≡ typeSignLabel x → Tells (IsType now r) codes (r .at) (ok (sign x) (from codes (at + 1)))
+  pub tells : (x : TypeSign) → label form 0 ≡ typeSignLabel x → Tells (IsType now r) tokens (r .at) (ok (sign x) (from tokens (at + 1)))
 
 -- a type behind a token
-pub record PointingAt (codes own now : List ℕ) (at free form detail : ℕ) (r : Piece) : Type 0 where
-  pub grew : r .at ≤ length codes → Grew own now at free (r .at) (r .free)
-  pub tells : (p : TypePrefix) → label form detail ≡ typePrefixLabel p → (g : ℕ) → Enough codes (at + 1) 0 g →
-      Tells (IsType now r) codes (r .at) (then (typeBy g (from codes (at + 1))) (λ t q. ok (pointing p t) q))
+pub record PointingAt (tokens own now : List ℕ) (at free form detail : ℕ) (r : Piece) : Type 0 where
+  pub grew : r .at ≤ many tokens → Grew own now at free (r .at) (r .free)
+  pub tells : (p : TypePrefix) → label form detail ≡ typePrefixLabel p → (g : ℕ) → Enough tokens (at + 1) 0 g →
+      Tells (IsType now r) tokens (r .at) (then (typeBy g (from tokens (at + 1))) (λ t q. ok (pointing p t) q))
 
--- what a type is whose name was read
-abbrev pub pathBy : ℕ → List Token → Out (Ty one)
-pathBy g ts = elim (isFirst (operator Lt) ts) [ true ↦ then (typesBy g (tail ts)) (λ l r. ok (applied l) r) | false ↦ ok named ts ]
+-- what a type is whose name was read, with the symbol y
+abbrev pub pathBy : ℕ → ℕ → List Token → Out (Ty one)
+pathBy y g ts = elim (isFirst (operator Lt) ts) [ true ↦ then (typesBy g (tail ts)) (λ l r. ok (applied y l) r) | false ↦ ok (named y) ts ]
 
-pub record PathAt (codes own now : List ℕ) (at free : ℕ) (r : Piece) : Type 0 where
-  pub grew : r .at ≤ length codes → Grew own now at free (r .at) (r .free)
-  pub tells : (g : ℕ) → Enough codes (at + 2) 2 g → Tells (IsType now r) codes (r .at) (pathBy g (from codes (at + 1)))
+pub record PathAt (tokens own now : List ℕ) (at free : ℕ) (r : Piece) : Type 0 where
+  pub grew : r .at ≤ many tokens → Grew own now at free (r .at) (r .free)
+  pub tells : (g : ℕ) → Enough tokens (at + 2) 2 g → Tells (IsType now r) tokens (r .at) (pathBy (tokenSymbolAt tokens at) g (from tokens (at + 1)))
 
 -- ---- expressions
 
@@ -130,28 +133,28 @@ pub record Postfix (at free : ℕ) (r : Parsed) : Type 0 where
   pub type-last : r .named ≡ false
   pub name-last : r .dotted ≡ false
 
-pub record ExprAt (codes own now : List ℕ) (at free least : ℕ) (r : Parsed) : Type 0 where
-  pub grew : r .at ≤ length codes → Grew own now at free (r .at) (r .free)
-  pub tells : (f : ℕ) → Enough codes at 0 f → Tells (IsExpr now r) codes (r .at) (exprBy f NONE least (from codes at))
+pub record ExprAt (tokens own now : List ℕ) (at free least : ℕ) (r : Parsed) : Type 0 where
+  pub grew : r .at ≤ many tokens → Grew own now at free (r .at) (r .free)
+  pub tells : (f : ℕ) → Enough tokens at 0 f → Tells (IsExpr now r) tokens (r .at) (exprBy f NONE least (from tokens at))
 
-pub record ArgumentsAt (codes own now : List ℕ) (at free : ℕ) (r : Piece) : Type 0 where
-  pub grew : r .at ≤ length codes → Grew own now at free (r .at) (r .free)
-  pub tells : (f : ℕ) → Enough codes at 1 f → Tells (IsArguments now r) codes (r .at) (someArgumentsBy f (from codes at))
+pub record ArgumentsAt (tokens own now : List ℕ) (at free : ℕ) (r : Piece) : Type 0 where
+  pub grew : r .at ≤ many tokens → Grew own now at free (r .at) (r .free)
+  pub tells : (f : ℕ) → Enough tokens at 1 f → Tells (IsArguments now r) tokens (r .at) (someArgumentsBy f (from tokens at))
 
 -- ---- what an expression begins with
 
-pub record AtomAt (codes own now : List ℕ) (at free form : ℕ) (r : Parsed) : Type 0 where
+pub record AtomAt (tokens own now : List ℕ) (at free form : ℕ) (r : Parsed) : Type 0 where
   pub past : at < r .at
   pub grew : Grew own now at free (r .at) (r .free)
-  pub tells : (x : Atom) → label form 0 ≡ atomLabel x → Tells (IsExpr now r) codes (r .at) (ok (atom x) (from codes (at + 1)))
+  pub tells : (x : Atom) → labelWith form 0 (tokenSymbolAt tokens at) ≡ atomLabel x → Tells (IsExpr now r) tokens (r .at) (ok (atom x) (from tokens (at + 1)))
 
 abbrev pub prefixBy : ℕ → Prefix → List Token → Out (Expr one)
 prefixBy g p ts = then (exprBy g NONE (after prefixes) ts) (λ a r. ok (prefix p a) r)
 
-pub record PrefixedAt (codes own now : List ℕ) (at free form detail : ℕ) (r : Parsed) : Type 0 where
-  pub past : r .at ≤ length codes → at < r .at
-  pub grew : r .at ≤ length codes → Grew own now at free (r .at) (r .free)
-  pub tells : (p : Prefix) → label form detail ≡ prefixLabel p → (g : ℕ) → Enough codes (at + 1) 0 g → Tells (IsExpr now r) codes (r .at) (prefixBy g p (from codes (at + 1)))
+pub record PrefixedAt (tokens own now : List ℕ) (at free form detail : ℕ) (r : Parsed) : Type 0 where
+  pub past : r .at ≤ many tokens → at < r .at
+  pub grew : r .at ≤ many tokens → Grew own now at free (r .at) (r .free)
+  pub tells : (p : Prefix) → label form detail ≡ prefixLabel p → (g : ℕ) → Enough tokens (at + 1) 0 g → Tells (IsExpr now r) tokens (r .at) (prefixBy g p (from tokens (at + 1)))
 
 -- the sign that closes, after what stands in a pair
 abbrev pub closeBy : Token → (Expr one → Expr one) → Expr one → List Token → Out (Expr one)
@@ -160,10 +163,10 @@ closeBy close whole a r = elim (isFirst close r) [ true ↦ ok (whole a) (tail r
 abbrev pub groupBy : ℕ → List Token → Out (Expr one)
 groupBy g ts = then (exprBy g NONE loosest ts) (closeBy RightParen paren)
 
-pub record GroupAt (codes own now : List ℕ) (at free : ℕ) (r : Parsed) : Type 0 where
-  pub past : r .at ≤ length codes → at < r .at
-  pub grew : r .at ≤ length codes → Grew own now at free (r .at) (r .free)
-  pub tells : (g : ℕ) → Enough codes (at + 1) 0 g → Tells (IsExpr now r) codes (r .at) (groupBy g (from codes (at + 1)))
+pub record GroupAt (tokens own now : List ℕ) (at free : ℕ) (r : Parsed) : Type 0 where
+  pub past : r .at ≤ many tokens → at < r .at
+  pub grew : r .at ≤ many tokens → Grew own now at free (r .at) (r .free)
+  pub tells : (g : ℕ) → Enough tokens (at + 1) 0 g → Tells (IsExpr now r) tokens (r .at) (groupBy g (from tokens (at + 1)))
 
 abbrev pub operandBy : ℕ → List Token → Start → Out (Expr one)
 operandBy g ts x =
@@ -174,10 +177,10 @@ operandBy g ts x =
       | aGroup ↦ groupBy g ts
     ]
 
-pub record OperandAt (codes own now : List ℕ) (at free : ℕ) (r : Parsed) : Type 0 where
-  pub past : r .at ≤ length codes → at < r .at
-  pub grew : r .at ≤ length codes → Grew own now at free (r .at) (r .free)
-  pub tells : (g : ℕ) → Enough codes (at + 1) 0 g → Tells (IsExpr now r) codes (r .at) (operandBy g (tail (from codes at)) (start (from codes at)))
+pub record OperandAt (tokens own now : List ℕ) (at free : ℕ) (r : Parsed) : Type 0 where
+  pub past : r .at ≤ many tokens → at < r .at
+  pub grew : r .at ≤ many tokens → Grew own now at free (r .at) (r .free)
+  pub tells : (g : ℕ) → Enough tokens (at + 1) 0 g → Tells (IsExpr now r) tokens (r .at) (operandBy g (tail (from tokens at)) (start (from tokens at)))
 
 -- ---- what an expression goes on with; `left` is what was read of it
 
@@ -195,7 +198,7 @@ indexBy g e ts = then (exprBy g NONE loosest ts) (closeBy RightBracket (index e)
 
 -- behind a member's name
 abbrev pub memberBy : ℕ → Expr one → Member → List Token → Bool → Out (Expr one)
-memberBy g e m ts called = elim called [ true ↦ callBy g (method e) (tail ts) | false ↦ ok (member m e) ts ]
+memberBy g e m ts called = elim called [ true ↦ callBy g (method (memberSymbol m) e) (tail ts) | false ↦ ok (member m e) ts ]
 
 abbrev pub dotBy : ℕ → Expr one → List Token → AfterDot → Out (Expr one)
 dotBy g e ts x = elim x [ noMember ↦ fail | aMember m ↦ memberBy g e m (tail ts) (isByName m && isFirst LeftParen (tail ts)) ]
@@ -212,62 +215,62 @@ stepBy g e ts x =
       | tries ↦ ok (try e) ts
     ]
 
-pub record StepAt (codes own now : List ℕ) (left r : Parsed) : Type 0 where
-  pub past : r .at ≤ length codes → left .at < r .at
-  pub grew : r .at ≤ length codes → Grew own now (left .at) (left .free) (r .at) (r .free)
-  pub tells : (e : Expr one) → IsExpr own left e → (g : ℕ) → Enough codes (left .at) 0 g →
-      Tells (IsExpr now r) codes (r .at) (stepBy g e (tail (from codes (left .at))) (next (from codes (left .at))))
+pub record StepAt (tokens own now : List ℕ) (left r : Parsed) : Type 0 where
+  pub past : r .at ≤ many tokens → left .at < r .at
+  pub grew : r .at ≤ many tokens → Grew own now (left .at) (left .free) (r .at) (r .free)
+  pub tells : (e : Expr one) → IsExpr own left e → (g : ℕ) → Enough tokens (left .at) 0 g →
+      Tells (IsExpr now r) tokens (r .at) (stepBy g e (tail (from tokens (left .at))) (next (from tokens (left .at))))
 
-pub record BinaryAt (codes own now : List ℕ) (left : Parsed) (code : ℕ) (r : Parsed) : Type 0 where
-  pub past : r .at ≤ length codes → left .at < r .at
-  pub grew : r .at ≤ length codes → Grew own now (left .at) (left .free) (r .at) (r .free)
-  pub tells : (e : Expr one) → IsExpr own left e → (g : ℕ) → Enough codes (left .at) 0 g → Tells (IsExpr now r) codes (r .at) (binaryBy g (operatorOf code) e (from codes (left .at + 1)))
+pub record BinaryAt (tokens own now : List ℕ) (left : Parsed) (code : ℕ) (r : Parsed) : Type 0 where
+  pub past : r .at ≤ many tokens → left .at < r .at
+  pub grew : r .at ≤ many tokens → Grew own now (left .at) (left .free) (r .at) (r .free)
+  pub tells : (e : Expr one) → IsExpr own left e → (g : ℕ) → Enough tokens (left .at) 0 g → Tells (IsExpr now r) tokens (r .at) (binaryBy g (operatorOf code) e (from tokens (left .at + 1)))
 
-pub record CastAt (codes own now : List ℕ) (left r : Parsed) : Type 0 where
-  pub past : r .at ≤ length codes → left .at < r .at
-  pub grew : r .at ≤ length codes → Grew own now (left .at) (left .free) (r .at) (r .free)
-  pub tells : (e : Expr one) → IsExpr own left e → (g : ℕ) → Enough codes (left .at) 0 g → Tells (IsExpr now r) codes (r .at) (castBy g e (from codes (left .at + 1)))
+pub record CastAt (tokens own now : List ℕ) (left r : Parsed) : Type 0 where
+  pub past : r .at ≤ many tokens → left .at < r .at
+  pub grew : r .at ≤ many tokens → Grew own now (left .at) (left .free) (r .at) (r .free)
+  pub tells : (e : Expr one) → IsExpr own left e → (g : ℕ) → Enough tokens (left .at) 0 g → Tells (IsExpr now r) tokens (r .at) (castBy g e (from tokens (left .at + 1)))
 
-pub record IndexAt (codes own now : List ℕ) (left r : Parsed) : Type 0 where
-  pub past : r .at ≤ length codes → left .at < r .at
-  pub grew : r .at ≤ length codes → Grew own now (left .at) (left .free) (r .at) (r .free)
-  pub tells : (e : Expr one) → IsExpr own left e → (g : ℕ) → Enough codes (left .at) 0 g → Tells (IsExpr now r) codes (r .at) (indexBy g e (from codes (left .at + 1)))
+pub record IndexAt (tokens own now : List ℕ) (left r : Parsed) : Type 0 where
+  pub past : r .at ≤ many tokens → left .at < r .at
+  pub grew : r .at ≤ many tokens → Grew own now (left .at) (left .free) (r .at) (r .free)
+  pub tells : (e : Expr one) → IsExpr own left e → (g : ℕ) → Enough tokens (left .at) 0 g → Tells (IsExpr now r) tokens (r .at) (indexBy g e (from tokens (left .at + 1)))
 
-pub record TryAt (codes own now : List ℕ) (left r : Parsed) : Type 0 where
+pub record TryAt (tokens own now : List ℕ) (left r : Parsed) : Type 0 where
   pub past : left .at < r .at
   pub grew : Grew own now (left .at) (left .free) (r .at) (r .free)
-  pub tells : (e : Expr one) → IsExpr own left e → Tells (IsExpr now r) codes (r .at) (ok (try e) (from codes (left .at + 1)))
+  pub tells : (e : Expr one) → IsExpr own left e → Tells (IsExpr now r) tokens (r .at) (ok (try e) (from tokens (left .at + 1)))
 
-pub record MemberAt (codes own now : List ℕ) (left : Parsed) (form detail : ℕ) (dotted : Bool) (r : Parsed) : Type 0 where
+pub record MemberAt (tokens own now : List ℕ) (left : Parsed) (form detail : ℕ) (dotted : Bool) (r : Parsed) : Type 0 where
   pub past : left .at < r .at
   pub grew : Grew own now (left .at) (left .free) (r .at) (r .free)
-  pub tells : (e : Expr one) → IsExpr own left e → (m : Member) → label form detail ≡ memberLabel m → dotted ≡ isByName m →
-      Tells (IsExpr now r) codes (r .at) (ok (member m e) (from codes (left .at + 2)))
+  pub tells : (e : Expr one) → IsExpr own left e → (m : Member) → labelWith form detail (tokenSymbolAt tokens (left .at + 1)) ≡ memberLabel m → dotted ≡ isByName m →
+      Tells (IsExpr now r) tokens (r .at) (ok (member m e) (from tokens (left .at + 2)))
 
-pub record DotAt (codes own now : List ℕ) (left r : Parsed) : Type 0 where
-  pub past : r .at ≤ length codes → left .at < r .at
-  pub grew : r .at ≤ length codes → Grew own now (left .at) (left .free) (r .at) (r .free)
-  pub tells : (e : Expr one) → IsExpr own left e → (g : ℕ) → Enough codes (left .at) 0 g →
-      Tells (IsExpr now r) codes (r .at) (dotBy g e (from codes (left .at + 1)) (afterDot (from codes (left .at + 1))))
+pub record DotAt (tokens own now : List ℕ) (left r : Parsed) : Type 0 where
+  pub past : r .at ≤ many tokens → left .at < r .at
+  pub grew : r .at ≤ many tokens → Grew own now (left .at) (left .free) (r .at) (r .free)
+  pub tells : (e : Expr one) → IsExpr own left e → (g : ℕ) → Enough tokens (left .at) 0 g →
+      Tells (IsExpr now r) tokens (r .at) (dotBy g e (from tokens (left .at + 1)) (afterDot (from tokens (left .at + 1))))
 
-pub record NamedAt (codes own now : List ℕ) (left r : Parsed) : Type 0 where
-  pub past : r .at ≤ length codes → left .at < r .at
-  pub grew : r .at ≤ length codes → Grew own now (left .at) (left .free) (r .at) (r .free)
-  pub tells : (e : Expr one) → IsExpr own left e → (g : ℕ) → Enough codes (left .at) 0 g →
-      Tells (IsExpr now r) codes (r .at) (memberBy g e byName (from codes (left .at + 2)) (isFirst LeftParen (from codes (left .at + 2))))
+pub record NamedAt (tokens own now : List ℕ) (left r : Parsed) : Type 0 where
+  pub past : r .at ≤ many tokens → left .at < r .at
+  pub grew : r .at ≤ many tokens → Grew own now (left .at) (left .free) (r .at) (r .free)
+  pub tells : (e : Expr one) → IsExpr own left e → (g : ℕ) → Enough tokens (left .at) 0 g →
+      Tells (IsExpr now r) tokens (r .at) (memberBy g e (byName (tokenSymbolAt tokens (left .at + 1))) (from tokens (left .at + 2)) (isFirst LeftParen (from tokens (left .at + 2))))
 
 -- a call of what stands for the tree `a`, with the arguments l
-pub record Called (form : ℕ) (a : Tree) (l : Expr list) (e : Expr one) : Type 0 where
+pub record Called (form symbol : ℕ) (a : Tree) (l : Expr list) (e : Expr one) : Type 0 where
   pub strong : level (kindOf e) ≡ level postfixes
   pub type-last : endsInTypeName e ≡ false
   pub name-last : endsInDotName e ≡ false
-  pub tree : treeOf (bare e) ≡ node (label form 0) a (treeOf (bare l))
+  pub tree : treeOf (bare e) ≡ node (labelWith form 0 symbol) a (treeOf (bare l))
 
-pub record CallAt (codes own now : List ℕ) (at free form : ℕ) (r : Parsed) : Type 0 where
-  pub past : r .at ≤ length codes → at < r .at
-  pub grew : r .at ≤ length codes → Grew own now at free (r .at) (r .free)
-  pub tells : (a : Tree) → Placed own free (free + 1) a → (whole : Expr list → Expr one) → ((l : Expr list) → Called form a l (whole l)) → (g : ℕ) → Enough codes at 0 g →
-      Tells (IsExpr now r) codes (r .at) (callBy g whole (from codes (at + 1)))
+pub record CallAt (tokens own now : List ℕ) (at free form symbol : ℕ) (r : Parsed) : Type 0 where
+  pub past : r .at ≤ many tokens → at < r .at
+  pub grew : r .at ≤ many tokens → Grew own now at free (r .at) (r .free)
+  pub tells : (a : Tree) → Placed own free (free + 1) a → (whole : Expr list → Expr one) → ((l : Expr list) → Called form symbol a l (whole l)) → (g : ℕ) → Enough tokens at 0 g →
+      Tells (IsExpr now r) tokens (r .at) (callBy g whole (from tokens (at + 1)))
 
 -- ---- the reply
 

@@ -1,15 +1,16 @@
 -- What reading a token list answers, and what the lent table holds afterwards: by the grammar's readings.
 use mathlib.Core.Path.{_≡_}
-use mathlib.Core.Bool.{Bool, true, false, _||_}
+use mathlib.Core.Bool.{Bool, true, false, not, _||_}
 use mathlib.Core.List.{List, [], _∷_}
 use Prim.Native.Nat.{ℕ, _*_}
 use lib.Dec.{ltb}
 use lib.ListN.{length}
 use Rattle.laws.specs.Choice.{pick}
 use Rattle.laws.specs.Lists.{over}
-use Rattle.tree.specs.Sizes.{nodeCells, mostNodes, mostTokens, lastCode}
+use Rattle.tree.specs.Sizes.{nodeCells, tokenCells, mostNodes, mostTokens}
 use Rattle.tree.specs.Trees.{Tree}
 use Rattle.tree_numbering.specs.Numbered.{size, numbered, tooLarge}
+use Rattle.token_grammar.specs.Codes.{areTokens}
 use Rattle.token_plain.specs.Reads.{Reads}
 use Rattle.token_reader.specs.declared.Reply.{Reply}
 use Rattle.token_reader.specs.declared.Reply.the-variants.{Refused, Nodes}
@@ -18,13 +19,10 @@ use Rattle.token_reader.specs.declared.Reply.the-variants.{Refused, Node
 unfoldable pub readRefusal12 : ℕ → Bool
 readRefusal12 lent = ltb lent (nodeCells * mostNodes)
 
--- 14. "A token list is longer than 24,576 or holds a code above 45."
-unfoldable pub anyAbove : ℕ → List ℕ → Bool
-anyAbove most [] = false
-anyAbove most (n ∷ ns) = ltb most n || anyAbove most ns
-
+-- 14. "A token list is longer than 24,576 or holds a code above 45." Document 02, Paper 4: "A symbol that is not 0 .. on another token under 14, and so does
+-- a token list with an odd number of cells; its 24,576 counts tokens."
 unfoldable pub refusal14 : List ℕ → Bool
-refusal14 codes = ltb mostTokens (length codes) || anyAbove lastCode codes
+refusal14 tokens = ltb (tokenCells * mostTokens) (length tokens) || not (areTokens tokens)
 
 -- 16, or the count of the reading's nodes
 unfoldable pub countOrLarge : Tree → Reply
@@ -36,12 +34,12 @@ readTable t table = pick (tooLarge t) table (over (numbered t) table)
 
 -- The reply and the table afterwards. A token list has a reading or has none (`read-or-not` in token_plain/proofs/Readings), and at most one
 -- (`one-reading` there): both are fixed for every input (`answers-one` in proofs/Function).
-pub record Answers (codes table : List ℕ) (reply : Reply) (after : List ℕ) : Type 0 where
+pub record Answers (tokens table : List ℕ) (reply : Reply) (after : List ℕ) : Type 0 where
   pub short : readRefusal12 (length table) ≡ true → (reply ≡ Refused 12) × (after ≡ table)
-  pub unknown : readRefusal12 (length table) ≡ false → refusal14 codes ≡ true → (reply ≡ Refused 14) × (after ≡ table)
+  pub unknown : readRefusal12 (length table) ≡ false → refusal14 tokens ≡ true → (reply ≡ Refused 14) × (after ≡ table)
   -- 15. "The grammar below gives the token list no reading."
-  pub unread : readRefusal12 (length table) ≡ false → refusal14 codes ≡ false → ((t : Tree) → Reads codes t → ⊥) → (reply ≡ Refused 15) × (after ≡ table)
-  pub read : readRefusal12 (length table) ≡ false → refusal14 codes ≡ false → (t : Tree) → Reads codes t → (reply ≡ countOrLarge t) × (after ≡ readTable t table)
+  pub unread : readRefusal12 (length table) ≡ false → refusal14 tokens ≡ false → ((t : Tree) → Reads tokens t → ⊥) → (reply ≡ Refused 15) × (after ≡ table)
+  pub read : readRefusal12 (length table) ≡ false → refusal14 tokens ≡ false → (t : Tree) → Reads tokens t → (reply ≡ countOrLarge t) × (after ≡ readTable t table)
 
 -- "When an answer is an enum, a definition gives this paper's number and values for each of its cases." The reply number, 0 for done, and behind it the value
 abbrev pub replyInNumbers : Reply → List ℕ

@@ -1,5 +1,6 @@
 // Expressions and their lists.
 use crate::node::store;
+use crate::node::store_named;
 use crate::piece::Parsed;
 use crate::piece::Piece;
 use crate::piece::no_expr;
@@ -9,16 +10,17 @@ use crate::token::lowest_after;
 use crate::token::operator_detail;
 use crate::token::operator_form;
 use crate::token::past_comma;
+use crate::token::symbol_at;
 use crate::types::ty;
 use token_follow::goes_on;
 use token_follow::level_of;
 use token_grammar::codes;
 use token_grammar::level;
 use tree::forms;
+use tree::sizes;
 ghost use Prim.Native.Nat.{_+_, _≤_, _<_};
-ghost use lib.ListN.{length};
 ghost use Rattle.token_grammar.specs.Bounds.{pastOperators};
-ghost use Rattle.token_reader.specs.Pieces.{Ready, Postfix, AtomAt, ExprAt, OperandAt, PrefixedAt, GroupAt, StepAt, BinaryAt, CastAt, DotAt, NamedAt, MemberAt, TryAt, IndexAt, CallAt, ArgumentsAt};
+ghost use Rattle.token_reader.specs.Pieces.{many, Ready, Postfix, AtomAt, ExprAt, OperandAt, PrefixedAt, GroupAt, StepAt, BinaryAt, CastAt, DotAt, NamedAt, MemberAt, TryAt, IndexAt, CallAt, ArgumentsAt};
 
 // What binds as strongly as the postfix forms, and ends in no name that matters.
 fn strongest(at: usize, free: u16) -> Parsed
@@ -35,19 +37,19 @@ fn strongest(at: usize, free: u16) -> Parsed
 
 // A Path or a Lit.
 fn atom(tokens: &[u16], own: &mut [u16], at: usize, free: u16, form: u16) -> Parsed
-    requires { ⌜ Ready (now tokens) (now own) at free × (at < length (now tokens)) ⌝ }
+    requires { ⌜ Ready (now tokens) (now own) at free × (at < many (now tokens)) ⌝ }
     ensures { λ r. ⌜ AtomAt (now (tokens .entry)) (now (own .entry)) (now (own .exit)) at free form r ⌝ }
 {
-    strongest(at + 1, store(own, free, form, 0, 0, 0))
+    strongest(at + 1, store_named(tokens, at, own, free, form, 0, 0, 0))
 }
 
 // A Cast.
 fn cast(tokens: &[u16], own: &mut [u16], left: Parsed) -> Parsed
-    requires { ⌜ Ready (now tokens) (now own) (left .at) (left .free) × (left .at < length (now tokens)) ⌝ }
+    requires { ⌜ Ready (now tokens) (now own) (left .at) (left .free) × (left .at < many (now tokens)) ⌝ }
     ensures { λ r. ⌜ CastAt (now (tokens .entry)) (now (own .entry)) (now (own .exit)) left r ⌝ }
 {
     let target = ty(tokens, own, left.at + 1, left.free);
-    if target.at > tokens.len() {
+    if target.at > tokens.len() / sizes::TOKEN_CELLS {
         return no_expr(tokens);
     }
     Parsed {
@@ -59,6 +61,7 @@ fn cast(tokens: &[u16], own: &mut [u16], left: Parsed) -> Parsed
             0,
             left.free + 1,
             target.free + 1,
+            0,
         ),
         level: level::CASTS,
         named: target.named,
@@ -75,12 +78,21 @@ fn member(
     detail: u16,
     dotted: bool,
 ) -> Parsed
-    requires { ⌜ Ready (now tokens) (now own) (left .at) (left .free) × (left .at + 1 < length (now tokens)) ⌝ }
+    requires { ⌜ Ready (now tokens) (now own) (left .at) (left .free) × (left .at + 1 < many (now tokens)) ⌝ }
     ensures { λ r. ⌜ MemberAt (now (tokens .entry)) (now (own .entry)) (now (own .exit)) left form detail dotted r ⌝ }
 {
     Parsed {
         at: left.at + 2,
-        free: store(own, left.free, form, detail, left.free + 1, 0),
+        free: store_named(
+            tokens,
+            left.at + 1,
+            own,
+            left.free,
+            form,
+            detail,
+            left.free + 1,
+            0,
+        ),
         level: level::POSTFIXES,
         named: false,
         dotted: dotted,
@@ -89,12 +101,12 @@ fn member(
 
 // A Try.
 fn attempt(tokens: &[u16], own: &mut [u16], left: Parsed) -> Parsed
-    requires { ⌜ Ready (now tokens) (now own) (left .at) (left .free) × (left .at < length (now tokens)) ⌝ }
+    requires { ⌜ Ready (now tokens) (now own) (left .at) (left .free) × (left .at < many (now tokens)) ⌝ }
     ensures { λ r. ⌜ TryAt (now (tokens .entry)) (now (own .entry)) (now (own .exit)) left r ⌝ }
 {
     strongest(
         left.at + 1,
-        store(own, left.free, forms::EXPR_TRY, 0, left.free + 1, 0),
+        store(own, left.free, forms::EXPR_TRY, 0, left.free + 1, 0, 0),
     )
 }
 
@@ -137,16 +149,16 @@ fn operand(tokens: &[u16], own: &mut [u16], at: usize, free: u16) -> Parsed
 
 // An expression behind a token: Unary or Reference.
 fn prefixed(tokens: &[u16], own: &mut [u16], at: usize, free: u16, form: u16, detail: u16) -> Parsed
-    requires { ⌜ Ready (now tokens) (now own) at free × (at < length (now tokens)) ⌝ }
+    requires { ⌜ Ready (now tokens) (now own) at free × (at < many (now tokens)) ⌝ }
     ensures { λ r. ⌜ PrefixedAt (now (tokens .entry)) (now (own .entry)) (now (own .exit)) at free form detail r ⌝ }
 {
     let inner = expr(tokens, own, at + 1, free, level::PREFIXES);
-    if inner.at > tokens.len() {
+    if inner.at > tokens.len() / sizes::TOKEN_CELLS {
         return inner;
     }
     Parsed {
         at: inner.at,
-        free: store(own, inner.free, form, detail, inner.free + 1, 0),
+        free: store(own, inner.free, form, detail, inner.free + 1, 0, 0),
         level: level::PREFIXES,
         named: inner.named,
         dotted: inner.dotted,
@@ -155,7 +167,7 @@ fn prefixed(tokens: &[u16], own: &mut [u16], at: usize, free: u16, form: u16, de
 
 // An expression in parentheses, which leave no node.
 fn group(tokens: &[u16], own: &mut [u16], at: usize, free: u16) -> Parsed
-    requires { ⌜ Ready (now tokens) (now own) at free × (at < length (now tokens)) ⌝ }
+    requires { ⌜ Ready (now tokens) (now own) at free × (at < many (now tokens)) ⌝ }
     ensures { λ r. ⌜ GroupAt (now (tokens .entry)) (now (own .entry)) (now (own .exit)) at free r ⌝ }
 {
     let inner = expr(tokens, own, at + 1, free, level::LOOSEST);
@@ -176,7 +188,7 @@ fn step(tokens: &[u16], own: &mut [u16], left: Parsed) -> Parsed
         codes::ADD..=codes::ASSIGN => binary(tokens, own, left, code),
         codes::AS => cast(tokens, own, left),
         codes::DOT => dot(tokens, own, left),
-        codes::LEFT_PAREN => call(tokens, own, left.at, left.free, forms::EXPR_CALL),
+        codes::LEFT_PAREN => call(tokens, own, left.at, left.free, forms::EXPR_CALL, 0),
         codes::LEFT_BRACKET => index(tokens, own, left),
         codes::QUESTION => attempt(tokens, own, left),
         _ => no_expr(tokens),
@@ -185,12 +197,12 @@ fn step(tokens: &[u16], own: &mut [u16], left: Parsed) -> Parsed
 
 // A Binary or an Assign.
 fn binary(tokens: &[u16], own: &mut [u16], left: Parsed, code: u16) -> Parsed
-    requires { ⌜ Ready (now tokens) (now own) (left .at) (left .free) × (left .at < length (now tokens)) × (code < pastOperators) ⌝ }
+    requires { ⌜ Ready (now tokens) (now own) (left .at) (left .free) × (left .at < many (now tokens)) × (code < pastOperators) ⌝ }
     ensures { λ r. ⌜ BinaryAt (now (tokens .entry)) (now (own .entry)) (now (own .exit)) left code r ⌝ }
 {
     let made = level_of(code);
     let right = expr(tokens, own, left.at + 1, left.free, lowest_after(made));
-    if right.at > tokens.len() {
+    if right.at > tokens.len() / sizes::TOKEN_CELLS {
         return right;
     }
     Parsed {
@@ -202,6 +214,7 @@ fn binary(tokens: &[u16], own: &mut [u16], left: Parsed, code: u16) -> Parsed
             operator_detail(code),
             left.free + 1,
             right.free + 1,
+            0,
         ),
         level: made,
         named: right.named,
@@ -211,7 +224,7 @@ fn binary(tokens: &[u16], own: &mut [u16], left: Parsed, code: u16) -> Parsed
 
 // What stands behind a dot: a MethodCall, a Field or an Await.
 fn dot(tokens: &[u16], own: &mut [u16], left: Parsed) -> Parsed
-    requires { ⌜ Ready (now tokens) (now own) (left .at) (left .free) × (left .at < length (now tokens)) ⌝ }
+    requires { ⌜ Ready (now tokens) (now own) (left .at) (left .free) × (left .at < many (now tokens)) ⌝ }
     ensures { λ r. ⌜ DotAt (now (tokens .entry)) (now (own .entry)) (now (own .exit)) left r ⌝ }
 {
     match code_at(tokens, left.at + 1) {
@@ -224,18 +237,26 @@ fn dot(tokens: &[u16], own: &mut [u16], left: Parsed) -> Parsed
 
 // Behind a dot and a name: "Dot, name, `(` is always a method call."
 fn named(tokens: &[u16], own: &mut [u16], left: Parsed) -> Parsed
-    requires { ⌜ Ready (now tokens) (now own) (left .at) (left .free) × (left .at + 1 < length (now tokens)) ⌝ }
+    requires { ⌜ Ready (now tokens) (now own) (left .at) (left .free) × (left .at + 1 < many (now tokens)) ⌝ }
     ensures { λ r. ⌜ NamedAt (now (tokens .entry)) (now (own .entry)) (now (own .exit)) left r ⌝ }
 {
     if code_at(tokens, left.at + 2) != codes::LEFT_PAREN {
         return member(tokens, own, left, forms::EXPR_FIELD, 0, true);
     }
-    call(tokens, own, left.at + 2, left.free, forms::EXPR_METHOD_CALL)
+    let symbol = symbol_at(tokens, left.at + 1);
+    call(
+        tokens,
+        own,
+        left.at + 2,
+        left.free,
+        forms::EXPR_METHOD_CALL,
+        symbol,
+    )
 }
 
 // An Index.
 fn index(tokens: &[u16], own: &mut [u16], left: Parsed) -> Parsed
-    requires { ⌜ Ready (now tokens) (now own) (left .at) (left .free) × (left .at < length (now tokens)) ⌝ }
+    requires { ⌜ Ready (now tokens) (now own) (left .at) (left .free) × (left .at < many (now tokens)) ⌝ }
     ensures { λ r. ⌜ IndexAt (now (tokens .entry)) (now (own .entry)) (now (own .exit)) left r ⌝ }
 {
     let inner = expr(tokens, own, left.at + 1, left.free, level::LOOSEST);
@@ -251,25 +272,26 @@ fn index(tokens: &[u16], own: &mut [u16], left: Parsed) -> Parsed
             0,
             left.free + 1,
             inner.free + 1,
+            0,
         ),
     )
 }
 
-// A Call or a MethodCall of the node after the free ones; `(` stands at `at`.
-fn call(tokens: &[u16], own: &mut [u16], at: usize, free: u16, form: u16) -> Parsed
-    requires { ⌜ Ready (now tokens) (now own) at free × (at < length (now tokens)) ⌝ }
-    ensures { λ r. ⌜ CallAt (now (tokens .entry)) (now (own .entry)) (now (own .exit)) at free form r ⌝ }
+// A Call, or a MethodCall with its symbol, of the node after the free ones; `(` stands at `at`.
+fn call(tokens: &[u16], own: &mut [u16], at: usize, free: u16, form: u16, symbol: u16) -> Parsed
+    requires { ⌜ Ready (now tokens) (now own) at free × (at < many (now tokens)) ⌝ }
+    ensures { λ r. ⌜ CallAt (now (tokens .entry)) (now (own .entry)) (now (own .exit)) at free form symbol r ⌝ }
 {
     if code_at(tokens, at + 1) == codes::RIGHT_PAREN {
-        return strongest(at + 2, store(own, free, form, 0, free + 1, 0));
+        return strongest(at + 2, store(own, free, form, 0, free + 1, 0, symbol));
     }
     let list = arguments(tokens, own, at + 1, free);
-    if list.at > tokens.len() {
+    if list.at > tokens.len() / sizes::TOKEN_CELLS {
         return no_expr(tokens);
     }
     strongest(
         list.at,
-        store(own, list.free, form, 0, free + 1, list.free + 1),
+        store(own, list.free, form, 0, free + 1, list.free + 1, symbol),
     )
 }
 
@@ -284,7 +306,7 @@ fn arguments(tokens: &[u16], own: &mut [u16], at: usize, free: u16) -> Piece
     if sign == codes::RIGHT_PAREN {
         return Piece {
             at: end + 1,
-            free: store(own, first.free, forms::LINK, 0, first.free + 1, 0),
+            free: store(own, first.free, forms::LINK, 0, first.free + 1, 0, 0),
             named: false,
         };
     }
@@ -292,7 +314,7 @@ fn arguments(tokens: &[u16], own: &mut [u16], at: usize, free: u16) -> Piece
         return no_piece(tokens);
     }
     let more = arguments(tokens, own, first.at + 1, first.free);
-    if more.at > tokens.len() {
+    if more.at > tokens.len() / sizes::TOKEN_CELLS {
         return more;
     }
     Piece {
@@ -304,6 +326,7 @@ fn arguments(tokens: &[u16], own: &mut [u16], at: usize, free: u16) -> Piece
             0,
             first.free + 1,
             more.free + 1,
+            0,
         ),
         named: false,
     }

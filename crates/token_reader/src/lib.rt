@@ -6,16 +6,21 @@ mod token; // token.rt: what a token says
 mod types; // types.rt: types and their lists
 
 use expressions::expr;
+use token::is_token;
 use token_grammar::level;
 use tree::sizes;
 use tree_numbering::Renumbered;
 use tree_numbering::renumber;
 ghost use mathlib.Core.Path.{_≡_};
-ghost use Rattle.token_reader.specs.Reading.{anyAbove, Answers};
+ghost use Rattle.token_grammar.specs.Codes.{areTokens};
+ghost use Rattle.token_reader.specs.Reading.{Answers};
 ghost use Rattle.token_reader.specs.Pieces.{replyOf};
 
 // The cells of the most nodes, which a lent table must have.
 const TABLE: usize = sizes::NODE_CELLS * (sizes::MOST_NODES as usize);
+
+// The cells of the most tokens.
+const TOKENS: usize = sizes::TOKEN_CELLS * sizes::MOST_TOKENS;
 
 // The nodes of the reader's own table: a node has a token of its own, so that one for each token is enough.
 const OWN: u16 = sizes::MOST_TOKENS as u16;
@@ -28,18 +33,21 @@ pub enum Reply {
     Nodes(u16),
 }
 
-// Whether a code is above `most`.
-fn any_above(codes: &[u16], most: u16) -> bool
-    ensures { λ r. ⌜ r ≡ anyAbove most (now (codes .entry)) ⌝ }
+// Whether cells are tokens', a code and a symbol each.
+fn are_tokens(tokens: &[u16]) -> bool
+    ensures { λ r. ⌜ r ≡ areTokens (now (tokens .entry)) ⌝ }
 {
     let mut at = 0;
-    while at < codes.len() {
-        if codes[at] > most {
-            return true;
+    while at < tokens.len() {
+        if tokens.len() - at < sizes::TOKEN_CELLS {
+            return false;
         }
-        at += 1;
+        if !is_token(tokens[at], tokens[at + 1]) {
+            return false;
+        }
+        at += sizes::TOKEN_CELLS;
     }
-    false
+    true
 }
 
 // The reply to what numbering answers.
@@ -60,15 +68,15 @@ pub fn read(tokens: &[u16], table: &mut [u16]) -> Reply
     if table.len() < TABLE {
         return Reply::Refused(12);
     }
-    if tokens.len() > sizes::MOST_TOKENS {
+    if tokens.len() > TOKENS {
         return Reply::Refused(14);
     }
-    if any_above(tokens, sizes::LAST_CODE) {
+    if !are_tokens(tokens) {
         return Reply::Refused(14);
     }
     let mut own = [0u16; sizes::NODE_CELLS * sizes::MOST_TOKENS];
     let whole = expr(tokens, &mut own, 0, OWN, level::LOOSEST);
-    if whole.at != tokens.len() {
+    if whole.at != tokens.len() / sizes::TOKEN_CELLS {
         return Reply::Refused(15);
     }
     reply_of(renumber(&own, OWN, whole.free + 1, table))

@@ -1,9 +1,11 @@
 // The reader's own table, whose nodes are taken from the last to the first.
+use crate::token::symbol_at;
 use tree::offsets;
 use tree::sizes;
 ghost use Prim.Native.Nat.{_*_, _≤_};
 ghost use lib.ListN.{length};
 ghost use Rattle.tree.specs.Sizes.{nodeCells};
+ghost use Rattle.token_grammar.specs.Codes.{tokenSymbolAt};
 ghost use Rattle.token_reader.specs.Pieces.{Stored};
 
 // Takes the last free node, and says how many are then left. No node has attributes.
@@ -14,9 +16,10 @@ pub(crate) fn store(
     detail: u16,
     first: u16,
     second: u16,
+    symbol: u16,
 ) -> u16
     requires { ⌜ (1 ≤ free) × (nodeCells * free ≤ length (now own)) ⌝ }
-    ensures { λ r. ⌜ Stored (now (own .entry)) (now (own .exit)) free r form detail first second ⌝ }
+    ensures { λ r. ⌜ Stored (now (own .entry)) (now (own .exit)) free r form detail first second symbol ⌝ }
 {
     let left = free - 1;
     let at = sizes::NODE_CELLS * (left as usize);
@@ -25,5 +28,24 @@ pub(crate) fn store(
     own[at + offsets::DETAIL] = detail;
     own[at + offsets::FIRST] = first;
     own[at + offsets::SECOND] = second;
+    own[at + offsets::SYMBOL] = symbol;
     left
+}
+
+// The same with the symbol of the token at `name`.
+pub(crate) fn store_named(
+    tokens: &[u16],
+    name: usize,
+    own: &mut [u16],
+    free: u16,
+    form: u16,
+    detail: u16,
+    first: u16,
+    second: u16,
+) -> u16
+    requires { ⌜ (1 ≤ free) × (nodeCells * free ≤ length (now own)) ⌝ }
+    ensures { λ r. ⌜ Stored (now (own .entry)) (now (own .exit)) free r form detail first second (tokenSymbolAt (now (tokens .entry)) name) ⌝ }
+{
+    let symbol = symbol_at(tokens, name);
+    store(own, free, form, detail, first, second, symbol)
 }

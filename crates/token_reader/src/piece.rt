@@ -1,7 +1,8 @@
 // What the reader of tokens hands on: where it stands, and how many nodes of its own table are free.
+use tree::sizes;
 ghost use mathlib.Core.Path.{_≡_};
 ghost use Prim.Native.Nat.{_+_};
-ghost use lib.ListN.{length};
+ghost use Rattle.token_reader.specs.Pieces.{many};
 
 // A type, or a list with the sign that closes it. It is the node after the free ones.
 pub struct Piece {
@@ -26,10 +27,10 @@ pub struct Parsed {
 
 // No type or list stands there.
 pub fn no_piece(tokens: &[u16]) -> Piece
-    ensures { λ r. ⌜ r .at ≡ length (now (tokens .entry)) + 1 ⌝ }
+    ensures { λ r. ⌜ r .at ≡ many (now (tokens .entry)) + 1 ⌝ }
 {
     Piece {
-        at: tokens.len() + 1,
+        at: tokens.len() / sizes::TOKEN_CELLS + 1,
         free: 0,
         named: false,
     }
@@ -37,10 +38,10 @@ pub fn no_piece(tokens: &[u16]) -> Piece
 
 // No expression stands there.
 pub fn no_expr(tokens: &[u16]) -> Parsed
-    ensures { λ r. ⌜ r .at ≡ length (now (tokens .entry)) + 1 ⌝ }
+    ensures { λ r. ⌜ r .at ≡ many (now (tokens .entry)) + 1 ⌝ }
 {
     Parsed {
-        at: tokens.len() + 1,
+        at: tokens.len() / sizes::TOKEN_CELLS + 1,
         free: 0,
         level: 0,
         named: false,

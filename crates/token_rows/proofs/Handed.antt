@@ -131,8 +131,8 @@ module _ (x : FixupContext) (c : Calm x) (s : Settled x) where
 
   pub member-first : (m : Member) (a : Expr one) → Operand (handsFirst x (treeOf (member m a))) a (tooWeak (before postfixes) false a) false
   unfolding handsFirst firstLines lookup pick
-  member-first byName a = before-dot a
-  member-first byNumber a = before-dot a
+  member-first (byName y) a = before-dot a
+  member-first (byNumber y) a = before-dot a
   member-first awaited a = before-dot a
 
   pub try-first : (a : Expr one) → Operand (handsFirst x (treeOf (try a))) a (tooWeak (before postfixes) false a) false
@@ -147,9 +147,9 @@ module _ (x : FixupContext) (c : Calm x) (s : Settled x) where
   unfolding handsFirst firstLines lookup pick
   call-first a l = before-other true rank.Unambiguous (callNeedsGroup (treeOf a)) a (tooWeakToCall a) (omega arith) (call-test a)
 
-  pub method-first : (a : Expr one) (l : Expr list) → Operand (handsFirst x (treeOf (method a l))) a (tooWeak (before postfixes) false a) false
+  pub method-first : (y : ℕ) (a : Expr one) (l : Expr list) → Operand (handsFirst x (treeOf (method y a l))) a (tooWeak (before postfixes) false a) false
   unfolding handsFirst firstLines lookup pick
-  method-first a l = before-dot a
+  method-first y a l = before-dot a
 
 -- ---- owners that hand down NONE
 

@@ -70,12 +70,12 @@ below-marked h (node l a b) second p = refl
 
 unmarked : {s : Sort} (t : Ty s) (h : Handed) (p : List Branch) → markedAt h (treeOfType t) p ≡ false
 unfolding markedAt classOf pick
-unmarked named h [] = marked-other h _ refl
-unmarked named h (first ∷ p) = none-marked _ p
-unmarked named h (second ∷ p) = none-marked _ p
-unmarked (applied l) h [] = marked-other h _ refl
-unmarked (applied l) h (first ∷ p) = none-marked _ p
-unmarked (applied l) h (second ∷ p) = unmarked l _ p
+unmarked (named y) h [] = marked-other h _ refl
+unmarked (named y) h (first ∷ p) = none-marked _ p
+unmarked (named y) h (second ∷ p) = none-marked _ p
+unmarked (applied y l) h [] = marked-other h _ refl
+unmarked (applied y l) h (first ∷ p) = none-marked _ p
+unmarked (applied y l) h (second ∷ p) = unmarked l _ p
 unmarked (pointing constPtr t) h [] = marked-other h _ refl
 unmarked (pointing mutPtr t) h [] = marked-other h _ refl
 unmarked (pointing sharedRef t) h [] = marked-other h _ refl
@@ -298,23 +298,23 @@ drops s (call a l) = λ x c w.
           ∙ ap (λ r. tokensFor (handsFirst x (treeOf (call a l))) (treeOf a) (LeftParen ∷ r)) (d .1 end)
           ∙ operand-is (call-first x c w a l) (is one a) _,
     ))
-drops s (method a l) = λ x c w.
-    split (DropsAt (method a l) x)
+drops s (method y a l) = λ x c w.
+    split (DropsAt (method y a l) x)
     (λ p m.
-    let d = operand-drops (method-first x c w a l) (drops one a) p m in (
+    let d = operand-drops (method-first x c w y a l) (drops one a) p m in (
       inl (d .0),
       λ end.
-          but-first x _ _ _ (signs [] (Dot ∷ Name ∷ LeftParen ∷ []) (RightParen ∷ [])) refl (tokensBut p) end
-          ∙ ap (λ r. tokensBut p (handsFirst x (treeOf (method a l))) (treeOf a) (Dot ∷ Name ∷ LeftParen ∷ r)) (is list l (handsSecond x (treeOf (method a l))) end)
+          but-first x _ _ _ (signs [] (Dot ∷ Name y ∷ LeftParen ∷ []) (RightParen ∷ [])) refl (tokensBut p) end
+          ∙ ap (λ r. tokensBut p (handsFirst x (treeOf (method y a l))) (treeOf a) (Dot ∷ Name y ∷ LeftParen ∷ r)) (is list l (handsSecond x (treeOf (method y a l))) end)
           ∙ d .1 _,
     ))
     (λ p m.
-    let d = drops list l (handsSecond x (treeOf (method a l))) p m in (
+    let d = drops list l (handsSecond x (treeOf (method y a l))) p m in (
       inr (d .0),
       λ end.
-          but-second x _ _ _ (signs [] (Dot ∷ Name ∷ LeftParen ∷ []) (RightParen ∷ [])) refl (tokensBut p) end
-          ∙ ap (λ r. tokensFor (handsFirst x (treeOf (method a l))) (treeOf a) (Dot ∷ Name ∷ LeftParen ∷ r)) (d .1 end)
-          ∙ operand-is (method-first x c w a l) (is one a) _,
+          but-second x _ _ _ (signs [] (Dot ∷ Name y ∷ LeftParen ∷ []) (RightParen ∷ [])) refl (tokensBut p) end
+          ∙ ap (λ r. tokensFor (handsFirst x (treeOf (method y a l))) (treeOf a) (Dot ∷ Name y ∷ LeftParen ∷ r)) (d .1 end)
+          ∙ operand-is (method-first x c w y a l) (is one a) _,
     ))
 drops s noArguments = λ h p m. nothing h p m
 drops s (arguments l) = λ h p m. drops items l h p m

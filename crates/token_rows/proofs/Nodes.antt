@@ -48,8 +48,8 @@ operated o = go (eqb (number o) 28) refl
 
 pub path-ends : (t : Ty one) → trailingPath (treeOfType t) ≡ typeEndsInName t
 unfolding trailingPath walk follow pathLines lastTypeInPath lookup pick
-path-ends named = refl
-path-ends (applied l) = refl
+path-ends (named y) = refl
+path-ends (applied y l) = refl
 path-ends (pointing constPtr t) = path-ends t
 path-ends (pointing mutPtr t) = path-ends t
 path-ends (pointing sharedRef t) = path-ends t
@@ -69,8 +69,8 @@ pub record Facts (e : Expr one) : Type 0 where
 
 pub facts : (e : Expr one) → Facts e
 unfolding precedenceOf walk follow ofLines closedBy prefixAttrs isCastToPath isBareJump isOpenAhead atRoot lookup pick classOf operatorLabel ofBinop kind
-facts (atom path) = record { precedence = refl; cast-to-path = refl; no-jump = refl; not-ahead = refl; expression = refl; there = refl }
-facts (atom literal) = record { precedence = refl; cast-to-path = refl; no-jump = refl; not-ahead = refl; expression = refl; there = refl }
+facts (atom (path y)) = record { precedence = refl; cast-to-path = refl; no-jump = refl; not-ahead = refl; expression = refl; there = refl }
+facts (atom (literal y)) = record { precedence = refl; cast-to-path = refl; no-jump = refl; not-ahead = refl; expression = refl; there = refl }
 facts (paren a) = record { precedence = refl; cast-to-path = refl; no-jump = refl; not-ahead = refl; expression = refl; there = refl }
 facts (prefix neg a) = record { precedence = refl; cast-to-path = refl; no-jump = refl; not-ahead = refl; expression = refl; there = refl }
 facts (prefix deref a) = record { precedence = refl; cast-to-path = refl; no-jump = refl; not-ahead = refl; expression = refl; there = refl }
@@ -83,13 +83,13 @@ facts (binary o a b) = go (operated o)
     go (assigning e) = rw e (record { precedence = refl; cast-to-path = refl; no-jump = refl; not-ahead = refl; expression = refl; there = refl })
     go (operating h e) = record { precedence = rw e (binop-level o h); cast-to-path = rw e; no-jump = rw e; not-ahead = rw e; expression = rw e; there = refl }
 facts (cast a t) = record { precedence = refl; cast-to-path = path-ends t; no-jump = refl; not-ahead = refl; expression = refl; there = refl }
-facts (member byName a) = record { precedence = refl; cast-to-path = refl; no-jump = refl; not-ahead = refl; expression = refl; there = refl }
-facts (member byNumber a) = record { precedence = refl; cast-to-path = refl; no-jump = refl; not-ahead = refl; expression = refl; there = refl }
+facts (member (byName y) a) = record { precedence = refl; cast-to-path = refl; no-jump = refl; not-ahead = refl; expression = refl; there = refl }
+facts (member (byNumber y) a) = record { precedence = refl; cast-to-path = refl; no-jump = refl; not-ahead = refl; expression = refl; there = refl }
 facts (member awaited a) = record { precedence = refl; cast-to-path = refl; no-jump = refl; not-ahead = refl; expression = refl; there = refl }
 facts (try a) = record { precedence = refl; cast-to-path = refl; no-jump = refl; not-ahead = refl; expression = refl; there = refl }
 facts (index a b) = record { precedence = refl; cast-to-path = refl; no-jump = refl; not-ahead = refl; expression = refl; there = refl }
 facts (call a l) = record { precedence = refl; cast-to-path = refl; no-jump = refl; not-ahead = refl; expression = refl; there = refl }
-facts (method a l) = record { precedence = refl; cast-to-path = refl; no-jump = refl; not-ahead = refl; expression = refl; there = refl }
+facts (method y a l) = record { precedence = refl; cast-to-path = refl; no-jump = refl; not-ahead = refl; expression = refl; there = refl }
 
 -- the effective precedence is the strength
 pub effective-is : (x : FixupContext) (e : Expr one) → rankOf (effective x (treeOf e)) ≡ strength (x .«next_operator_can_begin_generics») e

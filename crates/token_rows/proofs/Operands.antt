@@ -96,7 +96,7 @@ module _ (x : FixupContext) (high : rankOf (x .«previous_operator») ≤ 14) wh
   scan-left-not (try a) k = strong 15 (omega arith) k
   scan-left-not (index a b) k = strong 15 (omega arith) k
   scan-left-not (call a l) k = strong 15 (omega arith) k
-  scan-left-not (method a l) k = strong 15 (omega arith) k
+  scan-left-not (method y a l) k = strong 15 (omega arith) k
 
 -- without `<` or `<<` behind it the strength is the level
 pub strength-off : (g : Bool) (e : Expr one) → g ≡ false → strength g e ≡ level (kindOf e)

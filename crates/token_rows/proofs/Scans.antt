@@ -38,13 +38,13 @@ use Rattle.token_rows.proofs.Nodes.{Operating, assigning, operating, op
 
 atom-arm : (x : Atom) → armOf (treeOf (atom x)) ≡ Closed
 unfolding armOf armLines atRoot lookup pick
-atom-arm path = refl
-atom-arm literal = refl
+atom-arm (path y) = refl
+atom-arm (literal y) = refl
 
 member-arm : (m : Member) (a : Expr one) → armOf (treeOf (member m a)) ≡ Closed
 unfolding armOf armLines atRoot lookup pick
-member-arm byName a = refl
-member-arm byNumber a = refl
+member-arm (byName y) a = refl
+member-arm (byNumber y) a = refl
 member-arm awaited a = refl
 
 prefix-arm : (p : Prefixes) (a : Expr one) → armOf (treeOf (prefix p a)) ≡ Prefix
@@ -161,7 +161,7 @@ answers P (member y a) x c p f m n u v = subst P (sym (scan-closed _ _ _ x c p f
 answers P (try a) x c p f m n u v = subst P (sym (scan-closed _ _ _ x c p f m n refl)) v
 answers P (index a b) x c p f m n u v = subst P (sym (scan-closed _ _ _ x c p f m n refl)) v
 answers P (call a l) x c p f m n u v = subst P (sym (scan-closed _ _ _ x c p f m n refl)) v
-answers P (method a l) x c p f m n u v = subst P (sym (scan-closed _ _ _ x c p f m n refl)) v
+answers P (method y a l) x c p f m n u v = subst P (sym (scan-closed _ _ _ x c p f m n refl)) v
 
 -- of a left operand, before any operator, it consumes
 pub consumes-left : (e : Expr one) (x : FixupContext) → Calm x → 1 ≤ rankOf (x .«next_operator») → scanRight (treeOf e) x rank.Jump 0 0 ≡ Consume

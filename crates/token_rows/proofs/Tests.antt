@@ -182,8 +182,8 @@ weak-call a h = rw (lt-ltb (strength false a) 15 h)
 
 pub call-test : (a : Expr one) → Groups (callNeedsGroup (treeOf a)) false a (tooWeakToCall a)
 unfolding callNeedsGroup atRoot lookup pick strength operatorLabel kind
-call-test (atom path) p s = rw s
-call-test (atom literal) p s = rw s
+call-test (atom (path y)) p s = rw s
+call-test (atom (literal y)) p s = rw s
 call-test (paren a) p s = rw s
 call-test (prefix neg a) p s = rw s
 call-test (prefix deref a) p s = rw s
@@ -196,10 +196,10 @@ call-test (binary o a b) p s = go (operated o) s
     go (assigning e) s = rw e (lt-ltb (rankOf p) 15 (rw (s, e) (omega arith)))
     go (operating h e) s = rw e (ap (λ n. ltb n 15) s ∙ weak-call (binary o a b) (omega (arith, operator-high o)))
 call-test (cast a t) p s = rw s
-call-test (member byName a) p s = refl
-call-test (member byNumber a) p s = refl
+call-test (member (byName y) a) p s = refl
+call-test (member (byNumber y) a) p s = refl
 call-test (member awaited a) p s = rw s
 call-test (try a) p s = rw s
 call-test (index a b) p s = rw s
 call-test (call a l) p s = rw s
-call-test (method a l) p s = rw s
+call-test (method y a l) p s = rw s

@@ -86,8 +86,8 @@ tokens-by h (node l a b) rest = refl
 
 atom-signs : (x : Atom) → signsOf (atomLabel x) none ≡ signs (atomToken x ∷ []) [] []
 unfolding signsOf signLines lookup pick
-atom-signs path = refl
-atom-signs literal = refl
+atom-signs (path y) = refl
+atom-signs (literal y) = refl
 
 pub prefix-signs : (p : Prefix) → signsOf (prefixLabel p) none ≡ signs (prefixToken p ∷ []) [] []
 unfolding signsOf signLines lookup pick
@@ -107,8 +107,8 @@ operator-signs o b = go (operated o)
 
 pub member-signs : (m : Member) → signsOf (memberLabel m) none ≡ signs [] (Dot ∷ memberToken m ∷ []) []
 unfolding signsOf signLines lookup pick
-member-signs byName = refl
-member-signs byNumber = refl
+member-signs (byName y) = refl
+member-signs (byNumber y) = refl
 member-signs awaited = refl
 
 type-prefix-signs : (p : TypePrefix) → signsOf (typePrefixLabel p) none ≡ signs (typePrefixToken p ∷ []) [] []
@@ -153,9 +153,9 @@ tokens-other h l a b rest e s q = tokens-by h (node l a b) rest ∙ rw (marked-o
 
 pub types-are : {s : Sort} (t : Ty s) (h : Handed) (rest : List Token) → tokensFor h (treeOfType t) (close s rest) ≡ writeType (withoutTypeCommas t) rest
 unfolding tokensFor signsOf signLines lookup pick classOf
-types-are named h rest = tokens-other h _ _ _ rest refl (signs (Name ∷ []) [] []) refl
-types-are (applied l) h rest =
-    tokens-other h _ _ _ rest refl (signs (Name ∷ operator Lt ∷ []) [] (operator Gt ∷ [])) refl ∙ ap (λ r. Name ∷ operator Lt ∷ r) (types-are l _ rest)
+types-are (named y) h rest = tokens-other h _ _ _ rest refl (signs (Name y ∷ []) [] []) refl
+types-are (applied y l) h rest =
+    tokens-other h _ _ _ rest refl (signs (Name y ∷ operator Lt ∷ []) [] (operator Gt ∷ [])) refl ∙ ap (λ r. Name y ∷ operator Lt ∷ r) (types-are l _ rest)
 types-are (pointing p t) h rest =
     tokens-other h _ _ _ rest (prefix-type p) (signs (typePrefixToken p ∷ []) [] []) (type-prefix-signs p) ∙ ap (λ r. typePrefixToken p ∷ r) (types-are t _ rest)
   where
@@ -223,10 +223,10 @@ is s (call a l) = λ x c w end.
     inside-at x _ _ _ (signs [] (LeftParen ∷ []) (RightParen ∷ [])) refl end
     ∙ ap (λ r. tokensFor (handsFirst x (treeOf (call a l))) (treeOf a) (LeftParen ∷ r)) (is list l (handsSecond x (treeOf (call a l))) end)
     ∙ operand-is (call-first x c w a l) (is one a) _
-is s (method a l) = λ x c w end.
-    inside-at x _ _ _ (signs [] (Dot ∷ Name ∷ LeftParen ∷ []) (RightParen ∷ [])) refl end
-    ∙ ap (λ r. tokensFor (handsFirst x (treeOf (method a l))) (treeOf a) (Dot ∷ Name ∷ LeftParen ∷ r)) (is list l (handsSecond x (treeOf (method a l))) end)
-    ∙ operand-is (method-first x c w a l) (is one a) _
+is s (method y a l) = λ x c w end.
+    inside-at x _ _ _ (signs [] (Dot ∷ Name y ∷ LeftParen ∷ []) (RightParen ∷ [])) refl end
+    ∙ ap (λ r. tokensFor (handsFirst x (treeOf (method y a l))) (treeOf a) (Dot ∷ Name y ∷ LeftParen ∷ r)) (is list l (handsSecond x (treeOf (method y a l))) end)
+    ∙ operand-is (method-first x c w y a l) (is one a) _
 is s noArguments = λ h end. refl
 is s (arguments l) = λ h end. is items l h end
 is s (lastArgument comma a) = λ h end.

@@ -1,16 +1,16 @@
 -- The promise holds. Assumes nothing.
 use mathlib.Core.Path.{_≡_, refl, sym, subst, ap, ap₂, _∙_}
-use mathlib.Core.Bool.{true, false, _||_}
-use mathlib.Core.List.{List, [], _∷_}
+use mathlib.Core.Bool.{true, false, not}
+use mathlib.Core.List.{List, []}
 use Prim.Native.Nat.{ℕ, _*_, _≤_}
 use native.Mathlib.Omega.{arith}
-use lib.Dec.{ltb}
 use lib.ListN.{length, replicate, length-replicate}
 use borrow.Author.Tests.{le-ltb, eq-eqb}
 use Rattle.laws.specs.Lists.{over}
-use Rattle.laws.proofs.Choice.{pick-true, pick-false}
-use Rattle.tree.specs.Sizes.{nodeCells, rowCells, scratchCells, tokensPerNode, mostNodes, mostTokens, lastCode}
+use Rattle.laws.proofs.Choice.{pick-true, pick-false, true-of, or-next}
+use Rattle.tree.specs.Sizes.{nodeCells, rowCells, scratchCells, tokenCells, tokensPerNode, mostNodes, mostTokens}
 use Rattle.tree.specs.Trees.{Tree, treeAt}
+use Rattle.tree.specs.Erase.{erase}
 use Rattle.tree.specs.Walks.{isThere}
 use Rattle.tree.proofs.Unfold.{unfolds}
 use Rattle.tree_rules.specs.Refusals.{Accepted}
@@ -22,13 +22,14 @@ use Rattle.row_walk.specs.Walk.{rootHanded, placed}
 use Rattle.row_walk.specs.Paths.{Branch, numberAt, treeBy}
 use Rattle.row_walk.proofs.Paths.{tree-at, there-at, one-path, reached}
 use Rattle.row_walk.proofs.Replies.{done}
-use Rattle.token_grammar.specs.Tokens.{Token, code, codesOf}
+use Rattle.token_grammar.specs.Tokens.{Token, cellsOf}
+use Rattle.token_grammar.specs.Codes.{areTokens}
 use Rattle.token_grammar.specs.Types.{one}
 use Rattle.token_grammar.specs.Expressions.{Expr, write}
 use Rattle.token_grammar.specs.Commas.{withoutCommas, NoLastComma}
 use Rattle.token_grammar.proofs.Added.{addPairs, Pair, dropPair}
 use Rattle.token_grammar.proofs.Commas.{none-last as fine-tokens}
-use Rattle.token_grammar.proofs.Tokens.{code-below}
+use Rattle.token_grammar.proofs.Tokens.{cells-are}
 use Rattle.token_plain.specs.Plain.{plainTable}
 use Rattle.token_plain.specs.Trees.{treeOf, withoutParens}
 use Rattle.token_plain.specs.Written.{tokensAt, hasPair, butAt}
@@ -47,20 +48,13 @@ use Rattle.token_writer.specs.declared.Written.the-variants.{Tokens}
 use Rattle.token_writer.specs.Writes.{rowsFor, written, answered, tokensAfter}
 use Rattle.token_writer.proofs.Bounds.{tokens-bound}
 use Rattle.token_writer.proofs.Replies.{not-refused}
-use Rattle.token_writer.proofs.Tokens.{length-codes}
+use Rattle.token_writer.proofs.Tokens.{length-cells}
 use Rattle.token_reader.specs.declared.Reply.{Reply}
 use Rattle.token_reader.specs.declared.Reply.the-variants.{Nodes}
-use Rattle.token_reader.specs.Reading.{readRefusal12, anyAbove, refusal14, countOrLarge, readTable, Answers}
+use Rattle.token_reader.specs.Reading.{readRefusal12, refusal14, countOrLarge, readTable, Answers}
 use Rattle.token_theorem.specs.Statement.{meant, Added, writtenBut, Removed, Promise, FilePromise, WritesNone}
 use Rattle.token_theorem.proofs.LeftOut.{removed}
 use Rattle.token_theorem.proofs.Smaller.{size-without, not-large}
-
--- ---- codes that the reader takes
-
-none-above : (ts : List Token) → anyAbove lastCode (codesOf ts) ≡ false
-unfolding anyAbove
-none-above [] = refl
-none-above (t ∷ ts) = rw (le-ltb lastCode (code t) (omega (arith, code-below t))) (none-above ts)
 
 -- ---- an accepted plain table
 
@@ -70,9 +64,9 @@ module _ (count : ℕ) (cells : List ℕ) (ok : Accepted 0 count cells) (plain :
 
   -- ---- the writer
 
-  stores : (tokens : List ℕ) → tokensPerNode * count ≤ length tokens
+  stores : (tokens : List ℕ) → tokenCells * tokensPerNode * count ≤ length tokens
       → (answered 0 count cells (length tokens) ≡ Tokens (length (written count cells)))
-      × (tokensAfter 0 count cells tokens ≡ over (codesOf (written count cells)) tokens)
+      × (tokensAfter 0 count cells tokens ≡ over (cellsOf (written count cells)) tokens)
   unfolding answered tokensAfter
   stores tokens room = let e = eq-eqb _ 0 (not-refused 0 count cells tokens ok room refl plain) in (pick-true _ _ e, pick-true _ _ e)
 
@@ -108,13 +102,13 @@ module _ (count : ℕ) (cells : List ℕ) (ok : Accepted 0 count cells) (plain :
 
   -- ---- readings
 
-  reads : Reads (codesOf (written count cells)) (meant count cells)
-  reads = rw written-is (subst (Reads (codesOf (write (withoutCommas (addPairs tree false)) []))) (ap withoutParens tree-is) (reads-back tree))
+  reads : Reads (cellsOf (written count cells)) (meant count cells)
+  reads = rw written-is (subst (Reads (cellsOf (write (withoutCommas (addPairs tree false)) []))) (ap withoutParens tree-is) (reads-back tree))
 
-  none-last : NoLastComma (codesOf (written count cells))
+  none-last : NoLastComma (cellsOf (written count cells))
   none-last = rw written-is (fine-tokens (addPairs tree false))
 
-  only : (t : Tree) → Reads (codesOf (written count cells)) t → t ≡ meant count cells
+  only : (t : Tree) → Reads (cellsOf (written count cells)) t → t ≡ meant count cells
   only t r = one-reading r reads
 
   -- ---- the reader
@@ -122,12 +116,14 @@ module _ (count : ℕ) (cells : List ℕ) (ok : Accepted 0 count cells) (plain :
   within-limits : tooLarge (meant count cells) ≡ false
   within-limits = not-large root (let n = size-accepted 0 count cells ok in omega (arith, bounds .1)) (levels-bound 0 count cells ok)
 
-  known : refusal14 (codesOf (written count cells)) ≡ false
+  known : refusal14 (cellsOf (written count cells)) ≡ false
   unfolding refusal14
   known =
-      rw (le-ltb mostTokens (length (codesOf (written count cells))) (rw (length-codes (written count cells)) (tokens-bound 0 count cells ok .1))) (none-above (written count cells))
+      let k : areTokens (cellsOf (written count cells)) ≡ true = true-of (cells-are (written count cells)) in
+      or-next (not (areTokens (cellsOf (written count cells)))) (le-ltb (tokenCells * mostTokens) (length (cellsOf (written count cells))) (omega (arith, length-cells (written count cells), tokens-bound 0 count cells ok .1)))
+      ∙ ap not k
 
-  returned : (table after : List ℕ) (reply : Reply) → nodeCells * mostNodes ≤ length table → Answers (codesOf (written count cells)) table reply after
+  returned : (table after : List ℕ) (reply : Reply) → nodeCells * mostNodes ≤ length table → Answers (cellsOf (written count cells)) table reply after
       → (reply ≡ Nodes (size (meant count cells))) × (after ≡ over (numbered (meant count cells)) table)
   unfolding countOrLarge readTable readRefusal12
   returned table after reply long a =
@@ -178,8 +174,8 @@ module _ (count : ℕ) (cells : List ℕ) (ok : Accepted 0 count cells) (plain :
         ∙ ap (λ t. tokensBut path (neither noContext t) t []) (sym tree-is)
         ∙ without .1 []
 
-    needed : Reads (codesOf (writtenBut j count cells 1)) (meant count cells) → ⊥
-    needed r = pair-needed tree (without .0) (subst (λ ts. Reads (codesOf ts) (withoutParens (treeOf tree))) but-is (subst (Reads (codesOf (writtenBut j count cells 1))) (ap withoutParens (sym tree-is)) r))
+    needed : (t : Tree) → Reads (cellsOf (writtenBut j count cells 1)) t → erase t ≡ erase (meant count cells) → ⊥
+    needed t r e = pair-needed tree (without .0) t (subst (λ ts. Reads (cellsOf ts) t) but-is r) (e ∙ ap (λ u. erase (withoutParens u)) (sym tree-is))
 
 pub promise : Promise
 promise count cells ok plain =

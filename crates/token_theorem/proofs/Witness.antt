@@ -8,7 +8,7 @@ use lib.ListN.{length}
 use Rattle.laws.specs.Choice.{pick, lookup}
 use Rattle.laws.specs.Each.{some}
 use Rattle.tree.specs.Sizes.{nodeCells}
-use Rattle.tree.specs.Forms.{classOf, highestAttributes, details, highestDetail, allowed}
+use Rattle.tree.specs.Forms.{classOf, highestAttributes, details, highestDetail, symbols, highestSymbol, allowed}
 use Rattle.tree_places.specs.Places.{firstPlaces, firstPlace, secondPlaces, secondPlace, wrongClass, wrongList, wrongItem, wrongNext, wrongAt, badOperands}
 use Rattle.tree_rules.specs.Refusals.{refusal3, refusal4, badNumbers, refusal6, refusal7, misplaced, badOrder, owners, badOwner, refusal8, empty, refusal9, plainBlock, badOutput, refusal10, refusal11, firstOf, nodeRefusals, refusal, Accepted}
 use Rattle.tree.specs.Table.{cellAt}
@@ -34,15 +34,16 @@ pub record Example : Type 0 where
   pub cells : List ℕ
   pub pair : ℕ
 
+-- a Path with a symbol
 abbrev name : List ℕ → List ℕ
-name rest = 26 ∷ 0 ∷ 0 ∷ 0 ∷ 0 ∷ rest
+name rest = 26 ∷ 0 ∷ 0 ∷ 0 ∷ 0 ∷ 7 ∷ rest
 
 abbrev pub examples : List Example
 examples =
     -- `(a + b) * c`
-    record { cells = 5 ∷ 0 ∷ 2 ∷ 2 ∷ 3 ∷ 5 ∷ 0 ∷ 0 ∷ 4 ∷ 5 ∷ name (name (name [])); pair = 2 } ∷
+    record { cells = 5 ∷ 0 ∷ 2 ∷ 2 ∷ 3 ∷ 0 ∷ 5 ∷ 0 ∷ 0 ∷ 4 ∷ 5 ∷ 0 ∷ name (name (name [])); pair = 2 } ∷
     -- `offset - (station - start)`
-    record { cells = 5 ∷ 0 ∷ 1 ∷ 2 ∷ 3 ∷ name (5 ∷ 0 ∷ 1 ∷ 4 ∷ 5 ∷ name (name [])); pair = 3 } ∷
+    record { cells = 5 ∷ 0 ∷ 1 ∷ 2 ∷ 3 ∷ 0 ∷ name (5 ∷ 0 ∷ 1 ∷ 4 ∷ 5 ∷ 0 ∷ name (name [])); pair = 3 } ∷
     []
 
 -- the two premises of the promise, and that of its last parts
@@ -54,5 +55,5 @@ All [] = Unit {0}
 All (e ∷ es) = Meets (length (e .cells) / nodeCells) (e .cells) (e .pair) × All es
 
 pub witness : All examples
-unfolding pick lookup some classOf highestAttributes details highestDetail allowed firstPlaces firstPlace secondPlaces secondPlace wrongClass wrongList wrongItem wrongNext wrongAt refusal3 refusal4 badNumbers refusal6 badOperands refusal7 misplaced badOrder owners badOwner refusal8 empty refusal9 plainBlock badOutput refusal10 refusal11 firstOf nodeRefusals refusal cellAt labelAt operandOf treeTo treeAt ownLevel levels follow walk atRoot operators ofBinop prefixAttrs ofLines closedBy precedenceOf commaLines requiresComma requiresSemi lastTypeInPath pathLines trailingPath labelLines leadingLabel parenthesize effective leftOfBinary scanLeftLines scanLeft binds consumes consumeBy loose scanned rightBy scanRight rightmostPrecedence bailsOut leftmostPrecedence canBeginExpr canBeginGenerics leftNeedsGroup rightNeedsGroup binaryLeft binaryRight callNeedsGroup firstLines handsFirst secondLines handsSecond groupedBy ungrouped neither ofBits flagsOf outerPair innerLines expressionRow rowOf ownContext rowsOf contexts contextNumbered rowStored placed decideRefusal12 decided rowsAfter isPlain plainTable hasPair rowsFor assign binary prefix range jump bareJump lets closed scanLines isLet isStruct isBareReturn isOpenEnded isPlainBlock isBareJump isOpenAhead isCastToPath
+unfolding pick lookup some classOf highestAttributes details highestDetail symbols highestSymbol allowed firstPlaces firstPlace secondPlaces secondPlace wrongClass wrongList wrongItem wrongNext wrongAt refusal3 refusal4 badNumbers refusal6 badOperands refusal7 misplaced badOrder owners badOwner refusal8 empty refusal9 plainBlock badOutput refusal10 refusal11 firstOf nodeRefusals refusal cellAt labelAt operandOf treeTo treeAt ownLevel levels follow walk atRoot operators ofBinop prefixAttrs ofLines closedBy precedenceOf commaLines requiresComma requiresSemi lastTypeInPath pathLines trailingPath labelLines leadingLabel parenthesize effective leftOfBinary scanLeftLines scanLeft binds consumes consumeBy loose scanned rightBy scanRight rightmostPrecedence bailsOut leftmostPrecedence canBeginExpr canBeginGenerics leftNeedsGroup rightNeedsGroup binaryLeft binaryRight callNeedsGroup firstLines handsFirst secondLines handsSecond groupedBy ungrouped neither ofBits flagsOf outerPair innerLines expressionRow rowOf ownContext rowsOf contexts contextNumbered rowStored placed decideRefusal12 decided rowsAfter isPlain plainTable hasPair rowsFor assign binary prefix range jump bareJump lets closed scanLines isLet isStruct isBareReturn isOpenEnded isPlainBlock isBareJump isOpenAhead isCastToPath
 witness = ((refl, refl, (omega arith, omega arith, refl)), ((refl, refl, (omega arith, omega arith, refl)), tt))

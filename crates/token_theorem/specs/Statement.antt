@@ -5,10 +5,11 @@ use mathlib.Core.List.{List, [], _∷_, _++_}
 use Prim.Native.Nat.{ℕ, _*_, _≤_}
 use lib.ListN.{length}
 use Rattle.laws.specs.Lists.{over}
-use Rattle.tree.specs.Sizes.{nodeCells, tokensPerNode, mostNodes}
+use Rattle.tree.specs.Sizes.{nodeCells, tokenCells, tokensPerNode, mostNodes}
 use Rattle.tree.specs.Trees.{Tree, treeAt}
+use Rattle.tree.specs.Erase.{erase}
 use Rattle.tree_rules.specs.Refusals.{Accepted}
-use Rattle.token_grammar.specs.Tokens.{Token, LeftParen, RightParen, codesOf}
+use Rattle.token_grammar.specs.Tokens.{Token, LeftParen, RightParen, cellsOf}
 use Rattle.token_grammar.specs.Commas.{NoLastComma}
 use Rattle.token_plain.specs.Plain.{plainTable}
 use Rattle.token_plain.specs.Trees.{withoutParens}
@@ -42,21 +43,21 @@ pub record Removed (inside before after : List Token) : Type 0 where
   pub has : front ++ (inside ++ behind) ≡ after
 
 pub record Demand3 (count : ℕ) (cells : List ℕ) : Type 0 where
-  -- The writer stores the codes of the tokens written over the start of any buffer of six cells a node, and answers how many they are.
-  pub stores : (tokens : List ℕ) → tokensPerNode * count ≤ length tokens
+  -- The writer stores the tokens written, two cells each, over the start of any buffer of twelve cells a node, and answers how many they are.
+  pub stores : (tokens : List ℕ) → tokenCells * tokensPerNode * count ≤ length tokens
       → (answered 0 count cells (length tokens) ≡ Tokens (length (written count cells)))
-      × (tokensAfter 0 count cells tokens ≡ over (codesOf (written count cells)) tokens)
+      × (tokensAfter 0 count cells tokens ≡ over (cellsOf (written count cells)) tokens)
   -- They have a reading, which is T without its own parentheses,
-  pub reads : Reads (codesOf (written count cells)) (meant count cells)
+  pub reads : Reads (cellsOf (written count cells)) (meant count cells)
   -- and no other.
-  pub only : (t : Tree) → Reads (codesOf (written count cells)) t → t ≡ meant count cells
+  pub only : (t : Tree) → Reads (cellsOf (written count cells)) t → t ≡ meant count cells
   -- The reader stores it over the start of any table of 4,096 nodes, and answers how many nodes it has.
-  pub returned : (table after : List ℕ) (reply : Reply) → nodeCells * mostNodes ≤ length table → Answers (codesOf (written count cells)) table reply after
+  pub returned : (table after : List ℕ) (reply : Reply) → nodeCells * mostNodes ≤ length table → Answers (cellsOf (written count cells)) table reply after
       → (reply ≡ Nodes (size (meant count cells))) × (after ≡ over (numbered (meant count cells)) table)
   -- Leaving out a pair that we added removes its two tokens, between which node j's own stand, and no other,
   pub left-out : (j : ℕ) → Added count cells j → Removed (writtenBut j count cells j) (written count cells) (writtenBut j count cells 1)
-  -- and no reading of what remains is that tree.
-  pub needed : (j : ℕ) → Added count cells j → Reads (codesOf (writtenBut j count cells 1)) (meant count cells) → ⊥
+  -- and no reading of what remains is that tree, nor one that differs from it in symbols alone.
+  pub needed : (j : ℕ) → Added count cells j → (t : Tree) → Reads (cellsOf (writtenBut j count cells 1)) t → erase t ≡ erase (meant count cells) → ⊥
 
 -- Of every table that is accepted in context 0 and plain,
 abbrev pub Promise : Type 0
@@ -70,4 +71,4 @@ FilePromise =
 
 -- Document 02, Paper 1: "The token writer still writes none." What is written has no comma straight before a `)` or a `>`.
 abbrev pub WritesNone : Type 0
-WritesNone = (count : ℕ) (cells : List ℕ) → Accepted 0 count cells → plainTable count cells ≡ true → NoLastComma (codesOf (written count cells))
+WritesNone = (count : ℕ) (cells : List ℕ) → Accepted 0 count cells → plainTable count cells ≡ true → NoLastComma (cellsOf (written count cells))

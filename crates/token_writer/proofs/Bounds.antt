@@ -47,7 +47,7 @@ few s = length (s .before) + (length (s .between) + length (s .behind))
 four : (l : Label) (b : Tree) → few (signsOf l b) ≤ 4
 unfolding signsOf signLines few
 four l b =
-    in-table (λ (s : Signs). few s ≤ 4) (signLines (l .detail) (isThere b)) (signs [] [] []) (l .form)
+    in-table (λ (s : Signs). few s ≤ 4) (signLines (l .detail) (l .symbol) (isThere b)) (signs [] [] []) (l .form)
     (omega arith, (omega arith, (omega arith, (omega arith, (omega arith, (omega arith, (omega arith, (omega arith, (omega arith, (omega arith, (omega arith, (omega arith, (omega arith, (omega arith, (by-test (λ (s : Signs). few s ≤ 4) _ _ _ (omega arith) (omega arith), (omega arith, (omega arith, (omega arith, (link (isThere b), tt)))))))))))))))))))
     (omega arith)
   where

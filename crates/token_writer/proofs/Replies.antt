@@ -2,7 +2,7 @@
 use mathlib.Core.Path.{_≡_, refl, sym, ap, _∙_}
 use mathlib.Core.Bool.{true, false, not}
 use mathlib.Core.List.{List, _∷_}
-use Prim.Native.Nat.{ℕ, zero, suc, _*_, _≤_, _<_}
+use Prim.Native.Nat.{ℕ, zero, suc, _*_, _/_, _≤_, _<_}
 use native.Mathlib.Omega.{arith}
 use lib.Dec.{eqb}
 use lib.ListN.{length, take, replicate, length-replicate}
@@ -11,24 +11,24 @@ use Rattle.laws.specs.Choice.{pick}
 use Rattle.laws.specs.Puts.{Put}
 use Rattle.laws.proofs.Choice.{pick-true, pick-false, or-here, or-next}
 use Rattle.laws.proofs.Putting.{put-over}
-use Rattle.tree.specs.Sizes.{rowCells, scratchCells, tokensPerNode}
+use Rattle.tree.specs.Sizes.{rowCells, scratchCells, tokenCells, tokensPerNode}
 use Rattle.tree_rules.specs.Refusals.{firstOf, refusal}
 use Rattle.row_walk.specs.Walk.{rowsAfter}
-use Rattle.token_grammar.specs.Tokens.{codesOf}
+use Rattle.token_grammar.specs.Tokens.{cellsOf}
 use Rattle.token_plain.specs.Plain.{plainTable}
 use Rattle.token_writer.specs.declared.Written.{Written}
 use Rattle.token_writer.specs.declared.Written.the-variants.{Refused, Tokens}
-use Rattle.token_writer.specs.Puts.{codesAt}
+use Rattle.token_writer.specs.Puts.{cellsAt}
 use Rattle.token_writer.specs.Writes.{rowsFor, written, writeRefusal12, refusal13, writeRefusal, answered, tokensAfter}
-use Rattle.token_writer.proofs.Tokens.{length-codes}
+use Rattle.token_writer.proofs.Tokens.{length-cells}
 
 -- ---- the rows
 
 -- in a buffer of just the length that they need, and the tokens with them
-pub codes-written : (count : ℕ) (cells rows scratch after : List ℕ) → rows ≡ replicate (rowCells * count) 0 → scratch ≡ replicate (scratchCells * count) 0
-    → after ≡ rowsAfter 0 count cells rows scratch → codesAt cells count after 1 ≡ codesOf (written count cells)
-unfolding codesAt written rowsFor
-codes-written count cells rows scratch after r s e = rw (e, r, s)
+pub cells-written : (count : ℕ) (cells rows scratch after : List ℕ) → rows ≡ replicate (rowCells * count) 0 → scratch ≡ replicate (scratchCells * count) 0
+    → after ≡ rowsAfter 0 count cells rows scratch → cellsAt cells count after 1 ≡ cellsOf (written count cells)
+unfolding cellsAt written rowsFor
+cells-written count cells rows scratch after r s e = rw (e, r, s)
 
 -- zeros at the start of more zeros
 pub take-zeros : (n m : ℕ) → n ≤ m → take {A = ℕ} n (replicate m 0) ≡ replicate n 0
@@ -62,11 +62,11 @@ module _ (context count : ℕ) (cells tokens : List ℕ) where
     unfolding writeRefusal firstOf
     after = pick-true _ _ (eq-eqb _ 0 accepted)
 
-    pub short : length tokens < tokensPerNode * count → Answers (Refused 12) tokens
+    pub short : length tokens < tokenCells * tokensPerNode * count → Answers (Refused 12) tokens
     unfolding writeRefusal12
     short h = refuses 12 (sym (after ∙ pick-true _ _ (lt-ltb _ _ h))) (λ z. omega arith)
 
-    module _ (fits : tokensPerNode * count ≤ length tokens) where
+    module _ (fits : tokenCells * tokensPerNode * count ≤ length tokens) where
       behind12 : writeRefusal context count cells (length tokens) ≡ pick (refusal13 context count cells) 13 0
       unfolding writeRefusal12
       behind12 = after ∙ pick-false _ _ (le-ltb _ _ fits)
@@ -87,10 +87,10 @@ module _ (context count : ℕ) (cells tokens : List ℕ) where
           pub not-refused : writeRefusal context count cells (length tokens) ≡ 0
           not-refused = behind12 ∙ pick-false 13 0 (is13 ∙ ap not plain)
 
-          pub done : (last : List ℕ) (next : ℕ) → length (written count cells) ≤ length tokens → Put tokens 0 (codesOf (written count cells)) last next → Answers (Tokens next) last
+          pub done : (last : List ℕ) (next : ℕ) → tokenCells * length (written count cells) ≤ length tokens → Put tokens 0 (cellsOf (written count cells)) last next → Answers (Tokens (next / tokenCells)) last
           unfolding answered tokensAfter
           done last next room p =
               let e = eq-eqb _ 0 not-refused in
-              let l = length-codes (written count cells) in
-              let n : next ≡ length (written count cells) = omega (arith, p .ends) in
+              let l = length-cells (written count cells) in
+              let n : next / tokenCells ≡ length (written count cells) = omega (arith, p .ends) in
               (ap Tokens n ∙ sym (pick-true _ _ e), put-over p (omega arith) ∙ sym (pick-true _ _ e))

@@ -2,30 +2,32 @@
 use mathlib.Core.Path.{_≡_, refl, sym, ap, _∙_}
 use mathlib.Core.Bool.{Bool, true, false}
 use mathlib.Core.List.{List, [], _∷_, _++_, append-assoc, append-nil}
-use Prim.Native.Nat.{ℕ, _+_, _≤_}
+use Prim.Native.Nat.{ℕ, _+_, _*_, _≤_}
+use native.Mathlib.Omega.{arith}
 use lib.ListN.{length, length-append}
-use Rattle.laws.specs.Choice.{pick}
+use Rattle.laws.specs.Choice.{pick, lookup}
 use Rattle.laws.specs.Puts.{Put}
 use Rattle.laws.proofs.Putting.{put-none, put-more}
-use Rattle.tree.specs.Table.{firstColumn, secondColumn}
+use Rattle.tree.specs.Sizes.{tokenCells}
+use Rattle.tree.specs.Table.{firstColumn, secondColumn, symbolAt}
 use Rattle.tree.specs.Trees.{Label, Tree, none, node, labelAt, operandAt, treeAt}
 use Rattle.tree.proofs.Unfold.{unfolds}
-use Rattle.token_grammar.specs.Tokens.{Token, code, LeftParen, RightParen, codesOf}
+use Rattle.token_grammar.specs.Tokens.{Token, code, LeftParen, RightParen, symbolOf, cellsOf}
 use Rattle.token_plain.specs.Written.{within, signsOf, tokensAt, hasPair}
 use Rattle.token_writer.specs.declared.signs.Few.{Few}
 use Rattle.token_writer.specs.declared.signs.Signs.{Signs}
-use Rattle.token_writer.specs.Puts.{spelled, Spells, oneIf, codesAt}
+use Rattle.token_writer.specs.Puts.{spelled, symbolLines, symbolOn, cellsWith, Spells, oneIf, cellsAt}
 use Rattle.token_writer.proofs.Spelling.{one-if}
 
--- ---- codes
+-- ---- cells
 
-pub codes-append : (s t : List Token) → codesOf (s ++ t) ≡ codesOf s ++ codesOf t
-codes-append [] t = refl
-codes-append (x ∷ s) t = ap (λ (r : List ℕ). code x ∷ r) (codes-append s t)
+pub cells-append : (s t : List Token) → cellsOf (s ++ t) ≡ cellsOf s ++ cellsOf t
+cells-append [] t = refl
+cells-append (x ∷ s) t = ap (λ (r : List ℕ). code x ∷ symbolOf x ∷ r) (cells-append s t)
 
-pub length-codes : (s : List Token) → length (codesOf s) ≡ length s
-length-codes [] = refl
-length-codes (x ∷ s) = rw (length-codes s)
+pub length-cells : (s : List Token) → length (cellsOf s) ≡ tokenCells * length s
+length-cells [] = refl
+length-cells (x ∷ s) = omega (arith, length-cells s)
 
 -- ---- tokens
 
@@ -73,39 +75,45 @@ module _ (cells : List ℕ) (count : ℕ) (pair : ℕ → Bool) where
   pub in-row : (i : ℕ) (l : Label) (a b : Tree) → tokensAt cells count pair i (node l a b) [] ≡ inRow i l a b []
   in-row i l a b = in-row-by i l a b (rest-last (operandAt cells count i firstColumn) a) (rest-last (operandAt cells count i secondColumn) b) []
 
--- ---- the codes of the tree at a node
+-- ---- the cells of the tree at a node
 
 module _ (cells : List ℕ) (count : ℕ) (rows : List ℕ) (i : ℕ) where
-  pub put-nothing : treeAt cells count i ≡ none → (before : List ℕ) (at : ℕ) → Put before at (codesAt cells count rows i) before at
-  unfolding codesAt tokensAt
+  pub put-nothing : treeAt cells count i ≡ none → (before : List ℕ) (at : ℕ) → Put before at (cellsAt cells count rows i) before at
+  unfolding cellsAt tokensAt
   put-nothing e before at = rw e (put-none before at)
 
-  module _ (low : 1 ≤ i) (high : i ≤ count) (pair : Bool) (is : pair ≡ hasPair rows i) (s : Signs) (own : Spells s (signsOf (labelAt cells i) (treeAt cells count (operandAt cells count i secondColumn)))) where
-    pub codes-parts : codesAt cells count rows i
-        ≡ spelled (oneIf pair (code LeftParen)) ++ (spelled (s .before) ++ (codesAt cells count rows (operandAt cells count i firstColumn) ++ (spelled (s .between) ++ (codesAt cells count rows (operandAt cells count i secondColumn) ++ (spelled (s .behind) ++ spelled (oneIf pair (code RightParen)))))))
-    unfolding codesAt
-    codes-parts =
-        ap (λ (t : Tree). codesOf (tokensAt cells count (hasPair rows) i t [])) (unfolds cells count i low high)
-        ∙ ap codesOf (in-row cells count (hasPair rows) i _ _ _)
-        ∙ simp (codes-append, append-nil)
-        (rw (is, one-if (hasPair rows i) LeftParen, one-if (hasPair rows i) RightParen, own .before, own .between, own .behind))
+  module _ (low : 1 ≤ i) (high : i ≤ count) (pair : Bool) (is : pair ≡ hasPair rows i) (y : ℕ) (symbol : y ≡ symbolAt cells i) (s : Signs) (own : Spells (symbolAt cells i) s (signsOf (labelAt cells i) (treeAt cells count (operandAt cells count i secondColumn)))) where
+    abbrev with : Few → List ℕ
+    with f = cellsWith y (spelled f)
 
-    pub length-parts : length (codesAt cells count rows i)
-        ≡ length (spelled (oneIf pair (code LeftParen))) + (length (spelled (s .before)) + (length (codesAt cells count rows (operandAt cells count i firstColumn)) + (length (spelled (s .between)) + (length (codesAt cells count rows (operandAt cells count i secondColumn)) + (length (spelled (s .behind)) + length (spelled (oneIf pair (code RightParen))))))))
-    length-parts = ap length codes-parts ∙ simp length-append
+    spells : Spells y s (signsOf (labelAt cells i) (treeAt cells count (operandAt cells count i secondColumn)))
+    spells = rw symbol own
+
+    pub cells-parts : cellsAt cells count rows i
+        ≡ with (oneIf pair (code LeftParen)) ++ (with (s .before) ++ (cellsAt cells count rows (operandAt cells count i firstColumn) ++ (with (s .between) ++ (cellsAt cells count rows (operandAt cells count i secondColumn) ++ (with (s .behind) ++ with (oneIf pair (code RightParen)))))))
+    unfolding cellsAt symbolOn symbolLines lookup pick
+    cells-parts =
+        ap (λ (t : Tree). cellsOf (tokensAt cells count (hasPair rows) i t [])) (unfolds cells count i low high)
+        ∙ ap cellsOf (in-row cells count (hasPair rows) i _ _ _)
+        ∙ simp (cells-append, append-nil)
+        (rw (is, one-if y (hasPair rows i) LeftParen refl, one-if y (hasPair rows i) RightParen refl, spells .before, spells .between, spells .behind))
+
+    pub length-parts : length (cellsAt cells count rows i)
+        ≡ length (with (oneIf pair (code LeftParen))) + (length (with (s .before)) + (length (cellsAt cells count rows (operandAt cells count i firstColumn)) + (length (with (s .between)) + (length (cellsAt cells count rows (operandAt cells count i secondColumn)) + (length (with (s .behind)) + length (with (oneIf pair (code RightParen))))))))
+    length-parts = ap length cells-parts ∙ simp length-append
 
     pub put-parts : (f : Few) → f ≡ oneIf pair (code LeftParen) → (g : Few) → g ≡ oneIf pair (code RightParen) → (o : ℕ) → o ≡ operandAt cells count i firstColumn → (p : ℕ) → p ≡ operandAt cells count i secondColumn
         → {t0 t1 t2 t3 t4 t5 t6 t7 : List ℕ} {n0 n1 n2 n3 n4 n5 n6 n7 : ℕ}
-        → Put t0 n0 (spelled f) t1 n1
-        → Put t1 n1 (spelled (s .before)) t2 n2
-        → Put t2 n2 (codesAt cells count rows o) t3 n3
-        → Put t3 n3 (spelled (s .between)) t4 n4
-        → Put t4 n4 (codesAt cells count rows p) t5 n5
-        → Put t5 n5 (spelled (s .behind)) t6 n6
-        → Put t6 n6 (spelled g) t7 n7
-        → Put t0 n0 (codesAt cells count rows i) t7 n7
+        → Put t0 n0 (with f) t1 n1
+        → Put t1 n1 (with (s .before)) t2 n2
+        → Put t2 n2 (cellsAt cells count rows o) t3 n3
+        → Put t3 n3 (with (s .between)) t4 n4
+        → Put t4 n4 (cellsAt cells count rows p) t5 n5
+        → Put t5 n5 (with (s .behind)) t6 n6
+        → Put t6 n6 (with g) t7 n7
+        → Put t0 n0 (cellsAt cells count rows i) t7 n7
     put-parts f ef g eg o eo p ep a b c d e h k =
-        rw codes-parts
+        rw cells-parts
         (put-more (rw ef at a)
         (put-more b
         (put-more (rw eo at c)

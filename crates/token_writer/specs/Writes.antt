@@ -6,11 +6,11 @@ use lib.Dec.{eqb, ltb}
 use lib.ListN.{length, replicate}
 use Rattle.laws.specs.Choice.{pick}
 use Rattle.laws.specs.Lists.{over}
-use Rattle.tree.specs.Sizes.{rowCells, scratchCells, tokensPerNode}
+use Rattle.tree.specs.Sizes.{rowCells, scratchCells, tokenCells, tokensPerNode}
 use Rattle.tree.specs.Trees.{treeAt}
 use Rattle.tree_rules.specs.Refusals.{refusal, refuse, firstOf}
 use Rattle.row_walk.specs.Walk.{rowsAfter}
-use Rattle.token_grammar.specs.Tokens.{Token, codesOf}
+use Rattle.token_grammar.specs.Tokens.{Token, cellsOf}
 use Rattle.token_plain.specs.Plain.{plainTable}
 use Rattle.token_plain.specs.Written.{tokensAt, hasPair}
 use Rattle.token_writer.specs.declared.Written.{Written}
@@ -24,9 +24,9 @@ rowsFor count cells = rowsAfter 0 count cells (replicate (rowCells * count) 0) (
 unfoldable pub written : ℕ → List ℕ → List Token
 written count cells = tokensAt cells count (hasPair (rowsFor count cells)) 1 (treeAt cells count 1) []
 
--- 12. "A lent buffer is too short: .. six for the writer's tokens" (cells a node); `lent` is the buffer's length
+-- 12. "A lent buffer is too short: .. six for the writer's tokens"; document 02, Paper 4: "so the writer's buffer needs twelve cells a node". `lent` is the buffer's length
 unfoldable pub writeRefusal12 : ℕ → ℕ → Bool
-writeRefusal12 count lent = ltb lent (tokensPerNode * count)
+writeRefusal12 count lent = ltb lent (tokenCells * tokensPerNode * count)
 
 -- 13. "The writer is given a tree that is not plain or a context that is not 0."
 unfoldable pub refusal13 : ℕ → ℕ → List ℕ → Bool
@@ -48,10 +48,10 @@ answered context count cells lent =
     (Tokens (length (written count cells)))
     (Refused (writeRefusal context count cells lent))
 
--- the buffer afterwards: on a refusal as it was; else the tokens' codes over its start
+-- the buffer afterwards: on a refusal as it was; else the tokens' cells over its start
 unfoldable pub tokensAfter : ℕ → ℕ → List ℕ → List ℕ → List ℕ
 tokensAfter context count cells tokens =
-    pick (eqb (writeRefusal context count cells (length tokens)) 0) (over (codesOf (written count cells)) tokens) tokens
+    pick (eqb (writeRefusal context count cells (length tokens)) 0) (over (cellsOf (written count cells)) tokens) tokens
 
 -- "When an answer is an enum, a definition gives this paper's number and values for each of its cases." The reply number, 0 for done, and behind it the value
 abbrev pub writtenInNumbers : Written → List ℕ

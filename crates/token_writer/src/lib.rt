@@ -9,48 +9,70 @@ use signs::signs_at;
 use token_grammar::codes;
 use tree::columns;
 use tree::sizes;
+use tree::table::cell;
 use tree::table::operand_number;
 use tree_one_pass::check;
 ghost use mathlib.Core.Path.{_≡_};
+ghost use mathlib.Core.List.{[], _∷_};
 ghost use Prim.Native.Nat.{_+_, _*_, _-_, _≤_};
 ghost use lib.ListN.{length, getD, replicate};
 ghost use Rattle.laws.specs.Puts.{Put};
-ghost use Rattle.tree.specs.Sizes.{rowCells, scratchCells};
+ghost use Rattle.tree.specs.Sizes.{rowCells, scratchCells, tokenCells};
 ghost use Rattle.tree_rules.specs.Refusals.{refusal};
 ghost use Rattle.token_plain.specs.Written.{hasPair};
-ghost use Rattle.token_grammar.specs.Tokens.{codesOf};
-ghost use Rattle.token_writer.specs.Puts.{spelled, codesAt};
+ghost use Rattle.token_grammar.specs.Tokens.{cellsOf};
+ghost use Rattle.token_writer.specs.Puts.{spelled, symbolOn, cellsWith, cellsAt};
 ghost use Rattle.token_writer.specs.Writes.{written, answered, tokensAfter};
+
+// The cells of the tokens that the writer asks room for, a node.
+const NODE_TOKENS: usize = sizes::TOKEN_CELLS * sizes::TOKENS_PER_NODE;
 
 // What writing answers.
 pub enum Written {
     // The number of the first refusal that applies.
     Refused(u16),
-    // How many tokens the lent buffer now holds.
+    // How many tokens the lent buffer now holds, two cells each.
     Tokens(u16),
 }
 
-// Up to three codes from `at` on; answers the place behind them.
-fn put(tokens: &mut [u16], at: usize, few: Few) -> usize
-    requires { ⌜ at + length (spelled few) ≤ length (now tokens) ⌝ }
-    ensures { λ r. ⌜ Put (now (tokens .entry)) at (spelled few) (now (tokens .exit)) r ⌝ }
+// The symbol beside a code: the node's on a name, a literal or a numbered member.
+fn symbol_on(code: u16, symbol: u16) -> u16
+    ensures { λ r. ⌜ r ≡ symbolOn code symbol ⌝ }
+{
+    match code {
+        codes::NAME | codes::NUMBERED_MEMBER => symbol,
+        codes::LITERAL => symbol,
+        _ => 0,
+    }
+}
+
+// A token at `at`: its code, and beside it the node's symbol where it has one; answers the place behind it.
+fn put_token(tokens: &mut [u16], at: usize, code: u16, symbol: u16) -> usize
+    requires { ⌜ at + tokenCells ≤ length (now tokens) ⌝ }
+    ensures { λ r. ⌜ Put (now (tokens .entry)) at (cellsWith symbol (code ∷ [])) (now (tokens .exit)) r ⌝ }
+{
+    let beside = symbol_on(code, symbol);
+    tokens[at] = code;
+    tokens[at + 1] = beside;
+    at + 2
+}
+
+// Up to three tokens of a node from `at` on; answers the place behind them.
+fn put(tokens: &mut [u16], at: usize, few: Few, symbol: u16) -> usize
+    requires { ⌜ at + length (cellsWith symbol (spelled few)) ≤ length (now tokens) ⌝ }
+    ensures { λ r. ⌜ Put (now (tokens .entry)) at (cellsWith symbol (spelled few)) (now (tokens .exit)) r ⌝ }
 {
     match few {
         Few::Nothing => at,
-        Few::One(a) => {
-            tokens[at] = a;
-            at + 1
-        }
+        Few::One(a) => put_token(tokens, at, a, symbol),
         Few::Two(a, b) => {
-            tokens[at] = a;
-            tokens[at + 1] = b;
-            at + 2
+            let second = put_token(tokens, at, a, symbol);
+            put_token(tokens, second, b, symbol)
         }
         Few::Three(a, b, c) => {
-            tokens[at] = a;
-            tokens[at + 1] = b;
-            tokens[at + 2] = c;
-            at + 3
+            let second = put_token(tokens, at, a, symbol);
+            let third = put_token(tokens, second, b, symbol);
+            put_token(tokens, third, c, symbol)
         }
     }
 }
@@ -85,8 +107,8 @@ fn write_from(
     tokens: &mut [u16],
     at: usize,
 ) -> usize
-    requires { ⌜ at + length (codesAt (now table) count (now rows) node) ≤ length (now tokens) ⌝ }
-    ensures { λ r. ⌜ Put (now (tokens .entry)) at (codesAt (now (table .entry)) count (now (rows .entry)) node) (now (tokens .exit)) r ⌝ }
+    requires { ⌜ at + length (cellsAt (now table) count (now rows) node) ≤ length (now tokens) ⌝ }
+    ensures { λ r. ⌜ Put (now (tokens .entry)) at (cellsAt (now (table .entry)) count (now (rows .entry)) node) (now (tokens .exit)) r ⌝ }
 {
     if node == 0 {
         return at;
@@ -94,13 +116,14 @@ fn write_from(
     if count < node {
         return at;
     }
+    let symbol = cell(table, node, columns::SYMBOL);
     let pair = has_pair(rows, node);
     let signs = signs_at(table, count, node);
     let before = signs.before;
     let between = signs.between;
     let behind = signs.behind;
-    let open = put(tokens, at, one_if(pair, codes::LEFT_PAREN));
-    let first = put(tokens, open, before);
+    let open = put(tokens, at, one_if(pair, codes::LEFT_PAREN), symbol);
+    let first = put(tokens, open, before, symbol);
     let after_first = write_from(
         table,
         count,
@@ -109,7 +132,7 @@ fn write_from(
         tokens,
         first,
     );
-    let second = put(tokens, after_first, between);
+    let second = put(tokens, after_first, between, symbol);
     let after_second = write_from(
         table,
         count,
@@ -118,8 +141,8 @@ fn write_from(
         tokens,
         second,
     );
-    let close = put(tokens, after_second, behind);
-    put(tokens, close, one_if(pair, codes::RIGHT_PAREN))
+    let close = put(tokens, after_second, behind, symbol);
+    put(tokens, close, one_if(pair, codes::RIGHT_PAREN), symbol)
 }
 
 // The tokens of an accepted plain table, with the rows made in buffers of just the length that they need.
@@ -130,8 +153,8 @@ fn write_plain(
     scratch: &mut [u16],
     tokens: &mut [u16],
 ) -> usize
-    requires { ⌜ (now rows ≡ replicate (rowCells * count) 0) × (now scratch ≡ replicate (scratchCells * count) 0) × (length (written count (now table)) ≤ length (now tokens)) ⌝ }
-    ensures { λ r. ⌜ Put (now (tokens .entry)) 0 (codesOf (written count (now (table .entry)))) (now (tokens .exit)) r ⌝ }
+    requires { ⌜ (now rows ≡ replicate (rowCells * count) 0) × (now scratch ≡ replicate (scratchCells * count) 0) × (tokenCells * length (written count (now table)) ≤ length (now tokens)) ⌝ }
+    ensures { λ r. ⌜ Put (now (tokens .entry)) 0 (cellsOf (written count (now (table .entry)))) (now (tokens .exit)) r ⌝ }
 {
     row_walk::decide(0, count, table, rows, scratch);
     write_from(table, count, rows, 1, tokens, 0)
@@ -147,7 +170,7 @@ pub fn write(context: u16, count: u16, table: &[u16], tokens: &mut [u16]) -> Wri
         return Written::Refused(refused);
     }
     let nodes = count as usize;
-    if tokens.len() < sizes::TOKENS_PER_NODE * nodes {
+    if tokens.len() < NODE_TOKENS * nodes {
         return Written::Refused(12);
     }
     if context != 0 {
@@ -167,5 +190,5 @@ pub fn write(context: u16, count: u16, table: &[u16], tokens: &mut [u16]) -> Wri
         &mut scratch[..scratch_cells],
         tokens,
     );
-    Written::Tokens(end as u16)
+    Written::Tokens((end / sizes::TOKEN_CELLS) as u16)
 }

@@ -8,11 +8,11 @@ ghost use mathlib.Core.Path.{_≡_};
 ghost use mathlib.Core.List.{[]};
 ghost use lib.Dec.{eqb};
 ghost use Rattle.laws.specs.Choice.{pick, lookup};
-ghost use Rattle.tree.specs.Table.{secondColumn};
+ghost use Rattle.tree.specs.Table.{secondColumn, symbolAt};
 ghost use Rattle.tree.specs.Trees.{labelAt, treeAt, operandAt};
 ghost use Rattle.token_grammar.specs.Tokens.{number, code, operatorOf};
 ghost use Rattle.token_plain.specs.Written.{unary, signs, signLines, signsOf};
-ghost use Rattle.token_writer.specs.Puts.{onlyBefore, onlyBetween, enclosing, pathType, oneIf, Spells};
+ghost use Rattle.token_writer.specs.Puts.{onlyBefore, onlyBetween, enclosing, pathType, oneIf, Spells, SpellsAny};
 
 // Up to three codes.
 pub enum Few {
@@ -108,9 +108,9 @@ fn path_type(detail: u16) -> Signs
     }
 }
 
-// The signs of a form with a detail; `more` says whether a second operand is there.
+// The signs of a form with a detail; `more` says whether a second operand is there. Symbols are put beside them later.
 fn signs_of(form: u16, detail: u16, more: bool) -> Signs
-    ensures { λ r. ⌜ Spells r (lookup (signLines detail more) (signs [] [] []) form) ⌝ }
+    ensures { λ r. ⌜ SpellsAny r (λ y. lookup (signLines detail y more) (signs [] [] []) form) ⌝ }
 {
     match form {
         forms::EXPR_PATH => ahead(Few::One(codes::NAME)),
@@ -155,7 +155,7 @@ fn signs_of(form: u16, detail: u16, more: bool) -> Signs
 }
 
 pub fn signs_at(table: &[u16], count: u16, node: u16) -> Signs
-    ensures { λ r. ⌜ Spells r (signsOf (labelAt (now (table .entry)) node) (treeAt (now (table .entry)) count (operandAt (now (table .entry)) count node secondColumn))) ⌝ }
+    ensures { λ r. ⌜ Spells (symbolAt (now (table .entry)) node) r (signsOf (labelAt (now (table .entry)) node) (treeAt (now (table .entry)) count (operandAt (now (table .entry)) count node secondColumn))) ⌝ }
 {
     let form = cell(table, node, columns::FORM);
     let detail = cell(table, node, columns::DETAIL);

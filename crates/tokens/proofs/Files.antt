@@ -1,5 +1,5 @@
 -- What loading and writing leave for printing. Assumes nothing.
-use mathlib.Core.Path.{_≡_, refl, sym, _∙_}
+use mathlib.Core.Path.{_≡_, refl, sym, ap, _∙_}
 use mathlib.Core.Bool.{Bool, true, false}
 use mathlib.Core.List.{List}
 use Prim.Native.Nat.{ℕ, _*_, _≤_}
@@ -12,21 +12,21 @@ use Rattle.laws.specs.Choice.{pick}
 use Rattle.laws.specs.Lists.{over}
 use Rattle.laws.proofs.Choice.{pick-true}
 use Rattle.laws.proofs.Lists.{length-over}
-use Rattle.tree.specs.Sizes.{nodeCells, mostNodes, mostTokens}
+use Rattle.tree.specs.Sizes.{nodeCells, tokenCells, mostNodes, mostTokens}
 use Rattle.file_loader.specs.declared.Loaded.the-variants as loader
 use Rattle.file_loader.specs.Files.{loaded, loadedTable}
 use Rattle.file_loader.proofs.Loading.{stored-room, stored-cells}
-use Rattle.token_grammar.specs.Tokens.{codesOf}
+use Rattle.token_grammar.specs.Tokens.{cellsOf}
 use Rattle.token_writer.specs.declared.Written.the-variants.{Refused, Tokens}
 use Rattle.token_writer.specs.Writes.{written, writeRefusal, answered, tokensAfter}
 use Rattle.token_writer.proofs.Bounds.{accepted-first, tokens-bound}
-use Rattle.token_writer.proofs.Tokens.{length-codes}
+use Rattle.token_writer.proofs.Tokens.{length-cells}
 use Rattle.text.specs.Numbers.{noLine}
 use Rattle.tokens.specs.Text.{listed, answerText, tableText, loadedText, printed}
 
 -- ---- the answers of the writer
 
-module _ (context count : ℕ) (cells tokens : List ℕ) (room : length tokens ≡ mostTokens) where
+module _ (context count : ℕ) (cells tokens : List ℕ) (room : length tokens ≡ tokenCells * mostTokens) where
   pub refused-table : (n : ℕ) → Refused n ≡ answered context count cells (length tokens) → noLine n ≡ tableText context count cells
   unfolding tableText answerText
   refused-table n e = rw (← room, ← e)
@@ -43,24 +43,25 @@ module _ (context count : ℕ) (cells tokens : List ℕ) (room : length tokens �
     pub tokens-most : n ≤ mostTokens
     tokens-most = rw (parts .1) (tokens-bound context count cells (accepted-first context count cells (length tokens) (parts .0)) .1)
 
-    -- the codes stand at the start of the buffer
-    codes-taken : take n (tokensAfter context count cells tokens) ≡ codesOf (written count cells)
+    -- the tokens stand at the start of the buffer
+    cells-taken : take (tokenCells * n) (tokensAfter context count cells tokens) ≡ cellsOf (written count cells)
     unfolding tokensAfter over
-    codes-taken =
-        rw (pick-true (over (codesOf (written count cells)) tokens) tokens (eq-eqb _ 0 (parts .0)))
-        (take-at (codesOf (written count cells)) _ n (length-codes (written count cells) ∙ sym (parts .1)))
+    cells-taken =
+        rw (pick-true (over (cellsOf (written count cells)) tokens) tokens (eq-eqb _ 0 (parts .0)))
+        (take-at (cellsOf (written count cells)) _ (tokenCells * n) (length-cells (written count cells) ∙ ap (λ m. tokenCells * m) (sym (parts .1))))
 
     -- and so lie within it
-    pub tokens-within : n ≤ length (tokensAfter context count cells tokens)
+    pub tokens-within : tokenCells * n ≤ length (tokensAfter context count cells tokens)
     unfolding tokensAfter
     tokens-within =
         let most = tokens-most in
-        let codes = length-codes (written count cells) ∙ sym (parts .1) in
-        rw (pick-true (over (codesOf (written count cells)) tokens) tokens (eq-eqb _ 0 (parts .0)), length-over (codesOf (written count cells)) tokens (omega arith)) (omega arith)
+        let codes = length-cells (written count cells) in
+        let p = parts .1 in
+        rw (pick-true (over (cellsOf (written count cells)) tokens) tokens (eq-eqb _ 0 (parts .0)), length-over (cellsOf (written count cells)) tokens (omega arith)) (omega arith)
 
-    pub tokens-table : listed (take n (tokensAfter context count cells tokens)) ≡ tableText context count cells
+    pub tokens-table : listed (take (tokenCells * n) (tokensAfter context count cells tokens)) ≡ tableText context count cells
     unfolding tableText answerText
-    tokens-table = rw (codes-taken, ← room, ← e)
+    tokens-table = rw (cells-taken, ← room, ← e)
 
 -- ---- the answers of the loader
 

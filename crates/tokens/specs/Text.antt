@@ -1,13 +1,13 @@
 -- What `tokens` prints for a file, as ASCII codes.
 use mathlib.Core.List.{List, [], _∷_, _++_}
-use Prim.Native.Nat.{ℕ, _*_}
-use lib.ListN.{length}
-use Rattle.tree.specs.Sizes.{nodeCells, mostNodes, mostTokens}
+use Prim.Native.Nat.{ℕ, _*_, _/_}
+use lib.ListN.{length, drop}
+use Rattle.tree.specs.Sizes.{nodeCells, tokenCells, mostNodes, mostTokens}
 use Rattle.file_loader.specs.declared.Loaded.{Loaded}
 use Rattle.file_loader.specs.declared.Loaded.the-variants as loaded
 use Rattle.file_loader.specs.Files.{cellsIn}
 use Rattle.file_loader.specs.Files as files
-use Rattle.token_grammar.specs.Tokens.{codesOf}
+use Rattle.token_grammar.specs.Tokens.{cellsOf}
 use Rattle.token_writer.specs.declared.Written.{Written}
 use Rattle.token_writer.specs.declared.Written.the-variants.{Refused, Tokens}
 use Rattle.token_writer.specs.Writes.{written, answered}
@@ -18,18 +18,24 @@ unfoldable pub parted : List ℕ → List ℕ
 parted [] = []
 parted (n ∷ ns) = decimal n ++ spaced ns
 
--- "ok" and the number of tokens, then a line with the codes
+-- the first of each two numbers
+abbrev pub evens : List ℕ → List ℕ
+evens [] = []
+evens (n ∷ []) = n ∷ []
+evens (n ∷ m ∷ ns) = n ∷ evens ns
+
+-- "ok" and the number of tokens, then a line with their codes, and a line with their symbols
 unfoldable pub listed : List ℕ → List ℕ
-listed codes = okLine (length codes) ++ (parted codes ++ (newline ∷ []))
+listed cells = okLine (length cells / tokenCells) ++ (parted (evens cells) ++ (newline ∷ (parted (evens (drop 1 cells)) ++ (newline ∷ []))))
 
 -- what is printed for the writer's answer
 unfoldable pub answerText : List ℕ → Written → List ℕ
-answerText codes (Refused n) = noLine n
-answerText codes (Tokens n) = listed codes
+answerText cells (Refused n) = noLine n
+answerText cells (Tokens n) = listed cells
 
--- what is printed for a table, with a buffer of 24,576 cells lent to the writer
+-- what is printed for a table, with a buffer of 24,576 tokens lent to the writer
 unfoldable pub tableText : ℕ → ℕ → List ℕ → List ℕ
-tableText context count cells = answerText (codesOf (written count cells)) (answered context count cells mostTokens)
+tableText context count cells = answerText (cellsOf (written count cells)) (answered context count cells (tokenCells * mostTokens))
 
 -- what is printed for the loader's answer
 unfoldable pub loadedText : List ℕ → Loaded → List ℕ

@@ -1,5 +1,5 @@
-// Reads a tree file on standard input, and prints how many tokens its tree has and their codes, or the number of
-// the refusal.
+// Reads a tree file on standard input, and prints how many tokens its tree has, their codes and their symbols, or the
+// number of the refusal.
 use file_loader::Loaded;
 use libc::STDIN_FILENO;
 use libc::STDOUT_FILENO;
@@ -7,16 +7,16 @@ use text::put_byte;
 use text::put_no;
 use text::put_number;
 use text::put_ok;
-use text::put_spaced;
 use token_writer::Written;
 use tree::sizes;
 ghost use mathlib.Core.Path.{_≡_};
 ghost use Prim.Native.Nat.{_+_, _*_, _≤_};
-ghost use lib.ListN.{length, take};
+ghost use lib.ListN.{length, take, drop};
 ghost use Rattle.io.specs.Counts.{Counts};
-ghost use Rattle.tree.specs.Sizes.{mostTokens};
+ghost use Rattle.tree.specs.Sizes.{tokenCells, mostTokens};
+ghost use Rattle.text.specs.Numbers.{spaced};
 ghost use Rattle.text.specs.Growth.{Grown, Added};
-ghost use Rattle.tokens.specs.Text.{parted, listed, tableText, printed};
+ghost use Rattle.tokens.specs.Text.{parted, evens, listed, tableText, printed};
 
 // One byte more than the longest file, so that a longer one shows.
 const FILE: usize = sizes::MOST_FILE_BYTES + 1;
@@ -24,42 +24,60 @@ const FILE: usize = sizes::MOST_FILE_BYTES + 1;
 // The cells of the most nodes in the table, and of the tokens.
 const CELLS: usize = sizes::NODE_CELLS * (sizes::MOST_NODES as usize);
 
-const TOKENS: usize = sizes::MOST_TOKENS;
+const TOKENS: usize = sizes::TOKEN_CELLS * sizes::MOST_TOKENS;
 
-// The most bytes that are printed: a first line of 9, six for each token, and a line's end.
-const TEXT: usize = 9 + 6 * TOKENS + 1;
+// The most bytes that are printed: a first line of 9, six for each code and each symbol, and two lines' ends.
+const TEXT: usize = 9 + 6 * TOKENS + 2;
 
-// Numbers with a space between two.
-fn put_parted(out: &mut [u8], end: usize, numbers: &[u16]) -> usize
-    ensures { λ r. ⌜ Grown (now (out .entry)) end (parted (now (numbers .entry))) (now (out .exit)) r ⌝ }
+// Of the numbers from a place on the first of each two, with a space before each.
+fn put_every(out: &mut [u8], end: usize, numbers: &[u16], from: usize) -> usize
+    requires { ⌜ from ≤ 3 ⌝ }
+    ensures { λ r. ⌜ Grown (now (out .entry)) end (spaced (evens (drop from (now (numbers .entry))))) (now (out .exit)) r ⌝ }
 {
-    if numbers.len() == 0 {
+    let mut at = end;
+    let mut done = from;
+    while done < numbers.len() {
+        let next = put_byte(out, at, b' ');
+        at = put_number(out, next, numbers[done]);
+        done += sizes::TOKEN_CELLS;
+    }
+    at
+}
+
+// The same with a space between two.
+fn put_column(out: &mut [u8], end: usize, numbers: &[u16], from: usize) -> usize
+    requires { ⌜ from ≤ 1 ⌝ }
+    ensures { λ r. ⌜ Grown (now (out .entry)) end (parted (evens (drop from (now (numbers .entry))))) (now (out .exit)) r ⌝ }
+{
+    if numbers.len() <= from {
         return end;
     }
-    let first = put_number(out, end, numbers[0]);
-    put_spaced(out, first, &numbers[1..])
+    let first = put_number(out, end, numbers[from]);
+    put_every(out, first, numbers, from + sizes::TOKEN_CELLS)
 }
 
 // What is printed for tokens.
-fn put_tokens(out: &mut [u8], codes: &[u16]) -> usize
-    requires { ⌜ (length (now codes) ≤ mostTokens) × (9 + 6 * mostTokens + 1 ≤ length (now out)) ⌝ }
-    ensures { λ r. ⌜ Added (now (out .entry)) 0 (listed (now (codes .entry))) (now (out .exit)) r ⌝ }
+fn put_tokens(out: &mut [u8], cells: &[u16]) -> usize
+    requires { ⌜ (length (now cells) ≤ tokenCells * mostTokens) × (9 + 6 * (tokenCells * mostTokens) + 2 ≤ length (now out)) ⌝ }
+    ensures { λ r. ⌜ Added (now (out .entry)) 0 (listed (now (cells .entry))) (now (out .exit)) r ⌝ }
 {
-    let head = put_ok(out, codes.len() as u16);
-    let end = put_parted(out, head, codes);
-    put_byte(out, end, b'\n')
+    let head = put_ok(out, (cells.len() / sizes::TOKEN_CELLS) as u16);
+    let codes = put_column(out, head, cells, 0);
+    let line = put_byte(out, codes, b'\n');
+    let symbols = put_column(out, line, cells, 1);
+    put_byte(out, symbols, b'\n')
 }
 
 // What is printed for a table.
 fn put_table(out: &mut [u8], context: u16, count: u16, table: &[u16]) -> usize
-    requires { ⌜ 9 + 6 * mostTokens + 1 ≤ length (now out) ⌝ }
+    requires { ⌜ 9 + 6 * (tokenCells * mostTokens) + 2 ≤ length (now out) ⌝ }
     ensures { λ r. ⌜ Added (now (out .entry)) 0 (tableText context count (now (table .entry))) (now (out .exit)) r ⌝ }
 {
     let mut tokens = [0u16; TOKENS];
     match token_writer::write(context, count, table, &mut tokens) {
         Written::Refused(why) => put_no(out, why),
         Written::Tokens(n) => {
-            let end = n as usize;
+            let end = sizes::TOKEN_CELLS * (n as usize);
             put_tokens(out, &tokens[..end])
         }
     }

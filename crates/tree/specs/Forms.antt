@@ -4,6 +4,7 @@ use mathlib.Core.List.{List, [], _∷_}
 use Prim.Native.Nat.{ℕ}
 use lib.Dec.{eqb, leb}
 use Rattle.laws.specs.Choice.{pick, Line, line, lookup}
+use Rattle.tree.specs.Sizes.{mostSymbol}
 
 -- "Forms 1 to 40 are expressions: Array, Assign, Async, Await, Binary, Block, Break, Call, Cast, Closure, Const, Continue, Field, ForLoop, Group, If, Index, Infer, Let, Lit, Loop, Macro, Match, MethodCall, Paren, Path, Range, RawAddr, Reference, Repeat, Return, Struct, Try, TryBlock, Tuple, Unary, Unsafe, Verbatim, While, Yield."
 abbrev pub ExprAssign : ℕ
@@ -190,6 +191,19 @@ details =
 unfoldable pub highestDetail : ℕ → ℕ
 highestDetail form = lookup details 0 form
 
--- a form, an attribute and a detail number that are allowed
-unfoldable pub allowed : ℕ → ℕ → ℕ → Bool
-allowed form attributes detail = not (eqb (classOf form) 0) && (leb attributes (highestAttributes form) && leb detail (highestDetail form))
+-- Document 02, Paper 4: "a symbol from 0 to 65,535, used by Path, Lit, named or numbered Field, MethodCall and path types, and 0 elsewhere"
+unfoldable pub symbols : ℕ → List (Line ℕ)
+symbols detail =
+    line (ExprField ∷ ExprLit ∷ ExprMethodCall ∷ ExprPath ∷ []) mostSymbol ∷
+    -- the name of the last segment, where there is one: details 1 to 3
+    line (TypePath ∷ []) (pick (eqb detail 0) 0 mostSymbol) ∷
+    []
+
+unfoldable pub highestSymbol : ℕ → ℕ → ℕ
+highestSymbol form detail = lookup (symbols detail) 0 form
+
+-- a form, an attribute, a detail and a symbol number that are allowed
+unfoldable pub allowed : ℕ → ℕ → ℕ → ℕ → Bool
+allowed form attributes detail symbol =
+    not (eqb (classOf form) 0)
+    && (leb attributes (highestAttributes form) && (leb detail (highestDetail form) && leb symbol (highestSymbol form detail)))

@@ -1,9 +1,13 @@
--- The sizes of document 01, by name.
+-- The sizes of document 01, by name, as document 02 changes them.
 use Prim.Native.Nat.{ℕ}
 
--- 'Tree file': "five numbers a node: form, attributes, detail, first, second"
+-- 'Tree file': "five numbers a node: form, attributes, detail, first, second"; document 02, Paper 4: "Each node gains a sixth number, a symbol"
 abbrev pub nodeCells : ℕ
-nodeCells = 5
+nodeCells = 6
+
+-- document 02, Paper 4: "a symbol from 0 to 65,535"
+abbrev pub mostSymbol : ℕ
+mostSymbol = 65535
 
 -- 'Decisions': "A row is pair, precedence, previous operator, next operator, flags"; 12: "five cells a node for rows"
 abbrev pub rowCells : ℕ
@@ -13,11 +17,11 @@ rowCells = 5
 abbrev pub scratchCells : ℕ
 scratchCells = 3
 
--- 'Plain tokens and their grammar': a token is its code, one cell
+-- document 02, Paper 4: "A token becomes two 16-bit cells, code and symbol"
 abbrev pub tokenCells : ℕ
-tokenCells = 1
+tokenCells = 2
 
--- 12: "six for the writer's tokens"
+-- 12: "six for the writer's tokens", tokens that is: "so the writer's buffer needs twelve cells a node"
 abbrev pub tokensPerNode : ℕ
 tokensPerNode = 6
 
@@ -25,7 +29,7 @@ tokensPerNode = 6
 abbrev pub mostNodes : ℕ
 mostNodes = 4096
 
--- 14: "A token list is longer than 24,576"
+-- 14: "A token list is longer than 24,576"; Paper 4: "its 24,576 counts tokens"
 abbrev pub mostTokens : ℕ
 mostTokens = 24576
 

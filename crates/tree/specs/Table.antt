@@ -1,4 +1,4 @@
--- Document 01, 'Tree file': "A node table holds the same five numbers a node in 16-bit cells": form, attributes, detail, first, second.
+-- Document 01, 'Tree file': "A node table holds the same five numbers a node in 16-bit cells": form, attributes, detail, first, second; and, by document 02, Paper 4, a sixth: symbol.
 use mathlib.Core.List.{List}
 use Prim.Native.Nat.{ℕ, zero, suc, _+_, _*_}
 use lib.ListN.{getD}
@@ -21,7 +21,11 @@ firstColumn = 3
 abbrev pub secondColumn : ℕ
 secondColumn = 4
 
--- the number in column k of node i's five; node 1 is the first, and what lies outside the table reads as 0
+-- Paper 4: "a sixth number, a symbol"
+abbrev pub symbolColumn : ℕ
+symbolColumn = 5
+
+-- the number in column k of node i's six; node 1 is the first, and what lies outside the table reads as 0
 unfoldable pub cellAt : List ℕ → ℕ → ℕ → ℕ
 cellAt cells zero k = 0
 cellAt cells (suc i) k = getD cells (nodeCells * i + k) 0
@@ -40,6 +44,9 @@ firstAt cells i = cellAt cells i firstColumn
 
 abbrev pub secondAt : List ℕ → ℕ → ℕ
 secondAt cells i = cellAt cells i secondColumn
+
+abbrev pub symbolAt : List ℕ → ℕ → ℕ
+symbolAt cells i = cellAt cells i symbolColumn
 
 abbrev pub classAt : List ℕ → ℕ → ℕ
 classAt cells i = classOf (formAt cells i)

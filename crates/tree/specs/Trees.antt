@@ -5,13 +5,14 @@ use Prim.Native.Nat.{ℕ, zero, suc, _+_, max}
 use lib.Dec.{eqb, ltb, leb}
 use Rattle.laws.specs.Choice.{pick}
 use Rattle.tree.specs.Forms.{aLink, classOf}
-use Rattle.tree.specs.Table.{cellAt, formAt, attributesAt, detailAt, firstColumn, secondColumn}
+use Rattle.tree.specs.Table.{cellAt, formAt, attributesAt, detailAt, symbolAt, firstColumn, secondColumn}
 
 -- a node's numbers but its operands
 pub record Label : Type 0 where
   pub form : ℕ
   pub attributes : ℕ
   pub detail : ℕ
+  pub symbol : ℕ
 
 -- a list link is a node, as in the table: its item and the next link are its operands
 pub data Tree : Type 0 where
@@ -19,7 +20,7 @@ pub data Tree : Type 0 where
   node : Label → Tree → Tree → Tree
 
 unfoldable pub labelAt : List ℕ → ℕ → Label
-labelAt cells i = record { form = formAt cells i; attributes = attributesAt cells i; detail = detailAt cells i }
+labelAt cells i = record { form = formAt cells i; attributes = attributesAt cells i; detail = detailAt cells i; symbol = symbolAt cells i }
 
 -- a number as an operand of node i: present where it is above i and at most the count, otherwise 0, absent
 unfoldable pub operandOf : ℕ → ℕ → ℕ → ℕ

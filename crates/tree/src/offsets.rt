@@ -8,3 +8,5 @@ pub const DETAIL: usize = 2;
 pub const FIRST: usize = 3;
 
 pub const SECOND: usize = 4;
+
+pub const SYMBOL: usize = 5;

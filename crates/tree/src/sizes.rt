@@ -1,6 +1,9 @@
 // The sizes of document 01, by name: specs/Sizes.antt says where each stands.
-// The numbers of a node: form, attributes, detail, first, second.
-pub const NODE_CELLS: usize = 5;
+// The numbers of a node: form, attributes, detail, first, second, symbol.
+pub const NODE_CELLS: usize = 6;
+
+// The highest symbol of a node that may have one.
+pub const MOST_SYMBOL: u16 = 65_535;
 
 // The numbers of a row: pair, precedence, previous operator, next operator, flags.
 pub const ROW_CELLS: usize = 5;
@@ -8,8 +11,8 @@ pub const ROW_CELLS: usize = 5;
 // The cells of scratch that the walk asks for, a node.
 pub const SCRATCH_CELLS: usize = 3;
 
-// The numbers of a token: its code.
-pub const TOKEN_CELLS: usize = 1;
+// The numbers of a token: its code and its symbol.
+pub const TOKEN_CELLS: usize = 2;
 
 // The tokens that the writer asks room for, a node.
 pub const TOKENS_PER_NODE: usize = 6;

@@ -1,4 +1,4 @@
-// The cells of a node table: five numbers a node, form, attributes, detail, first and second.
+// The cells of a node table: six numbers a node, form, attributes, detail, first, second and symbol.
 use crate::columns;
 use crate::sizes;
 ghost use mathlib.Core.Path.{_≡_};
@@ -12,7 +12,7 @@ pub enum Operand {
     Present(u16),
 }
 
-// The number at a place of a node's five; 0 outside the table.
+// The number at a place of a node's six; 0 outside the table.
 pub fn cell(table: &[u16], node: u16, place: u16) -> u16
     ensures { λ r. ⌜ r ≡ cellAt (now (table .entry)) node place ⌝ }
 {

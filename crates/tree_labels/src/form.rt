@@ -1,7 +1,9 @@
 // The classes of the forms, and the numbers that a node may hold.
 use tree::forms;
+use tree::sizes;
 ghost use mathlib.Core.Path.{_≡_};
-ghost use Rattle.tree.specs.Forms.{classOf, highestAttributes, highestDetail, allowed};
+ghost use lib.Dec.{leb};
+ghost use Rattle.tree.specs.Forms.{classOf, highestAttributes, highestDetail, highestSymbol, allowed};
 
 // 1 an expression, 2 a type, 3 a list link; 0 for a number that is no form.
 pub fn class_of(form: u16) -> u16
@@ -48,9 +50,31 @@ fn highest_detail(form: u16) -> u16
     }
 }
 
-// Whether a form, an attribute and a detail number are allowed together.
-pub fn is_allowed(form: u16, attributes: u16, detail: u16) -> bool
-    ensures { λ r. ⌜ r ≡ allowed form attributes detail ⌝ }
+// Names, literals, members and methods have symbols, and path types with a segment.
+fn highest_symbol(form: u16, detail: u16) -> u16
+    ensures { λ r. ⌜ r ≡ highestSymbol form detail ⌝ }
+{
+    match form {
+        forms::EXPR_FIELD | forms::EXPR_LIT | forms::EXPR_METHOD_CALL | forms::EXPR_PATH =>
+            sizes::MOST_SYMBOL,
+        forms::TYPE_PATH => { if detail == 0 { 0 } else { sizes::MOST_SYMBOL } }
+        _ => 0,
+    }
+}
+
+// Whether a node of this form and detail may have this symbol; any may have 0.
+pub fn is_symbol_allowed(form: u16, detail: u16, symbol: u16) -> bool
+    ensures { λ r. ⌜ r ≡ leb symbol (highestSymbol form detail) ⌝ }
+{
+    if symbol == 0 {
+        return true;
+    }
+    symbol <= highest_symbol(form, detail)
+}
+
+// Whether a form, an attribute, a detail and a symbol number are allowed together.
+pub fn is_allowed(form: u16, attributes: u16, detail: u16, symbol: u16) -> bool
+    ensures { λ r. ⌜ r ≡ allowed form attributes detail symbol ⌝ }
 {
     if class_of(form) == 0 {
         return false;
@@ -58,5 +82,8 @@ pub fn is_allowed(form: u16, attributes: u16, detail: u16) -> bool
     if attributes > highest_attributes(form) {
         return false;
     }
-    detail <= highest_detail(form)
+    if detail > highest_detail(form) {
+        return false;
+    }
+    is_symbol_allowed(form, detail, symbol)
 }

@@ -12,7 +12,7 @@ use Rattle.tree.specs.Trees.{Label, Tree, none, node, labelAt, operandOf, treeA
 use Rattle.tree.proofs.Unfold.{operand-in, operand-zero, tree-zero, tree-past, unfolds}
 use Rattle.tree_numbering.specs.Numbered.{size, numberOf, cellsFrom, numbered}
 
--- ---- five cells a node
+-- ---- six cells a node
 
 pub length-cells : (i : ℕ) (t : Tree) → length (cellsFrom i t) ≡ nodeCells * size t
 unfolding cellsFrom size
@@ -50,30 +50,30 @@ module _ (cells : List ℕ) where
   abbrev pub Holds : ℕ → Tree → List ℕ → Type 0
   Holds j t rest = drop (nodeCells * j) cells ≡ cellsFrom (suc j) t ++ rest
 
-  -- a node's five cells, and where those of its operands begin
+  -- a node's six cells, and where those of its operands begin
   pub record Parts (j : ℕ) (l : Label) (a b : Tree) (rest : List ℕ) : Type 0 where
     pub after : List ℕ
-    pub own : drop (nodeCells * j) cells ≡ l .form ∷ l .attributes ∷ l .detail ∷ numberOf a (suc (suc j)) ∷ numberOf b (suc (suc j) + size a) ∷ after
+    pub own : drop (nodeCells * j) cells ≡ l .form ∷ l .attributes ∷ l .detail ∷ numberOf a (suc (suc j)) ∷ numberOf b (suc (suc j) + size a) ∷ l .symbol ∷ after
     pub one : Holds (suc j) a (cellsFrom (suc (suc j + size a)) b ++ rest)
     pub two : Holds (suc j + size a) b rest
 
   pub parts : (j : ℕ) (l : Label) (a b : Tree) (rest : List ℕ) → Holds j (node l a b) rest → Parts j l a b rest
   unfolding cellsFrom
   parts j l a b rest e =
-      let own = e ∙ ap (λ (xs : List ℕ). l .form ∷ l .attributes ∷ l .detail ∷ numberOf a (suc (suc j)) ∷ numberOf b (suc (suc j) + size a) ∷ xs) (append-assoc (cellsFrom (suc (suc j)) a) (cellsFrom (suc (suc j) + size a) b) rest) in
-      let p = further j 1 (suc j) (l .form ∷ l .attributes ∷ l .detail ∷ numberOf a (suc (suc j)) ∷ numberOf b (suc (suc j) + size a) ∷ []) _ (omega arith) refl own in
+      let own = e ∙ ap (λ (xs : List ℕ). l .form ∷ l .attributes ∷ l .detail ∷ numberOf a (suc (suc j)) ∷ numberOf b (suc (suc j) + size a) ∷ l .symbol ∷ xs) (append-assoc (cellsFrom (suc (suc j)) a) (cellsFrom (suc (suc j) + size a) b) rest) in
+      let p = further j 1 (suc j) (l .form ∷ l .attributes ∷ l .detail ∷ numberOf a (suc (suc j)) ∷ numberOf b (suc (suc j) + size a) ∷ l .symbol ∷ []) _ (omega arith) refl own in
       let s : suc (suc j) + size a ≡ suc (suc j + size a) = omega arith in
       let p' = rw s at p in
       let q = further (suc j) (size a) (suc j + size a) (cellsFrom (suc (suc j)) a) (cellsFrom (suc (suc j + size a)) b ++ rest) refl (length-cells (suc (suc j)) a) p' in
       record { after = _; own = own; one = p'; two = q }
 
-  held-node : (l : Label) (a b : Tree) (count j x y : ℕ) (after : List ℕ) → j < count → drop (nodeCells * j) cells ≡ l .form ∷ l .attributes ∷ l .detail ∷ x ∷ y ∷ after
+  held-node : (l : Label) (a b : Tree) (count j x y : ℕ) (after : List ℕ) → j < count → drop (nodeCells * j) cells ≡ l .form ∷ l .attributes ∷ l .detail ∷ x ∷ y ∷ l .symbol ∷ after
       → operandOf count (suc j) x ≡ x → operandOf count (suc j) y ≡ y → treeAt cells count x ≡ a → treeAt cells count y ≡ b
       → treeAt cells count (suc j) ≡ node l a b
   unfolding labelAt
   held-node l a b count j x y after h e p q f g =
       unfolds cells count (suc j) (omega arith) (omega arith)
-      ∙ rw (cell-held j 0 _ e, cell-held j 1 _ e, cell-held j 2 _ e, cell-held j 3 _ e, cell-held j 4 _ e, p, q, f, g)
+      ∙ rw (cell-held j 0 _ e, cell-held j 1 _ e, cell-held j 2 _ e, cell-held j 3 _ e, cell-held j 4 _ e, cell-held j 5 _ e, p, q, f, g)
 
   pub held : (t : Tree) (count j : ℕ) (rest : List ℕ) → j + size t ≤ count → Holds j t rest → treeAt cells count (numberOf t (suc j)) ≡ t
   unfolding size numberOf

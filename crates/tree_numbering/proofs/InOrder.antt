@@ -14,7 +14,7 @@ use Rattle.laws.specs.Lists.{over}
 use Rattle.laws.proofs.Choice.{true-not-false}
 use Rattle.laws.proofs.Lists.{sets-append, sets-over}
 use Rattle.tree.specs.Sizes.{nodeCells}
-use Rattle.tree.specs.Table.{cellAt, formAt, attributesAt, detailAt, firstAt, secondAt}
+use Rattle.tree.specs.Table.{cellAt, formAt, attributesAt, detailAt, firstAt, secondAt, symbolAt}
 use Rattle.tree.specs.Trees.{Tree, labelAt, treeAt}
 use Rattle.tree.proofs.Unfold.{tree-zero}
 use Rattle.tree_rules.specs.Refusals.{Accepted}
@@ -25,25 +25,26 @@ use Rattle.tree_numbering.proofs.Holds.{length-numbered, Holds}
 use Rattle.tree_numbering.proofs.Sizes.{size-accepted}
 use Rattle.tree_numbering.proofs.Owners.{node-tree, number-first, number-second, each-owner}
 
--- ---- the five cells of a node
+-- ---- the six cells of a node
 
-five : (xs : List ℕ) → nodeCells ≤ length xs → xs ≡ getD xs 0 0 ∷ getD xs 1 0 ∷ getD xs 2 0 ∷ getD xs 3 0 ∷ getD xs 4 0 ∷ drop nodeCells xs
-five [] h = absurd (omega arith)
-five (a ∷ []) h = absurd (omega arith)
-five (a ∷ b ∷ []) h = absurd (omega arith)
-five (a ∷ b ∷ c ∷ []) h = absurd (omega arith)
-five (a ∷ b ∷ c ∷ d ∷ []) h = absurd (omega arith)
-five (a ∷ b ∷ c ∷ d ∷ e ∷ xs) h = refl
+six : (xs : List ℕ) → nodeCells ≤ length xs → xs ≡ getD xs 0 0 ∷ getD xs 1 0 ∷ getD xs 2 0 ∷ getD xs 3 0 ∷ getD xs 4 0 ∷ getD xs 5 0 ∷ drop nodeCells xs
+six [] h = absurd (omega arith)
+six (a ∷ []) h = absurd (omega arith)
+six (a ∷ b ∷ []) h = absurd (omega arith)
+six (a ∷ b ∷ c ∷ []) h = absurd (omega arith)
+six (a ∷ b ∷ c ∷ d ∷ []) h = absurd (omega arith)
+six (a ∷ b ∷ c ∷ d ∷ e ∷ []) h = absurd (omega arith)
+six (a ∷ b ∷ c ∷ d ∷ e ∷ f ∷ xs) h = refl
 
 module _ (cells : List ℕ) (j : ℕ) (fits : nodeCells * suc j ≤ length cells) where
-  own-cells : drop (nodeCells * j) cells ≡ formAt cells (suc j) ∷ attributesAt cells (suc j) ∷ detailAt cells (suc j) ∷ firstAt cells (suc j) ∷ secondAt cells (suc j) ∷ drop (nodeCells * suc j) cells
+  own-cells : drop (nodeCells * j) cells ≡ formAt cells (suc j) ∷ attributesAt cells (suc j) ∷ detailAt cells (suc j) ∷ firstAt cells (suc j) ∷ secondAt cells (suc j) ∷ symbolAt cells (suc j) ∷ drop (nodeCells * suc j) cells
   unfolding cellAt
   own-cells =
       let s : nodeCells * j + nodeCells ≡ nodeCells * suc j = omega arith in
-      five (drop (nodeCells * j) cells) (simp length-drop (omega arith))
-      ∙ rw (getD-drop (nodeCells * j) cells 0 0, getD-drop (nodeCells * j) cells 1 0, getD-drop (nodeCells * j) cells 2 0, getD-drop (nodeCells * j) cells 3 0, getD-drop (nodeCells * j) cells 4 0, drop-drop nodeCells (nodeCells * j) cells, s)
+      six (drop (nodeCells * j) cells) (simp length-drop (omega arith))
+      ∙ rw (getD-drop (nodeCells * j) cells 0 0, getD-drop (nodeCells * j) cells 1 0, getD-drop (nodeCells * j) cells 2 0, getD-drop (nodeCells * j) cells 3 0, getD-drop (nodeCells * j) cells 4 0, getD-drop (nodeCells * j) cells 5 0, drop-drop nodeCells (nodeCells * j) cells, s)
 
-  take-node : take (nodeCells * suc j) cells ≡ take (nodeCells * j) cells ++ (formAt cells (suc j) ∷ attributesAt cells (suc j) ∷ detailAt cells (suc j) ∷ firstAt cells (suc j) ∷ secondAt cells (suc j) ∷ [])
+  take-node : take (nodeCells * suc j) cells ≡ take (nodeCells * j) cells ++ (formAt cells (suc j) ∷ attributesAt cells (suc j) ∷ detailAt cells (suc j) ∷ firstAt cells (suc j) ∷ secondAt cells (suc j) ∷ symbolAt cells (suc j) ∷ [])
   take-node =
       let s : nodeCells * suc j ≡ nodeCells * j + nodeCells = omega arith in
       rw s (take-add (nodeCells * j) nodeCells cells ∙ rw own-cells)
@@ -139,13 +140,13 @@ module _ (context count : ℕ) (cells : List ℕ) (ok : Accepted context count c
     -- one node more
     pub copy-more : n < count → (first second : ℕ) → first ≡ firstAt cells (suc n) → second ≡ secondAt cells (suc n) → (span : ℕ) → span ≡ size (treeAt cells count (firstAt cells (suc n)))
         → (x : ℕ) → x ≡ pick (eqb first 0) 0 (suc (n + 1)) → x ≡ first → (y : ℕ) → y ≡ pick (eqb second 0) 0 (suc (n + 1 + span)) → y ≡ second
-        → (last : List ℕ) → last ≡ sets after (nodeCells * n) (formAt cells (n + 1) ∷ attributesAt cells (n + 1) ∷ detailAt cells (n + 1) ∷ first ∷ second ∷ [])
+        → (last : List ℕ) → last ≡ sets after (nodeCells * n) (formAt cells (n + 1) ∷ attributesAt cells (n + 1) ∷ detailAt cells (n + 1) ∷ first ∷ second ∷ symbolAt cells (n + 1) ∷ [])
         → Copying count cells (n + 1) before last
     copy-more h first second ef es span ep x ex xf y ey ys last e =
         let k = count-bounds context count cells ok in
         let l = length-take-le (nodeCells * n) cells (omega arith) in
         let z : n + 1 ≡ suc n = omega arith in
-        let w : last ≡ sets after (nodeCells * n) (formAt cells (suc n) ∷ attributesAt cells (suc n) ∷ detailAt cells (suc n) ∷ firstAt cells (suc n) ∷ secondAt cells (suc n) ∷ []) = rw (z, ef, es) at e in
+        let w : last ≡ sets after (nodeCells * n) (formAt cells (suc n) ∷ attributesAt cells (suc n) ∷ detailAt cells (suc n) ∷ firstAt cells (suc n) ∷ secondAt cells (suc n) ∷ symbolAt cells (suc n) ∷ []) = rw (z, ef, es) at e in
         let u : InOrder count cells (suc n) = record { one = rw (z, ef) at (sym ex ∙ xf); two = rw (z, es, ep) at (sym ey ∙ ys) } in
         rw z
         (record {

@@ -8,7 +8,7 @@ use lib.Seq.{sets}
 use borrow.Author.Tests.{ne-eqb}
 use Rattle.laws.specs.Choice.{pick}
 use Rattle.tree.specs.Sizes.{nodeCells}
-use Rattle.tree.specs.Table.{cellAt, formAt, attributesAt, detailAt, firstColumn, secondColumn}
+use Rattle.tree.specs.Table.{cellAt, formAt, attributesAt, detailAt, symbolAt, firstColumn, secondColumn}
 use Rattle.tree.specs.Trees.{none, labelAt, operandOf, operandAt, treeAt}
 use Rattle.tree.proofs.Unfold.{Standing, absent, present, standing, tree-zero, unfolds}
 use Rattle.tree_numbering.specs.Numbered.{size, numberOf, cellsFrom}
@@ -39,7 +39,7 @@ module _ (cells : List ℕ) (count i done : ℕ) (out : List ℕ) where
       → cellsFrom (suc done) (treeAt cells count i)
       ≡ (formAt cells i ∷ attributesAt cells i ∷ detailAt cells i
       ∷ pick (eqb (operandAt cells count i firstColumn) 0) 0 (suc (done + 1))
-      ∷ pick (eqb (operandAt cells count i secondColumn) 0) 0 (suc after) ∷ [])
+      ∷ pick (eqb (operandAt cells count i secondColumn) 0) 0 (suc after) ∷ symbolAt cells i ∷ [])
       ++ (cellsFrom (suc (done + 1)) (treeAt cells count (operandAt cells count i firstColumn)) ++ cellsFrom (suc after) (treeAt cells count (operandAt cells count i secondColumn)))
   unfolding cellsFrom labelAt
   cells-node low high after e =
@@ -52,7 +52,7 @@ module _ (cells : List ℕ) (count i done : ℕ) (out : List ℕ) where
       → (o : ℕ) → o ≡ operandAt cells count i firstColumn → (p : ℕ) → p ≡ operandAt cells count i secondColumn
       → (after : ℕ) (first : List ℕ) → (after ≡ done + 1 + size (treeAt cells count o)) × (first ≡ sets out (nodeCells * (done + 1)) (cellsFrom (suc (done + 1)) (treeAt cells count o)))
       → (x : ℕ) → x ≡ pick (eqb o 0) 0 (suc (done + 1)) → (y : ℕ) → y ≡ pick (eqb p 0) 0 (suc after)
-      → (own : List ℕ) → own ≡ sets first (nodeCells * done) (formAt cells i ∷ attributesAt cells i ∷ detailAt cells i ∷ x ∷ y ∷ [])
+      → (own : List ℕ) → own ≡ sets first (nodeCells * done) (formAt cells i ∷ attributesAt cells i ∷ detailAt cells i ∷ x ∷ y ∷ symbolAt cells i ∷ [])
       → (n : ℕ) (second : List ℕ) → (n ≡ after + size (treeAt cells count p)) × (second ≡ sets own (nodeCells * after) (cellsFrom (suc after) (treeAt cells count p)))
       → Written n second
   written-by low high o eo p ep after first ef x ex y ey own eown n second es =
@@ -62,7 +62,7 @@ module _ (cells : List ℕ) (count i done : ℕ) (out : List ℕ) where
       let l = length-cells (suc (done + 1)) (treeAt cells count o) in
       let m : after ≡ done + 1 + size (treeAt cells count o) = ef .0 in
       let r = three-runs
-      (formAt cells i ∷ attributesAt cells i ∷ detailAt cells i ∷ x ∷ y ∷ [])
+      (formAt cells i ∷ attributesAt cells i ∷ detailAt cells i ∷ x ∷ y ∷ symbolAt cells i ∷ [])
       (cellsFrom (suc (done + 1)) (treeAt cells count o))
       (cellsFrom (suc after) (treeAt cells count p))
       out (nodeCells * done) (nodeCells * (done + 1)) (nodeCells * after) (omega arith) (omega arith) in

@@ -13,7 +13,7 @@ use Rattle.laws.specs.Choice.{pick}
 use Rattle.laws.specs.Lists.{over}
 use Rattle.laws.proofs.Lists.{length-over}
 use Rattle.tree.specs.Sizes.{nodeCells}
-use Rattle.tree.specs.Table.{cellAt, formAt, attributesAt, detailAt, firstAt, secondAt, firstColumn, secondColumn}
+use Rattle.tree.specs.Table.{cellAt, formAt, attributesAt, detailAt, firstAt, secondAt, symbolAt, firstColumn, secondColumn}
 use Rattle.tree.specs.Trees.{labelAt, treeAt}
 use Rattle.tree_rules.specs.Refusals.{Accepted}
 use Rattle.tree_rules.proofs.Accepted.{count-bounds, first-most, second-most}
@@ -175,7 +175,8 @@ module _ (context count : ℕ) (cells : List ℕ) (ok : Accepted context count c
       block =
           formAt cells (suc n) ∷ attributesAt cells (suc n) ∷ detailAt cells (suc n)
           ∷ pick (eqb (firstAt cells (suc n)) 0) 0 (suc own)
-          ∷ pick (eqb (secondAt cells (suc n)) 0) 0 (suc (own + size (treeAt cells count (firstAt cells (suc n))))) ∷ []
+          ∷ pick (eqb (secondAt cells (suc n)) 0) 0 (suc (own + size (treeAt cells count (firstAt cells (suc n)))))
+          ∷ symbolAt cells (suc n) ∷ []
 
       record Here : Type 0 where
         low : 1 ≤ own
@@ -240,7 +241,7 @@ module _ (context count : ℕ) (cells : List ℕ) (ok : Accepted context count c
       pub next-node : (before after : List ℕ) → Filled count cells n ps before after → nodeCells * count ≤ length before
           → (first second span number : ℕ) → first ≡ firstAt cells (suc n) → second ≡ secondAt cells (suc n) → span ≡ size (treeAt cells count (firstAt cells (suc n))) → number ≡ getD ps (n + 1) 0
           → (x y : ℕ) → x ≡ pick (eqb first 0) 0 (suc number) → y ≡ pick (eqb second 0) 0 (suc (number + span))
-          → (last : List ℕ) → last ≡ sets after (nodeCells * (number - 1)) (formAt cells (n + 1) ∷ attributesAt cells (n + 1) ∷ detailAt cells (n + 1) ∷ x ∷ y ∷ [])
+          → (last : List ℕ) → last ≡ sets after (nodeCells * (number - 1)) (formAt cells (n + 1) ∷ attributesAt cells (n + 1) ∷ detailAt cells (n + 1) ∷ x ∷ y ∷ symbolAt cells (n + 1) ∷ [])
           → Placed count cells (n + 1) (set (set ps first (number + 1)) second (number + span + 1))
           × Filled count cells (n + 1) (set (set ps first (number + 1)) second (number + span + 1)) before last
       next-node before after filled room first second span number ef es ep eo x y ex ey last e =

@@ -6,6 +6,7 @@ use native.Mathlib.Omega.{arith}
 use native.Mathlib.Numerals.{towards-suc}
 use lib.ListN.{length, set}
 use lib.Seq.{sets, set-comm}
+use Rattle.tree.specs.Table.{symbolColumn}
 use Rattle.laws.proofs.Lists.{sets-append}
 
 -- a store before a run, made after it
@@ -22,6 +23,6 @@ pub three-runs : (xs ys zs l : List ℕ) (i j k : ℕ) → j ≡ i + length xs �
 three-runs xs ys zs l i j k e f =
     rw (sets-sets xs ys l i j (omega arith), sets-append xs (ys ++ zs) l i j e, sets-append ys zs (sets l i xs) j k f)
 
--- five stores in a row
-pub five-stores : (l : List ℕ) (i a b c d e : ℕ) → set (set (set (set (set l i a) (i + 1) b) (i + 2) c) (i + 3) d) (i + 4) e ≡ sets l i (a ∷ b ∷ c ∷ d ∷ e ∷ [])
-five-stores l i a b c d e = simp towards-suc
+-- six stores in a row
+pub six-stores : (l : List ℕ) (i a b c d e f : ℕ) → set (set (set (set (set (set l i a) (i + 1) b) (i + 2) c) (i + 3) d) (i + 4) e) (i + symbolColumn) f ≡ sets l i (a ∷ b ∷ c ∷ d ∷ e ∷ f ∷ [])
+six-stores l i a b c d e f = simp towards-suc

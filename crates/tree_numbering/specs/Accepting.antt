@@ -11,7 +11,7 @@ use Rattle.tree.specs.Trees.{treeAt}
 use Rattle.tree_rules.specs.Refusals.{refusal, refuse, firstOf}
 use Rattle.tree_numbering.specs.Numbered.{numbered}
 
--- 12. "A lent buffer is too short": five cells a node; `lent` is the lent table's length
+-- 12. "A lent buffer is too short": six cells a node; `lent` is the lent table's length
 unfoldable pub numberingRefusal12 : ℕ → ℕ → Bool
 numberingRefusal12 count lent = ltb lent (nodeCells * count)
 

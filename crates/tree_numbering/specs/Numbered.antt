@@ -16,11 +16,11 @@ unfoldable pub numberOf : Tree → ℕ → ℕ
 numberOf none i = 0
 numberOf (node l a b) i = i
 
--- the five numbers of each node, where the root has number i
+-- the six numbers of each node, where the root has number i
 unfoldable pub cellsFrom : ℕ → Tree → List ℕ
 cellsFrom i none = []
 cellsFrom i (node l a b) =
-    l .form ∷ l .attributes ∷ l .detail ∷ numberOf a (suc i) ∷ numberOf b (suc i + size a)
+    l .form ∷ l .attributes ∷ l .detail ∷ numberOf a (suc i) ∷ numberOf b (suc i + size a) ∷ l .symbol
     ∷ cellsFrom (suc i) a ++ cellsFrom (suc i + size a) b
 
 unfoldable pub numbered : Tree → List ℕ

@@ -12,7 +12,7 @@ use Rattle.tree_numbering.specs.declared.Renumbered.{Renumbered}
 use Rattle.tree_numbering.specs.declared.Renumbered.the-variants.{TooLarge, TooShort, Nodes}
 use Rattle.tree_numbering.specs.Numbered.{size, numbered, tooLarge}
 
--- five cells a node; `cells` is the lent table's length
+-- six cells a node; `cells` is the lent table's length
 unfoldable pub tooShort : Tree → ℕ → Bool
 tooShort t cells = ltb cells (nodeCells * size t)
 

@@ -16,7 +16,7 @@ ghost use lib.ListN.{length};
 ghost use lib.Seq.{sets};
 ghost use Rattle.laws.specs.Choice.{pick};
 ghost use Rattle.tree.specs.Sizes.{nodeCells, mostNodes};
-ghost use Rattle.tree.specs.Table.{formAt, attributesAt, detailAt};
+ghost use Rattle.tree.specs.Table.{formAt, attributesAt, detailAt, symbolAt};
 ghost use Rattle.tree.specs.Trees.{treeAt, levels};
 ghost use Rattle.tree_numbering.specs.Numbered.{size, cellsFrom};
 ghost use Rattle.tree_numbering.specs.Renumbering.{renumbered, renumberedAfter};
@@ -99,10 +99,10 @@ fn number_after(operand: u16, done: u16) -> u16
     done + 1
 }
 
-// A node of the table into the five cells after so many nodes, with its operands' new numbers.
+// A node of the table into the six cells after so many nodes, with its operands' new numbers.
 fn store(table: &[u16], node: u16, done: u16, first: u16, second: u16, out: &mut [u16])
     requires { ⌜ nodeCells * done + nodeCells ≤ length (now out) ⌝ }
-    ensures { λ _. ⌜ now (out .exit) ≡ sets (now (out .entry)) (nodeCells * done) (formAt (now (table .entry)) node ∷ attributesAt (now (table .entry)) node ∷ detailAt (now (table .entry)) node ∷ first ∷ second ∷ []) ⌝ }
+    ensures { λ _. ⌜ now (out .exit) ≡ sets (now (out .entry)) (nodeCells * done) (formAt (now (table .entry)) node ∷ attributesAt (now (table .entry)) node ∷ detailAt (now (table .entry)) node ∷ first ∷ second ∷ symbolAt (now (table .entry)) node ∷ []) ⌝ }
 {
     let at = sizes::NODE_CELLS * (done as usize);
     out[at] = cell(table, node, columns::FORM);
@@ -110,6 +110,7 @@ fn store(table: &[u16], node: u16, done: u16, first: u16, second: u16, out: &mut
     out[at + offsets::DETAIL] = cell(table, node, columns::DETAIL);
     out[at + offsets::FIRST] = first;
     out[at + offsets::SECOND] = second;
+    out[at + offsets::SYMBOL] = cell(table, node, columns::SYMBOL);
 }
 
 // The nodes of the tree at a node after so many others; how many there are then. A node's own cells are known once its first operand has its numbers.

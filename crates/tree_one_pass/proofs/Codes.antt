@@ -13,8 +13,8 @@ use Rattle.laws.proofs.Choice.{and-true, true-of}
 use Rattle.laws.proofs.Each.{all-at}
 use Rattle.tree_places.specs.declared.place.Place.{Place}
 use Rattle.tree_places.specs.declared.place.Place.the-variants.{Nothing, Required, Optional, List as ListOf, Item, Next}
-use Rattle.tree.specs.Forms.{classOf, highestAttributes, highestDetail, allowed}
-use Rattle.tree.specs.Table.{formAt, attributesAt, detailAt}
+use Rattle.tree.specs.Forms.{classOf, highestAttributes, highestDetail, highestSymbol, allowed}
+use Rattle.tree.specs.Table.{formAt, attributesAt, detailAt, symbolAt}
 use Rattle.tree_places.specs.Places.{firstPlaces, firstPlace, secondPlaces, secondPlace}
 use Rattle.tree_rules.specs.Refusals.{badNumbers, empty, badOutput}
 use Rattle.tree_one_pass.specs.Rows.{codeIs, fitsBy, codeBy, suits, RowAt}
@@ -162,14 +162,16 @@ pub some-row : (row : ℕ) → (row % 4 ≡ 0 → ⊥) → row ≡ 0 → ⊥
 some-row row n e = n (omega arith)
 
 -- what `mark_at` has found
-module _ (cells : List ℕ) (i one row attributes detail : ℕ) (ea : attributes ≡ attributesAt cells i) (ed : detail ≡ detailAt cells i) (at : RowAt cells i row)
+module _ (cells : List ℕ) (i one row attributes detail : ℕ) (ea : attributes ≡ attributesAt cells i) (ed : detail ≡ detailAt cells i)
+    (named : leb (symbolAt cells i) (highestSymbol (formAt cells i) (detailAt cells i)) ≡ true) (at : RowAt cells i row)
     (opens : Opens row attributes detail one) where
   own : Says (formAt cells i) (detailAt cells i) row
   own = says (formAt cells i) (detailAt cells i) row (at .0)
 
   numbers : badNumbers cells i ≡ false
   unfolding badNumbers allowed
-  numbers = rw (← own .class, ← own .attributes, ← own .details, ne-eqb _ _ (own .some), ← ea, ← ed, le-leb _ _ (opens .0), le-leb _ _ (opens .1))
+  numbers =
+      rw (named, ← own .class, ← own .attributes, ← own .details, ne-eqb _ _ (own .some), ← ea, ← ed, le-leb _ _ (opens .0), le-leb _ _ (opens .1))
 
   first : Fits (firstPlace (formAt cells i) (detailAt cells i)) (one % 8) (one % 8)
   first = fits-place (row / 16 % 8) (one % 8) (opens .2) (firstPlace (formAt cells i) (detailAt cells i)) (one % 8) (own .first)

@@ -9,6 +9,7 @@ use rows::rare_row;
 use rows::row_of;
 use tree::offsets;
 use tree::sizes;
+use tree_labels::form::is_symbol_allowed;
 use tree_rules::refusal::is_bad_count;
 ghost use mathlib.Core.Path.{_≡_};
 ghost use mathlib.Core.Bool.{true};
@@ -27,6 +28,9 @@ fn mark_at(table: &[u16], node: u16, one: u16, two: u16) -> u16
     let form = table[at];
     let attributes = table[at + offsets::ATTRIBUTES];
     let detail = table[at + offsets::DETAIL];
+    if !is_symbol_allowed(form, detail, table[at + offsets::SYMBOL]) {
+        return 0;
+    }
     let mark = mark_with(row_of(form), attributes, detail, one, two);
     if mark != 0 {
         return mark;

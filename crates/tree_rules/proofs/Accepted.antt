@@ -17,7 +17,7 @@ use Rattle.tree.specs.Sizes.{nodeCells, mostNodes, mostLevels}
 use Rattle.tree_places.specs.declared.place.Place.{Place}
 use Rattle.tree_places.specs.declared.place.Place.the-variants.{Nothing, Required, Optional, List as ListOf, Item, Next}
 use Rattle.tree.specs.Forms.{ExprBlock, ExprClosure, anExpression, aType, aLink, allowed}
-use Rattle.tree.specs.Table.{cellAt, formAt, attributesAt, detailAt, firstAt, secondAt, classAt, firstColumn, secondColumn}
+use Rattle.tree.specs.Table.{cellAt, formAt, attributesAt, detailAt, firstAt, secondAt, symbolAt, classAt, firstColumn, secondColumn}
 use Rattle.tree.specs.Trees.{operandOf, operandAt, treeAt, levels}
 use Rattle.tree_places.specs.Places.{firstPlace, secondPlace, wrongClass, wrongList, wrongItem, wrongNext, wrongAt, badOperands}
 use Rattle.tree_places.specs.Steps.{isRequired, wrongPresent}
@@ -132,7 +132,7 @@ module _ (context count : ℕ) (cells : List ℕ) (ok : Accepted context count c
   levels-bound = ltb-false mostLevels (levels (treeAt cells count 1)) (passes context count cells ok .not11)
 
   module _ (i : ℕ) (low : 1 ≤ i) (high : i ≤ count) where
-    pub numbers-allowed : allowed (formAt cells i) (attributesAt cells i) (detailAt cells i) ≡ true
+    pub numbers-allowed : allowed (formAt cells i) (attributesAt cells i) (detailAt cells i) (symbolAt cells i) ≡ true
     unfolding refusal6 badNumbers
     numbers-allowed = not-false _ (some-none (badNumbers cells) count (passes context count cells ok .not6) i low high)
 

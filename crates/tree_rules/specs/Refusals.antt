@@ -9,7 +9,7 @@ use Rattle.laws.specs.Choice.{pick, isOneOf}
 use Rattle.laws.specs.Each.{some}
 use Rattle.tree.specs.Sizes.{nodeCells, mostNodes, mostLevels}
 use Rattle.tree.specs.Forms.{ExprBlock, ExprClosure, TypeImplTrait, TypePath, TypeTraitObject, anExpression, allowed}
-use Rattle.tree.specs.Table.{formAt, attributesAt, detailAt, firstAt, secondAt, classAt}
+use Rattle.tree.specs.Table.{formAt, attributesAt, detailAt, firstAt, secondAt, symbolAt, classAt}
 use Rattle.tree.specs.Trees.{treeAt, levels}
 use Rattle.tree_places.specs.Places.{badOperands}
 
@@ -21,9 +21,9 @@ refusal3 context = ltb 3 context
 unfoldable pub refusal4 : ℕ → ℕ → Bool
 refusal4 count cells = eqb count 0 || (ltb mostNodes count || ltb cells (nodeCells * count))
 
--- 6. "A form, attribute or detail number is not allowed below."
+-- 6. "A form, attribute or detail number is not allowed below." Document 02, Paper 4: "A symbol that is not 0 on another form falls under refusal 6"
 unfoldable pub badNumbers : List ℕ → ℕ → Bool
-badNumbers cells i = not (allowed (formAt cells i) (attributesAt cells i) (detailAt cells i))
+badNumbers cells i = not (allowed (formAt cells i) (attributesAt cells i) (detailAt cells i) (symbolAt cells i))
 
 unfoldable pub refusal6 : List ℕ → ℕ → Bool
 refusal6 cells count = some (badNumbers cells) count

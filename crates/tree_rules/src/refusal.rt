@@ -56,6 +56,7 @@ fn has_bad_numbers(table: &[u16], node: u16) -> bool
         cell(table, node, columns::FORM),
         cell(table, node, columns::ATTRIBUTES),
         cell(table, node, columns::DETAIL),
+        cell(table, node, columns::SYMBOL),
     )
 }
 

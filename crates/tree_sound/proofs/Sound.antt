@@ -51,7 +51,7 @@ emptyLabel l = isOneOf (TypeImplTrait ∷ TypePath ∷ TypeTraitObject ∷ []) (
 
 -- 6
 unfoldable pub badLabel : Label → Bool
-badLabel l = not (allowed (l .form) (l .attributes) (l .detail))
+badLabel l = not (allowed (l .form) (l .attributes) (l .detail) (l .symbol))
 
 -- 10
 abbrev pub isPlainBlock : Tree → Bool

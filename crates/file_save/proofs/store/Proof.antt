@@ -1,7 +1,7 @@
 -- `file_save::store` meets its contract. Assumes nothing.
 use mathlib.Core.Path.{sym, _∙_}
 use native.Mathlib.Omega.{arith}
-use Rattle.file_save.proofs.Putting.{whole, whole-long, whole-most, room-first, put-whole, no-room, has-room}
+use Rattle.file_save.proofs.Putting.{whole, whole-long, whole-few, room-first, put-whole, no-room, has-room}
 use borrow.Author.Needs.{needs}
 use Rattle.file_save.proofs.store.Statement.{statement}
 use Rattle.file_save.proofs.store.Tie as tie
@@ -29,9 +29,8 @@ put-all-requires c κs =
 
 cast-t16 : tie.Need-cast-t16
 cast-t16 c =
-    let m = whole-most (c .before .before .before .before .before .before .before .before .before .before .before .before .before .before .before .before .args .context) (c .before .before .before .before .before .before .before .before .before .before .before .before .before .before .before .before .args .count) (c .before .before .before .before .before .before .before .before .before .before .before .before .before .before .before .before .args .numbers .now) in
+    let m = whole-few (c .before .before .before .before .before .before .before .before .before .before .before .before .before .before .before .before .args .context) (c .before .before .before .before .before .before .before .before .before .before .before .before .before .before .before .before .args .count) (c .before .before .before .before .before .before .before .before .before .before .before .before .before .before .before .before .args .numbers .now) (c .before .before .before .before .before .before .before .before .before .before .before .before .before .before .before .before .pre .1) in
     let l = whole-long (c .before .before .before .before .before .before .before .before .before .before .before .before .before .before .before .before .args .context) (c .before .before .before .before .before .before .before .before .before .before .before .before .before .before .before .before .args .count) (c .before .before .before .before .before .before .before .before .before .before .before .before .before .before .before .before .args .numbers .now) in
-    let h = c .before .before .before .before .before .before .before .before .before .before .before .before .before .before .before .before .pre in
     let p = c .before .before .before .before .before .before .before .before .before .before .put .ensures in
     let q = c .before .before .before .before .before .before .put2 .ensures in
     let r = c .before .before .put-all .ensures in

@@ -13,7 +13,7 @@ use Rattle.tree_rules.proofs.Accepted.{count-bounds}
 use Rattle.token_writer.specs.Writes.{written}
 use Rattle.token_writer.proofs.Bounds.{tokens-bound}
 use Rattle.token_writer.proofs.Replies.{take-zeros, length-zeros, refused, short, in-context, not-plain, done}
-use Rattle.token_writer.proofs.Tokens.{length-codes}
+use Rattle.token_writer.proofs.Tokens.{length-cells}
 use Rattle.token_writer.proofs.write.Statement.{statement}
 use Rattle.token_writer.proofs.write.Tie as tie
 
@@ -72,14 +72,14 @@ write-plain-requires c κs =
     let fits = c .before .before .before .before .before .before .if2 .left in
     let most = tokens-bound (a .context) (a .count) (a .table .now) ok in
     let bounds = count-bounds (a .context) (a .count) (a .table .now) ok in
-    (take-zeros (rowCells * a .count) (rowCells * mostNodes) (times rowCells (a .count) (bounds .1)), take-zeros (scratchCells * a .count) (scratchCells * mostNodes) (times scratchCells (a .count) (bounds .1)), le-trans (most .0) fits)
+    (take-zeros (rowCells * a .count) (rowCells * mostNodes) (times rowCells (a .count) (bounds .1)), take-zeros (scratchCells * a .count) (scratchCells * mostNodes) (times scratchCells (a .count) (bounds .1)), omega (arith, most .0))
 
 cast-t22 : tie.Need-cast-t22
 cast-t22 c =
     let a = c .before .before .before .before .before .before .before .before .before .before .before .before .before .before .before .before .args in
     let ok = sym (c .before .before .before .before .before .before .before .before .before .before .before .before .before .check .ensures) ∙ c .before .before .before .before .before .before .before .before .before .before .before .before .if1 .left in
     let most = tokens-bound (a .context) (a .count) (a .table .now) ok in
-    let l = length-codes (written (a .count) (a .table .now)) in
+    let l = length-cells (written (a .count) (a .table .now)) in
     omega (arith, c .before .before .before .before .write-plain .ensures .ends)
 
 returns-5 : tie.Need-returns-5
@@ -90,7 +90,7 @@ returns-5 c =
     let none = c .before .before .before .before .before .before .before .before .before .before .if3 .left in
     let plain = not-false _ (ap not (sym (c .before .before .before .before .before .before .before .before .before .is-plain-table .ensures)) ∙ c .before .before .before .before .before .before .before .before .if4 .left) in
     let most = tokens-bound (a .context) (a .count) (a .table .now) ok in
-    done (a .context) (a .count) (a .table .now) (a .tokens .now) ok fits none plain _ _ (le-trans (most .0) fits) (c .before .before .before .before .write-plain .ensures)
+    done (a .context) (a .count) (a .table .now) (a .tokens .now) ok fits none plain _ _ (omega (arith, most .0)) (c .before .before .before .before .write-plain .ensures)
 
 pub write-spec : {M : Type 1} → statement M
 write-spec =

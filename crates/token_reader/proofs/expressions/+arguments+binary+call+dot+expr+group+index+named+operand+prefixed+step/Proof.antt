@@ -10,14 +10,16 @@ use Rattle.laws.proofs.Keys.{arm, rest}
 use Rattle.laws.proofs.Calls.{free, given-at, given-below}
 use Rattle.token_grammar.specs.Tokens.{Sub, Mul, BitAnd, number, Bang, AndMut, As, Name, Literal, Dot, LeftParen, RightParen, LeftBracket, RightBracket, Comma, Question, NumberedMember, Await, code}
 use Rattle.token_grammar.specs.Expressions.{path, literal, neg, deref, invert, ref, refMut, byNumber, awaited}
+use Rattle.token_grammar.specs.Codes.{tokenSymbolAt}
 use Rattle.token_grammar.specs.Parser.{noStart, startLines, startBy, noMember, afterDotLines, afterDotBy}
 use Rattle.token_reader.specs.Tables.{goesOnWith}
+use Rattle.token_reader.specs.Pieces.{many}
 use Rattle.token_reader.proofs.First.{there}
 use Rattle.token_reader.proofs.Lists.{closed-there, comma-there}
 use Rattle.token_reader.proofs.Tables.{level-most, after-least, formCodes, no-form}
 use Rattle.token_reader.proofs.Tells.{ready-on, ready-grew, stores, stores-more}
 use Rattle.token_reader.proofs.ExprEnds.{operand-atom, operand-prefixed, operand-group, operand-none, prefixed-none, prefixed-stored, group-none, group-closed, goes-inside, Under, under-start, under-ready, under-past, under-step, under-end, step-less}
-use Rattle.token_reader.proofs.ExprEnds.{step-binary, step-cast, step-dot, step-call, step-index, step-try, step-none, binary-none, binary-stored, index-none, index-stored, dot-named, dot-member, dot-none, named-member, named-call}
+use Rattle.token_reader.proofs.ExprEnds.{step-binary, step-cast, step-dot, step-call, step-index, step-try, step-none, binary-none, binary-stored, index-none, index-stored, dot-named, dot-member, dot-await, dot-none, named-member, named-call}
 use Rattle.token_reader.proofs.ExprEnds.{call-empty, call-none, call-stored, arguments-last, arguments-none, arguments-more-none, arguments-more}
 use borrow.Fn.PlainCycle.{Measures}
 use Rattle.token_reader.proofs.expressions.arguments.Reads as arguments
@@ -62,6 +64,7 @@ use Rattle.token_reader.proofs.node.store.Reads as store-reads
 use Rattle.token_reader.proofs.piece.no_expr.Reads as no-expr-reads
 use Rattle.token_reader.proofs.piece.no_piece.Reads as no-piece-reads
 use Rattle.token_reader.proofs.token.code_at.Reads as code-at-reads
+use Rattle.token_reader.proofs.token.symbol_at.Reads as symbol-at-reads
 use Rattle.token_reader.proofs.token.past_comma.Reads as past-comma-reads
 use Rattle.token_follow.proofs.goes_on.Reads as goes-on-reads
 use Rattle.token_follow.proofs.level_of.Reads as level-of-reads
@@ -108,7 +111,7 @@ abbrev expr-Inv-loop : expr-lts.InvT-loop
 expr-Inv-loop tokens own₀ at free min left₀ own left = (length own ≡ length own₀) × Under tokens own₀ own min left₀ left
 
 abbrev expr-μ-loop : expr-lts.MeasureT-loop
-expr-μ-loop tokens own₀ at free min left₀ own left = length tokens + 1 - left .at
+expr-μ-loop tokens own₀ at free min left₀ own left = many tokens + 1 - left .at
 
 -- what the callees ask and ensure
 abbrev arguments-claims : ℕ → arguments-lts.Claims
@@ -133,7 +136,7 @@ abbrev index-claims : ℕ → index-lts.Claims
 index-claims t = (given-below 2 expr-kinds.ps μ-expr expr.Pre t, expr.Post, code-at-reads.Asked, code-at-reads.Learnt, no-expr-reads.Asked, no-expr-reads.Learnt, store-reads.Asked, store-reads.Learnt, strongest-reads.Asked, strongest-reads.Learnt)
 
 abbrev named-claims : ℕ → named-lts.Claims
-named-claims t = (code-at-reads.Asked, code-at-reads.Learnt, member-reads.Asked, member-reads.Learnt, given-below 2 call-kinds.ps μ-call call.Pre t, call.Post)
+named-claims t = (code-at-reads.Asked, code-at-reads.Learnt, member-reads.Asked, member-reads.Learnt, symbol-at-reads.Asked, symbol-at-reads.Learnt, given-below 2 call-kinds.ps μ-call call.Pre t, call.Post)
 
 abbrev operand-claims : ℕ → operand-lts.Claims
 operand-claims t = (code-at-reads.Asked, code-at-reads.Learnt, given-below 2 prefixed-kinds.ps μ-prefixed prefixed.Pre t, prefixed.Post, atom-reads.Asked, atom-reads.Learnt, given-below 2 group-kinds.ps μ-group group.Pre t, group.Post, no-expr-reads.Asked, no-expr-reads.Learnt)
@@ -228,16 +231,16 @@ pub +arguments+binary+call+dot+expr+group+index+named+operand+prefixed+step-spec
     free (λ c. search needs)
     (λ c. call-stored (c .before .before .before .before .before .before .before .before .before .before .before .before .before .before .before .before .pre .1 .0) (c .before .before .before .before .before .before .before .before .before .before .before .before .before .before .before .before .pre .1 .1) _ (λ e. c .before .before .before .before .before .before .before .before .before .before .before .before .if1 .left (c .before .before .before .before .before .before .before .before .before .before .before .before .before .code-at .ensures ∙ e)) (c .before .before .before .before .before .before .if2 .left) (c .before .before .before .before .before .before .before .before .before .before .arguments .ensures) (c .before .before .before .store2 .ensures) (c .strongest2 .ensures)))
     (λ t. dot-lts.spec (dot-claims t) (given-at 2 dot-kinds.ps μ-dot dot.Pre t) dot.Post (λ c. search needs) free
-    (λ c κs. let p = c .before .before .before .before .before .before .pre .0 in let h = there (c .before .before .before .before .before .before .args .tokens .now) (c .before .before .before .before .before .before .args .left .at + 1) (code Name) (sym (c .before .before .code-at .ensures) ∙ c .before .match .keys1) (omega arith) in (omega arith, (c .before .before .before .before .before .before .pre .1 .0, h)))
-    (λ c κs. (c .before .before .before .before .before .before .pre .1 .0, there (c .before .before .before .before .before .before .args .tokens .now) (c .before .before .before .before .before .before .args .left .at + 1) (code NumberedMember) (sym (c .before .before .code-at .ensures) ∙ c .before .match .keys2) (omega arith)))
+    (λ c κs. let p = c .before .before .before .before .before .before .pre .0 in let h = there (c .before .before .before .before .before .before .args .tokens .now) (c .before .before .before .before .before .before .args .left .at + 1) (code (Name 0)) (sym (c .before .before .code-at .ensures) ∙ c .before .match .keys1) (omega arith) in (omega arith, (c .before .before .before .before .before .before .pre .1 .0, h)))
+    (λ c κs. (c .before .before .before .before .before .before .pre .1 .0, there (c .before .before .before .before .before .before .args .tokens .now) (c .before .before .before .before .before .before .args .left .at + 1) (code (NumberedMember 0)) (sym (c .before .before .code-at .ensures) ∙ c .before .match .keys2) (omega arith)))
     (λ c κs. (c .before .before .before .before .before .before .pre .1 .0, there (c .before .before .before .before .before .before .args .tokens .now) (c .before .before .before .before .before .before .args .left .at + 1) (code Await) (sym (c .before .before .code-at .ensures) ∙ c .before .match .keys3) (omega arith)))
     free (λ c. search needs)
-    (λ c. dot-named _ (c .before .before .before .before .before .before .before .before .before .pre .1 .0) (sym (ap afterDotBy (c .before .before .before .before .before .code-at .ensures)) ∙ arm afterDotLines noMember _ 0 tt (c .before .before .before .before .match .keys1)) (c .before .before .named .ensures))
+    (λ c. dot-named _ (c .before .before .before .before .before .before .before .before .before .pre .1 .0) (sym (ap (λ n. afterDotBy n (tokenSymbolAt (c .before .before .before .before .before .before .before .before .before .args .tokens .now) (c .before .before .before .before .before .before .before .before .before .args .left .at + 1))) (c .before .before .before .before .before .code-at .ensures)) ∙ arm (afterDotLines (tokenSymbolAt (c .before .before .before .before .before .before .before .before .before .args .tokens .now) (c .before .before .before .before .before .before .before .before .before .args .left .at + 1))) noMember _ 0 tt (c .before .before .before .before .match .keys1)) (c .before .before .named .ensures))
     (λ c. search needs)
-    (λ c. dot-member _ (c .before .before .before .before .before .before .before .before .before .pre .1 .0) byNumber refl (sym (ap afterDotBy (c .before .before .before .before .before .code-at .ensures)) ∙ arm afterDotLines noMember _ 1 tt (c .before .before .before .before .match .keys2)) refl (c .before .before .member .ensures))
+    (λ c. dot-member _ (c .before .before .before .before .before .before .before .before .before .pre .1 .0) (byNumber _) refl (sym (ap (λ n. afterDotBy n (tokenSymbolAt (c .before .before .before .before .before .before .before .before .before .args .tokens .now) (c .before .before .before .before .before .before .before .before .before .args .left .at + 1))) (c .before .before .before .before .before .code-at .ensures)) ∙ arm (afterDotLines (tokenSymbolAt (c .before .before .before .before .before .before .before .before .before .args .tokens .now) (c .before .before .before .before .before .before .before .before .before .args .left .at + 1))) noMember _ 1 tt (c .before .before .before .before .match .keys2)) refl (c .before .before .member .ensures))
     (λ c. search needs)
-    (λ c. dot-member _ (c .before .before .before .before .before .before .before .before .before .pre .1 .0) awaited refl (sym (ap afterDotBy (c .before .before .before .before .before .code-at .ensures)) ∙ arm afterDotLines noMember _ 2 tt (c .before .before .before .before .match .keys3)) refl (c .before .before .member2 .ensures))
-    (λ c. dot-none _ (c .before .before .before .before .before .before .pre .1 .0) (sym (ap afterDotBy (c .before .before .code-at .ensures)) ∙ rest afterDotLines noMember _ (c .before .match .rest)) (c .no-expr .ensures)))
+    (λ c. dot-await _ (c .before .before .before .before .before .before .before .before .before .pre .1 .0) (sym (c .before .before .before .before .before .code-at .ensures) ∙ c .before .before .before .before .match .keys3) (sym (ap (λ n. afterDotBy n (tokenSymbolAt (c .before .before .before .before .before .before .before .before .before .args .tokens .now) (c .before .before .before .before .before .before .before .before .before .args .left .at + 1))) (c .before .before .before .before .before .code-at .ensures)) ∙ arm (afterDotLines (tokenSymbolAt (c .before .before .before .before .before .before .before .before .before .args .tokens .now) (c .before .before .before .before .before .before .before .before .before .args .left .at + 1))) noMember _ 2 tt (c .before .before .before .before .match .keys3)) (c .before .before .member2 .ensures))
+    (λ c. dot-none _ (c .before .before .before .before .before .before .pre .1 .0) (sym (ap (λ n. afterDotBy n (tokenSymbolAt (c .before .before .before .before .before .before .args .tokens .now) (c .before .before .before .before .before .before .args .left .at + 1))) (c .before .before .code-at .ensures)) ∙ rest (afterDotLines (tokenSymbolAt (c .before .before .before .before .before .before .args .tokens .now) (c .before .before .before .before .before .before .args .left .at + 1))) noMember _ (c .before .match .rest)) (c .no-expr .ensures)))
     (λ t. expr-lts.spec (expr-claims t) (given-at 2 expr-kinds.ps μ-expr expr.Pre t) expr.Post expr-Inv-loop expr-μ-loop
     (λ c κs. let p = c .before .before .before .pre .0 in (omega arith, c .before .before .before .pre .1 .0))
     (λ c. (refl, under-start _ _ _ _)) free free (expr-step-requires t)
@@ -264,36 +267,37 @@ pub +arguments+binary+call+dot+expr+group+index+named+operand+prefixed+step-spec
     (λ t. named-lts.spec (named-claims t) (given-at 2 named-kinds.ps μ-named named.Pre t) named.Post (λ c. search needs)
     free (λ c κs. search needs) (λ c. search needs)
     (λ c. named-member _ (c .before .before .before .before .before .before .before .before .before .pre .1 .0) (λ e. c .before .before .before .before .if1 .taken (c .before .before .before .before .before .code-at .ensures ∙ e)) refl (c .before .before .member .ensures))
+    (λ c. search needs) free
     (λ c. search needs)
-    (λ c κs. let p = c .before .before .before .before .before .before .before .pre .0 in let h = there (c .before .before .before .before .before .before .before .args .tokens .now) (c .before .before .before .before .before .before .before .args .left .at + 2) (code LeftParen) (sym (c .before .before .before .code-at .ensures) ∙ c .before .before .if1 .left) (omega arith) in (omega arith, (ready-on _ (omega arith) (omega arith) (c .before .before .before .before .before .before .before .pre .1 .0), h)))
+    (λ c κs. let p = c .before .before .before .before .before .before .before .before .before .pre .0 in let h = there (c .before .before .before .before .before .before .before .before .before .args .tokens .now) (c .before .before .before .before .before .before .before .before .before .args .left .at + 2) (code LeftParen) (sym (c .before .before .before .before .before .code-at .ensures) ∙ c .before .before .before .before .if1 .left) (omega arith) in (omega arith, (ready-on _ (omega arith) (omega arith) (c .before .before .before .before .before .before .before .before .before .pre .1 .0), h)))
     (λ c. search needs)
-    (λ c. named-call _ (c .before .before .before .before .before .before .before .before .before .before .pre .1 .0) (sym (c .before .before .before .before .before .before .code-at .ensures) ∙ c .before .before .before .before .before .if1 .left) (c .before .before .call .ensures)))
+    (λ c. named-call _ (c .before .before .before .before .before .before .before .before .before .before .before .before .pre .1 .0) (c .before .before .before .before .before .symbol-at .ensures) (sym (c .before .before .before .before .before .before .before .before .code-at .ensures) ∙ c .before .before .before .before .before .before .before .if1 .left) (c .before .before .call .ensures)))
     (λ t. operand-lts.spec (operand-claims t) (given-at 2 operand-kinds.ps μ-operand operand.Pre t) operand.Post free
     (λ c κs. let p = c .before .before .before .before .before .pre .0 in let h = there (c .before .before .before .before .before .args .tokens .now) (c .before .before .before .before .before .args .at) (number Sub) (sym (c .before .before .code-at .ensures) ∙ c .before .match .keys1) (omega arith) in (omega arith, (c .before .before .before .before .before .pre .1, h)))
     (λ c κs. let p = c .before .before .before .before .before .pre .0 in let h = there (c .before .before .before .before .before .args .tokens .now) (c .before .before .before .before .before .args .at) (number Mul) (sym (c .before .before .code-at .ensures) ∙ c .before .match .keys2) (omega arith) in (omega arith, (c .before .before .before .before .before .pre .1, h)))
     (λ c κs. let p = c .before .before .before .before .before .pre .0 in let h = there (c .before .before .before .before .before .args .tokens .now) (c .before .before .before .before .before .args .at) (number BitAnd) (sym (c .before .before .code-at .ensures) ∙ c .before .match .keys3) (omega arith) in (omega arith, (c .before .before .before .before .before .pre .1, h)))
     (λ c κs. let p = c .before .before .before .before .before .pre .0 in let h = there (c .before .before .before .before .before .args .tokens .now) (c .before .before .before .before .before .args .at) (code Bang) (sym (c .before .before .code-at .ensures) ∙ c .before .match .keys4) (omega arith) in (omega arith, (c .before .before .before .before .before .pre .1, h)))
     (λ c κs. let p = c .before .before .before .before .before .pre .0 in let h = there (c .before .before .before .before .before .args .tokens .now) (c .before .before .before .before .before .args .at) (code AndMut) (sym (c .before .before .code-at .ensures) ∙ c .before .match .keys5) (omega arith) in (omega arith, (c .before .before .before .before .before .pre .1, h)))
-    (λ c κs. (c .before .before .before .before .before .pre .1, there (c .before .before .before .before .before .args .tokens .now) (c .before .before .before .before .before .args .at) (code Name) (sym (c .before .before .code-at .ensures) ∙ c .before .match .keys6) (omega arith)))
-    (λ c κs. (c .before .before .before .before .before .pre .1, there (c .before .before .before .before .before .args .tokens .now) (c .before .before .before .before .before .args .at) (code Literal) (sym (c .before .before .code-at .ensures) ∙ c .before .match .keys7) (omega arith)))
+    (λ c κs. (c .before .before .before .before .before .pre .1, there (c .before .before .before .before .before .args .tokens .now) (c .before .before .before .before .before .args .at) (code (Name 0)) (sym (c .before .before .code-at .ensures) ∙ c .before .match .keys6) (omega arith)))
+    (λ c κs. (c .before .before .before .before .before .pre .1, there (c .before .before .before .before .before .args .tokens .now) (c .before .before .before .before .before .args .at) (code (Literal 0)) (sym (c .before .before .code-at .ensures) ∙ c .before .match .keys7) (omega arith)))
     (λ c κs. let p = c .before .before .before .before .before .pre .0 in let h = there (c .before .before .before .before .before .args .tokens .now) (c .before .before .before .before .before .args .at) (code LeftParen) (sym (c .before .before .code-at .ensures) ∙ c .before .match .keys8) (omega arith) in (omega arith, (c .before .before .before .before .before .pre .1, h)))
     free (λ c. search needs)
-    (λ c. operand-prefixed (c .before .before .before .before .before .before .before .before .pre .1) neg (sym (ap startBy (c .before .before .before .before .before .code-at .ensures)) ∙ arm startLines noStart _ 0 tt (c .before .before .before .before .match .keys1)) refl (c .before .before .prefixed .ensures))
+    (λ c. operand-prefixed (c .before .before .before .before .before .before .before .before .pre .1) neg (sym (ap (λ n. startBy n (tokenSymbolAt (c .before .before .before .before .before .before .before .before .args .tokens .now) (c .before .before .before .before .before .before .before .before .args .at))) (c .before .before .before .before .before .code-at .ensures)) ∙ arm (startLines (tokenSymbolAt (c .before .before .before .before .before .before .before .before .args .tokens .now) (c .before .before .before .before .before .before .before .before .args .at))) noStart _ 0 tt (c .before .before .before .before .match .keys1)) refl (c .before .before .prefixed .ensures))
     (λ c. search needs)
-    (λ c. operand-prefixed (c .before .before .before .before .before .before .before .before .pre .1) deref (sym (ap startBy (c .before .before .before .before .before .code-at .ensures)) ∙ arm startLines noStart _ 1 tt (c .before .before .before .before .match .keys2)) refl (c .before .before .prefixed2 .ensures))
+    (λ c. operand-prefixed (c .before .before .before .before .before .before .before .before .pre .1) deref (sym (ap (λ n. startBy n (tokenSymbolAt (c .before .before .before .before .before .before .before .before .args .tokens .now) (c .before .before .before .before .before .before .before .before .args .at))) (c .before .before .before .before .before .code-at .ensures)) ∙ arm (startLines (tokenSymbolAt (c .before .before .before .before .before .before .before .before .args .tokens .now) (c .before .before .before .before .before .before .before .before .args .at))) noStart _ 1 tt (c .before .before .before .before .match .keys2)) refl (c .before .before .prefixed2 .ensures))
     (λ c. search needs)
-    (λ c. operand-prefixed (c .before .before .before .before .before .before .before .before .pre .1) ref (sym (ap startBy (c .before .before .before .before .before .code-at .ensures)) ∙ arm startLines noStart _ 2 tt (c .before .before .before .before .match .keys3)) refl (c .before .before .prefixed3 .ensures))
+    (λ c. operand-prefixed (c .before .before .before .before .before .before .before .before .pre .1) ref (sym (ap (λ n. startBy n (tokenSymbolAt (c .before .before .before .before .before .before .before .before .args .tokens .now) (c .before .before .before .before .before .before .before .before .args .at))) (c .before .before .before .before .before .code-at .ensures)) ∙ arm (startLines (tokenSymbolAt (c .before .before .before .before .before .before .before .before .args .tokens .now) (c .before .before .before .before .before .before .before .before .args .at))) noStart _ 2 tt (c .before .before .before .before .match .keys3)) refl (c .before .before .prefixed3 .ensures))
     (λ c. search needs)
-    (λ c. operand-prefixed (c .before .before .before .before .before .before .before .before .pre .1) invert (sym (ap startBy (c .before .before .before .before .before .code-at .ensures)) ∙ arm startLines noStart _ 3 tt (c .before .before .before .before .match .keys4)) refl (c .before .before .prefixed4 .ensures))
+    (λ c. operand-prefixed (c .before .before .before .before .before .before .before .before .pre .1) invert (sym (ap (λ n. startBy n (tokenSymbolAt (c .before .before .before .before .before .before .before .before .args .tokens .now) (c .before .before .before .before .before .before .before .before .args .at))) (c .before .before .before .before .before .code-at .ensures)) ∙ arm (startLines (tokenSymbolAt (c .before .before .before .before .before .before .before .before .args .tokens .now) (c .before .before .before .before .before .before .before .before .args .at))) noStart _ 3 tt (c .before .before .before .before .match .keys4)) refl (c .before .before .prefixed4 .ensures))
     (λ c. search needs)
-    (λ c. operand-prefixed (c .before .before .before .before .before .before .before .before .pre .1) refMut (sym (ap startBy (c .before .before .before .before .before .code-at .ensures)) ∙ arm startLines noStart _ 4 tt (c .before .before .before .before .match .keys5)) refl (c .before .before .prefixed5 .ensures))
+    (λ c. operand-prefixed (c .before .before .before .before .before .before .before .before .pre .1) refMut (sym (ap (λ n. startBy n (tokenSymbolAt (c .before .before .before .before .before .before .before .before .args .tokens .now) (c .before .before .before .before .before .before .before .before .args .at))) (c .before .before .before .before .before .code-at .ensures)) ∙ arm (startLines (tokenSymbolAt (c .before .before .before .before .before .before .before .before .args .tokens .now) (c .before .before .before .before .before .before .before .before .args .at))) noStart _ 4 tt (c .before .before .before .before .match .keys5)) refl (c .before .before .prefixed5 .ensures))
     (λ c. search needs)
-    (λ c. operand-atom (c .before .before .before .before .before .before .before .before .pre .1) path (sym (ap startBy (c .before .before .before .before .before .code-at .ensures)) ∙ arm startLines noStart _ 5 tt (c .before .before .before .before .match .keys6)) refl (c .before .before .atom .ensures))
+    (λ c. operand-atom (c .before .before .before .before .before .before .before .before .pre .1) (path _) (sym (ap (λ n. startBy n (tokenSymbolAt (c .before .before .before .before .before .before .before .before .args .tokens .now) (c .before .before .before .before .before .before .before .before .args .at))) (c .before .before .before .before .before .code-at .ensures)) ∙ arm (startLines (tokenSymbolAt (c .before .before .before .before .before .before .before .before .args .tokens .now) (c .before .before .before .before .before .before .before .before .args .at))) noStart _ 5 tt (c .before .before .before .before .match .keys6)) refl (c .before .before .atom .ensures))
     (λ c. search needs)
-    (λ c. operand-atom (c .before .before .before .before .before .before .before .before .pre .1) literal (sym (ap startBy (c .before .before .before .before .before .code-at .ensures)) ∙ arm startLines noStart _ 6 tt (c .before .before .before .before .match .keys7)) refl (c .before .before .atom2 .ensures))
+    (λ c. operand-atom (c .before .before .before .before .before .before .before .before .pre .1) (literal _) (sym (ap (λ n. startBy n (tokenSymbolAt (c .before .before .before .before .before .before .before .before .args .tokens .now) (c .before .before .before .before .before .before .before .before .args .at))) (c .before .before .before .before .before .code-at .ensures)) ∙ arm (startLines (tokenSymbolAt (c .before .before .before .before .before .before .before .before .args .tokens .now) (c .before .before .before .before .before .before .before .before .args .at))) noStart _ 6 tt (c .before .before .before .before .match .keys7)) refl (c .before .before .atom2 .ensures))
     (λ c. search needs)
-    (λ c. operand-group (c .before .before .before .before .before .before .before .before .pre .1) (sym (ap startBy (c .before .before .before .before .before .code-at .ensures)) ∙ arm startLines noStart _ 7 tt (c .before .before .before .before .match .keys8)) (c .before .before .group .ensures))
-    (λ c. operand-none (c .before .before .before .before .before .pre .1) (sym (ap startBy (c .before .before .code-at .ensures)) ∙ rest startLines noStart _ (c .before .match .rest)) (c .no-expr .ensures)))
+    (λ c. operand-group (c .before .before .before .before .before .before .before .before .pre .1) (sym (ap (λ n. startBy n (tokenSymbolAt (c .before .before .before .before .before .before .before .before .args .tokens .now) (c .before .before .before .before .before .before .before .before .args .at))) (c .before .before .before .before .before .code-at .ensures)) ∙ arm (startLines (tokenSymbolAt (c .before .before .before .before .before .before .before .before .args .tokens .now) (c .before .before .before .before .before .before .before .before .args .at))) noStart _ 7 tt (c .before .before .before .before .match .keys8)) (c .before .before .group .ensures))
+    (λ c. operand-none (c .before .before .before .before .before .pre .1) (sym (ap (λ n. startBy n (tokenSymbolAt (c .before .before .before .before .before .args .tokens .now) (c .before .before .before .before .before .args .at))) (c .before .before .code-at .ensures)) ∙ rest (startLines (tokenSymbolAt (c .before .before .before .before .before .args .tokens .now) (c .before .before .before .before .before .args .at))) noStart _ (c .before .match .rest)) (c .no-expr .ensures)))
     (λ t. prefixed-lts.spec (prefixed-claims t) (given-at 2 prefixed-kinds.ps μ-prefixed prefixed.Pre t) prefixed.Post
     (λ c. search needs)
     (λ c κs. let p = c .before .before .before .pre .0 in let h = c .before .before .before .pre .1 .1 in (omega arith, (ready-on _ (omega arith) (omega arith) (c .before .before .before .pre .1 .0), omega arith)))

@@ -7,6 +7,7 @@ use borrow.Author.Needs.{needs}
 use Rattle.laws.proofs.Keys.{arm, rest}
 use Rattle.laws.proofs.Calls.{free, given-at, given-below}
 use Rattle.token_grammar.specs.Tokens.{BitAnd, Lt, Gt, number, operator, Bang, AndMut, Name, Comma, StarConst, StarMut, Underscore, code}
+use Rattle.token_grammar.specs.Codes.{tokenSymbolAt}
 use Rattle.token_grammar.specs.Types.{constPtr, mutPtr, sharedRef, mutRef, infer, never}
 use Rattle.token_grammar.specs.Parser.{noType, typeStartLines, typeStartBy}
 use Rattle.token_reader.proofs.First.{there}
@@ -27,6 +28,7 @@ use Rattle.token_reader.proofs.types.types.Reads as types
 use Rattle.token_reader.proofs.types.types.Kinds as types-kinds
 use Rattle.token_reader.proofs.types.+path+pointing+ty+types.Lts-types as types-lts
 use Rattle.token_reader.proofs.node.store.Reads as store-reads
+use Rattle.token_reader.proofs.node.store_named.Reads as store-named-reads
 use Rattle.token_reader.proofs.piece.no_piece.Reads as no-piece-reads
 use Rattle.token_reader.proofs.token.code_at.Reads as code-at-reads
 use Rattle.token_reader.proofs.token.past_comma.Reads as past-comma-reads
@@ -48,7 +50,7 @@ abbrev μ-types : Measures 2 types-kinds.ps ℕ
 
 -- what the callees ask and ensure
 abbrev path-claims : ℕ → path-lts.Claims
-path-claims t = (code-at-reads.Asked, code-at-reads.Learnt, store-reads.Asked, store-reads.Learnt, given-below 2 types-kinds.ps μ-types types.Pre t, types.Post)
+path-claims t = (code-at-reads.Asked, code-at-reads.Learnt, store-named-reads.Asked, store-named-reads.Learnt, given-below 2 types-kinds.ps μ-types types.Pre t, types.Post)
 
 abbrev pointing-claims : ℕ → pointing-lts.Claims
 pointing-claims t = (given-below 2 ty-kinds.ps μ-ty ty.Pre t, ty.Post, store-reads.Asked, store-reads.Learnt)
@@ -66,11 +68,11 @@ pub +path+pointing+ty+types-spec : {M : Type 1} → statement M
     (λ c. search needs)
     (λ c κs. let r = c .before .before .before .before .before .pre .1 .0 in let h = c .before .before .before .before .before .pre .1 .1 in (omega (arith, r .room, r .short), omega (arith, r .cells, r .most)))
     (λ c. search needs)
-    (λ c. path-named (c .before .before .before .before .before .before .before .before .pre .1 .0) (c .before .before .before .before .before .before .before .before .pre .1 .1) (λ e. c .before .before .before .before .if1 .taken (c .before .before .before .before .before .code-at .ensures ∙ e)) (c .before .before .store .ensures))
+    (λ c. path-named (c .before .before .before .before .before .before .before .before .pre .1 .0) (c .before .before .before .before .before .before .before .before .pre .1 .1) (λ e. c .before .before .before .before .if1 .taken (c .before .before .before .before .before .code-at .ensures ∙ e)) (c .before .before .store-named .ensures))
     (λ c. search needs) free (λ c. search needs)
     (λ c κs. let r = c .before .before .before .before .before .before .before .pre .1 .0 in let h = c .before .before .before .before .before .before .before .pre .1 .1 in (omega (arith, r .room, r .short), omega (arith, r .cells, r .most)))
     (λ c. search needs)
-    (λ c. path-empty (c .before .before .before .before .before .before .before .before .before .before .pre .1 .0) (c .before .before .before .before .before .before .before .before .before .before .pre .1 .1) (sym (c .before .before .before .before .before .before .before .code-at .ensures) ∙ c .before .before .before .before .before .before .if1 .left) (sym (c .before .before .before .before .before .code-at2 .ensures) ∙ c .before .before .before .before .if2 .taken) (c .before .before .store2 .ensures))
+    (λ c. path-empty (c .before .before .before .before .before .before .before .before .before .before .pre .1 .0) (c .before .before .before .before .before .before .before .before .before .before .pre .1 .1) (sym (c .before .before .before .before .before .before .before .code-at .ensures) ∙ c .before .before .before .before .before .before .if1 .left) (sym (c .before .before .before .before .before .code-at2 .ensures) ∙ c .before .before .before .before .if2 .taken) (c .before .before .store-named2 .ensures))
     (λ c. search needs)
     (λ c κs. let p = c .before .before .before .before .before .before .before .pre .0 in let h = there (c .before .before .before .before .before .before .before .args .tokens .now) (c .before .before .before .before .before .before .before .args .at + 1) (number Lt) (sym (c .before .before .before .before .code-at .ensures) ∙ c .before .before .before .if1 .left) (omega arith) in (omega arith, ready-on _ (omega arith) (omega arith) (c .before .before .before .before .before .before .before .pre .1 .0)))
     (λ c. search needs)
@@ -78,7 +80,7 @@ pub +path+pointing+ty+types-spec : {M : Type 1} → statement M
     (λ c. let r = c .before .before .before .before .before .before .before .before .before .before .before .before .before .before .pre .1 .0 in let w = c .before .before .before .before .before .before .types .ensures .grew (c .before .before .if3 .left) in omega (arith, r .most, w .less))
     (λ c κs. stores (c .before .before .before .before .before .before .before .before .before .before .before .before .before .before .pre .1 .0) (c .before .before .before .before .before .before .types .ensures .grew (c .before .before .if3 .left)) (omega (arith, c .before .before .if3 .left)))
     (λ c. search needs)
-    (λ c. path-stored (c .before .before .before .before .before .before .before .before .before .before .before .before .before .before .before .before .before .pre .1 .0) _ (sym (c .before .before .before .before .before .before .before .before .before .before .before .before .before .before .code-at .ensures) ∙ c .before .before .before .before .before .before .before .before .before .before .before .before .before .if1 .left) (λ e. c .before .before .before .before .before .before .before .before .before .before .before .if2 .left (c .before .before .before .before .before .before .before .before .before .before .before .before .code-at2 .ensures ∙ e)) (c .before .before .before .before .before .if3 .left) (c .before .before .before .before .before .before .before .before .before .types .ensures) (c .before .before .store3 .ensures)))
+    (λ c. path-stored (c .before .before .before .before .before .before .before .before .before .before .before .before .before .before .before .before .before .pre .1 .0) _ (sym (c .before .before .before .before .before .before .before .before .before .before .before .before .before .before .code-at .ensures) ∙ c .before .before .before .before .before .before .before .before .before .before .before .before .before .if1 .left) (λ e. c .before .before .before .before .before .before .before .before .before .before .before .if2 .left (c .before .before .before .before .before .before .before .before .before .before .before .before .code-at2 .ensures ∙ e)) (c .before .before .before .before .before .if3 .left) (c .before .before .before .before .before .before .before .before .before .types .ensures) (c .before .before .store-named3 .ensures)))
     (λ t. pointing-lts.spec (pointing-claims t) (given-at 2 pointing-kinds.ps μ-pointing pointing.Pre t) pointing.Post
     (λ c. search needs)
     (λ c κs. let p = c .before .before .before .pre .0 in let h = c .before .before .before .pre .1 .1 in (omega arith, ready-on _ (omega arith) (omega arith) (c .before .before .before .pre .1 .0)))
@@ -92,25 +94,25 @@ pub +path+pointing+ty+types-spec : {M : Type 1} → statement M
     (λ c κs. let p = c .before .before .before .before .before .pre .0 in let h = there (c .before .before .before .before .before .args .tokens .now) (c .before .before .before .before .before .args .at) (number BitAnd) (sym (c .before .before .code-at .ensures) ∙ c .before .match .keys1) (omega arith) in (omega arith, (c .before .before .before .before .before .pre .1, h)))
     (λ c κs. (c .before .before .before .before .before .pre .1, there (c .before .before .before .before .before .args .tokens .now) (c .before .before .before .before .before .args .at) (code Bang) (sym (c .before .before .code-at .ensures) ∙ c .before .match .keys2) (omega arith)))
     (λ c κs. let p = c .before .before .before .before .before .pre .0 in let h = there (c .before .before .before .before .before .args .tokens .now) (c .before .before .before .before .before .args .at) (code AndMut) (sym (c .before .before .code-at .ensures) ∙ c .before .match .keys3) (omega arith) in (omega arith, (c .before .before .before .before .before .pre .1, h)))
-    (λ c κs. let p = c .before .before .before .before .before .pre .0 in let h = there (c .before .before .before .before .before .args .tokens .now) (c .before .before .before .before .before .args .at) (code Name) (sym (c .before .before .code-at .ensures) ∙ c .before .match .keys4) (omega arith) in (omega arith, (c .before .before .before .before .before .pre .1, h)))
+    (λ c κs. let p = c .before .before .before .before .before .pre .0 in let h = there (c .before .before .before .before .before .args .tokens .now) (c .before .before .before .before .before .args .at) (code (Name 0)) (sym (c .before .before .code-at .ensures) ∙ c .before .match .keys4) (omega arith) in (omega arith, (c .before .before .before .before .before .pre .1, h)))
     (λ c κs. let p = c .before .before .before .before .before .pre .0 in let h = there (c .before .before .before .before .before .args .tokens .now) (c .before .before .before .before .before .args .at) (code StarConst) (sym (c .before .before .code-at .ensures) ∙ c .before .match .keys5) (omega arith) in (omega arith, (c .before .before .before .before .before .pre .1, h)))
     (λ c κs. let p = c .before .before .before .before .before .pre .0 in let h = there (c .before .before .before .before .before .args .tokens .now) (c .before .before .before .before .before .args .at) (code StarMut) (sym (c .before .before .code-at .ensures) ∙ c .before .match .keys6) (omega arith) in (omega arith, (c .before .before .before .before .before .pre .1, h)))
     (λ c κs. (c .before .before .before .before .before .pre .1, there (c .before .before .before .before .before .args .tokens .now) (c .before .before .before .before .before .args .at) (code Underscore) (sym (c .before .before .code-at .ensures) ∙ c .before .match .keys7) (omega arith)))
     free (λ c. search needs)
-    (λ c. type-pointing (c .before .before .before .before .before .before .before .before .pre .1) sharedRef (there (c .before .before .before .before .before .before .before .before .args .tokens .now) (c .before .before .before .before .before .before .before .before .args .at) (number BitAnd) (sym (c .before .before .before .before .before .code-at .ensures) ∙ c .before .before .before .before .match .keys1) (omega arith)) (sym (ap typeStartBy (c .before .before .before .before .before .code-at .ensures)) ∙ arm typeStartLines noType _ 0 tt (c .before .before .before .before .match .keys1)) refl (c .before .before .pointing .ensures))
+    (λ c. type-pointing (c .before .before .before .before .before .before .before .before .pre .1) sharedRef (there (c .before .before .before .before .before .before .before .before .args .tokens .now) (c .before .before .before .before .before .before .before .before .args .at) (number BitAnd) (sym (c .before .before .before .before .before .code-at .ensures) ∙ c .before .before .before .before .match .keys1) (omega arith)) (sym (ap (λ n. typeStartBy n (tokenSymbolAt (c .before .before .before .before .before .before .before .before .args .tokens .now) (c .before .before .before .before .before .before .before .before .args .at))) (c .before .before .before .before .before .code-at .ensures)) ∙ arm (typeStartLines (tokenSymbolAt (c .before .before .before .before .before .before .before .before .args .tokens .now) (c .before .before .before .before .before .before .before .before .args .at))) noType _ 0 tt (c .before .before .before .before .match .keys1)) refl (c .before .before .pointing .ensures))
     (λ c. search needs)
-    (λ c. type-sign (c .before .before .before .before .before .before .before .before .pre .1) never (there (c .before .before .before .before .before .before .before .before .args .tokens .now) (c .before .before .before .before .before .before .before .before .args .at) (code Bang) (sym (c .before .before .before .before .before .code-at .ensures) ∙ c .before .before .before .before .match .keys2) (omega arith)) (sym (ap typeStartBy (c .before .before .before .before .before .code-at .ensures)) ∙ arm typeStartLines noType _ 1 tt (c .before .before .before .before .match .keys2)) refl (c .before .before .sign .ensures))
+    (λ c. type-sign (c .before .before .before .before .before .before .before .before .pre .1) never (there (c .before .before .before .before .before .before .before .before .args .tokens .now) (c .before .before .before .before .before .before .before .before .args .at) (code Bang) (sym (c .before .before .before .before .before .code-at .ensures) ∙ c .before .before .before .before .match .keys2) (omega arith)) (sym (ap (λ n. typeStartBy n (tokenSymbolAt (c .before .before .before .before .before .before .before .before .args .tokens .now) (c .before .before .before .before .before .before .before .before .args .at))) (c .before .before .before .before .before .code-at .ensures)) ∙ arm (typeStartLines (tokenSymbolAt (c .before .before .before .before .before .before .before .before .args .tokens .now) (c .before .before .before .before .before .before .before .before .args .at))) noType _ 1 tt (c .before .before .before .before .match .keys2)) refl (c .before .before .sign .ensures))
     (λ c. search needs)
-    (λ c. type-pointing (c .before .before .before .before .before .before .before .before .pre .1) mutRef (there (c .before .before .before .before .before .before .before .before .args .tokens .now) (c .before .before .before .before .before .before .before .before .args .at) (code AndMut) (sym (c .before .before .before .before .before .code-at .ensures) ∙ c .before .before .before .before .match .keys3) (omega arith)) (sym (ap typeStartBy (c .before .before .before .before .before .code-at .ensures)) ∙ arm typeStartLines noType _ 2 tt (c .before .before .before .before .match .keys3)) refl (c .before .before .pointing2 .ensures))
+    (λ c. type-pointing (c .before .before .before .before .before .before .before .before .pre .1) mutRef (there (c .before .before .before .before .before .before .before .before .args .tokens .now) (c .before .before .before .before .before .before .before .before .args .at) (code AndMut) (sym (c .before .before .before .before .before .code-at .ensures) ∙ c .before .before .before .before .match .keys3) (omega arith)) (sym (ap (λ n. typeStartBy n (tokenSymbolAt (c .before .before .before .before .before .before .before .before .args .tokens .now) (c .before .before .before .before .before .before .before .before .args .at))) (c .before .before .before .before .before .code-at .ensures)) ∙ arm (typeStartLines (tokenSymbolAt (c .before .before .before .before .before .before .before .before .args .tokens .now) (c .before .before .before .before .before .before .before .before .args .at))) noType _ 2 tt (c .before .before .before .before .match .keys3)) refl (c .before .before .pointing2 .ensures))
     (λ c. search needs)
-    (λ c. type-path (c .before .before .before .before .before .before .before .before .pre .1) (there (c .before .before .before .before .before .before .before .before .args .tokens .now) (c .before .before .before .before .before .before .before .before .args .at) (code Name) (sym (c .before .before .before .before .before .code-at .ensures) ∙ c .before .before .before .before .match .keys4) (omega arith)) (sym (ap typeStartBy (c .before .before .before .before .before .code-at .ensures)) ∙ arm typeStartLines noType _ 3 tt (c .before .before .before .before .match .keys4)) (c .before .before .path .ensures))
+    (λ c. type-path (c .before .before .before .before .before .before .before .before .pre .1) (there (c .before .before .before .before .before .before .before .before .args .tokens .now) (c .before .before .before .before .before .before .before .before .args .at) (code (Name 0)) (sym (c .before .before .before .before .before .code-at .ensures) ∙ c .before .before .before .before .match .keys4) (omega arith)) (sym (ap (λ n. typeStartBy n (tokenSymbolAt (c .before .before .before .before .before .before .before .before .args .tokens .now) (c .before .before .before .before .before .before .before .before .args .at))) (c .before .before .before .before .before .code-at .ensures)) ∙ arm (typeStartLines (tokenSymbolAt (c .before .before .before .before .before .before .before .before .args .tokens .now) (c .before .before .before .before .before .before .before .before .args .at))) noType _ 3 tt (c .before .before .before .before .match .keys4)) (c .before .before .path .ensures))
     (λ c. search needs)
-    (λ c. type-pointing (c .before .before .before .before .before .before .before .before .pre .1) constPtr (there (c .before .before .before .before .before .before .before .before .args .tokens .now) (c .before .before .before .before .before .before .before .before .args .at) (code StarConst) (sym (c .before .before .before .before .before .code-at .ensures) ∙ c .before .before .before .before .match .keys5) (omega arith)) (sym (ap typeStartBy (c .before .before .before .before .before .code-at .ensures)) ∙ arm typeStartLines noType _ 4 tt (c .before .before .before .before .match .keys5)) refl (c .before .before .pointing3 .ensures))
+    (λ c. type-pointing (c .before .before .before .before .before .before .before .before .pre .1) constPtr (there (c .before .before .before .before .before .before .before .before .args .tokens .now) (c .before .before .before .before .before .before .before .before .args .at) (code StarConst) (sym (c .before .before .before .before .before .code-at .ensures) ∙ c .before .before .before .before .match .keys5) (omega arith)) (sym (ap (λ n. typeStartBy n (tokenSymbolAt (c .before .before .before .before .before .before .before .before .args .tokens .now) (c .before .before .before .before .before .before .before .before .args .at))) (c .before .before .before .before .before .code-at .ensures)) ∙ arm (typeStartLines (tokenSymbolAt (c .before .before .before .before .before .before .before .before .args .tokens .now) (c .before .before .before .before .before .before .before .before .args .at))) noType _ 4 tt (c .before .before .before .before .match .keys5)) refl (c .before .before .pointing3 .ensures))
     (λ c. search needs)
-    (λ c. type-pointing (c .before .before .before .before .before .before .before .before .pre .1) mutPtr (there (c .before .before .before .before .before .before .before .before .args .tokens .now) (c .before .before .before .before .before .before .before .before .args .at) (code StarMut) (sym (c .before .before .before .before .before .code-at .ensures) ∙ c .before .before .before .before .match .keys6) (omega arith)) (sym (ap typeStartBy (c .before .before .before .before .before .code-at .ensures)) ∙ arm typeStartLines noType _ 5 tt (c .before .before .before .before .match .keys6)) refl (c .before .before .pointing4 .ensures))
+    (λ c. type-pointing (c .before .before .before .before .before .before .before .before .pre .1) mutPtr (there (c .before .before .before .before .before .before .before .before .args .tokens .now) (c .before .before .before .before .before .before .before .before .args .at) (code StarMut) (sym (c .before .before .before .before .before .code-at .ensures) ∙ c .before .before .before .before .match .keys6) (omega arith)) (sym (ap (λ n. typeStartBy n (tokenSymbolAt (c .before .before .before .before .before .before .before .before .args .tokens .now) (c .before .before .before .before .before .before .before .before .args .at))) (c .before .before .before .before .before .code-at .ensures)) ∙ arm (typeStartLines (tokenSymbolAt (c .before .before .before .before .before .before .before .before .args .tokens .now) (c .before .before .before .before .before .before .before .before .args .at))) noType _ 5 tt (c .before .before .before .before .match .keys6)) refl (c .before .before .pointing4 .ensures))
     (λ c. search needs)
-    (λ c. type-sign (c .before .before .before .before .before .before .before .before .pre .1) infer (there (c .before .before .before .before .before .before .before .before .args .tokens .now) (c .before .before .before .before .before .before .before .before .args .at) (code Underscore) (sym (c .before .before .before .before .before .code-at .ensures) ∙ c .before .before .before .before .match .keys7) (omega arith)) (sym (ap typeStartBy (c .before .before .before .before .before .code-at .ensures)) ∙ arm typeStartLines noType _ 6 tt (c .before .before .before .before .match .keys7)) refl (c .before .before .sign2 .ensures))
-    (λ c. type-none (c .before .before .before .before .before .pre .1) (sym (ap typeStartBy (c .before .before .code-at .ensures)) ∙ rest typeStartLines noType _ (c .before .match .rest)) (c .no-piece .ensures)))
+    (λ c. type-sign (c .before .before .before .before .before .before .before .before .pre .1) infer (there (c .before .before .before .before .before .before .before .before .args .tokens .now) (c .before .before .before .before .before .before .before .before .args .at) (code Underscore) (sym (c .before .before .before .before .before .code-at .ensures) ∙ c .before .before .before .before .match .keys7) (omega arith)) (sym (ap (λ n. typeStartBy n (tokenSymbolAt (c .before .before .before .before .before .before .before .before .args .tokens .now) (c .before .before .before .before .before .before .before .before .args .at))) (c .before .before .before .before .before .code-at .ensures)) ∙ arm (typeStartLines (tokenSymbolAt (c .before .before .before .before .before .before .before .before .args .tokens .now) (c .before .before .before .before .before .before .before .before .args .at))) noType _ 6 tt (c .before .before .before .before .match .keys7)) refl (c .before .before .sign2 .ensures))
+    (λ c. type-none (c .before .before .before .before .before .pre .1) (sym (ap (λ n. typeStartBy n (tokenSymbolAt (c .before .before .before .before .before .args .tokens .now) (c .before .before .before .before .before .args .at))) (c .before .before .code-at .ensures)) ∙ rest (typeStartLines (tokenSymbolAt (c .before .before .before .before .before .args .tokens .now) (c .before .before .before .before .before .args .at))) noType _ (c .before .match .rest)) (c .no-piece .ensures)))
     λ t. types-lts.spec (types-claims t) (given-at 2 types-kinds.ps μ-types types.Pre t) types.Post
     (λ c κs. let p = c .before .before .before .pre .0 in (omega arith, c .before .before .before .pre .1)) free free
     (λ c. let b = there (c .before .before .before .before .before .before .before .before .before .args .tokens .now) (c .before .before .past-comma .result) (number Gt) (sym (c .before .code-at .ensures) ∙ c .if1 .taken) (omega arith) in search needs)

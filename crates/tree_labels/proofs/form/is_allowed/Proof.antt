@@ -11,4 +11,6 @@ is-allowed-spec =
     tie.close (tie.spec free (λ c. rw (← c .before .class-of .ensures, eq-eqb _ _ (c .if1 .taken))) free
     (λ c. rw (← c .before .before .before .class-of .ensures, ne-eqb _ _ (c .before .before .if1 .left), ← c .before .highest-attributes .ensures, lt-leb _ _ (c .if2 .taken)))
     free
-    (λ c. rw (← c .before .before .before .before .class-of .ensures, ne-eqb _ _ (c .before .before .before .if1 .left), ← c .before .before .highest-attributes .ensures, le-leb _ _ (c .before .if2 .left), ← c .highest-detail .ensures)))
+    (λ c. rw (← c .before .before .before .before .before .class-of .ensures, ne-eqb _ _ (c .before .before .before .before .if1 .left), ← c .before .before .before .highest-attributes .ensures, le-leb _ _ (c .before .before .if2 .left), ← c .before .highest-detail .ensures, lt-leb _ _ (c .if3 .taken)))
+    free
+    (λ c. rw (← c .before .before .before .before .before .before .class-of .ensures, ne-eqb _ _ (c .before .before .before .before .before .if1 .left), ← c .before .before .before .before .highest-attributes .ensures, le-leb _ _ (c .before .before .before .if2 .left), ← c .before .before .highest-detail .ensures, le-leb _ _ (c .before .if3 .left), ← c .is-symbol-allowed .ensures)))
