@@ -47,12 +47,11 @@ TOKENS = 'token_writer/* token_reader/* token_follow/*'
 
 # The kind, what its digits stand for, in which crates, and how they are found.
 KINDS = [
-    ('cells', 'cells of a node, cells of a row', ANYWHERE, of(5)),
+    ('cells', 'cells of a row', ANYWHERE, of(5)),
     ('scratch', 'cells of scratch for a node', ANYWHERE, f'{number(3)} \\*|\\btimes {number(3)}'),
-    ('a node', 'tokens that are written for a node', ANYWHERE, f'{number(6)} \\*|\\btimes {number(6)}'),
+    ('a node', 'cells of a node, tokens that are written for one', ANYWHERE, of(6)),
     ('nodes', 'the most nodes of a table', ANYWHERE, number(4096, 4097)),
-    ('tokens', 'the most tokens of a list, and cells of the nodes that they make', ANYWHERE, number(24576, 24577, 122880)),
-    ('table', 'cells of the largest table', ANYWHERE, number(20480)),
+    ('tokens', 'the most tokens of a list, cells of the largest table, and of the nodes that tokens make', ANYWHERE, number(24576, 24577, 147456)),
     ('levels', 'the most levels of a tree', ANYWHERE, number(128, 129)),
     ('bytes', 'the most bytes of a file', ANYWHERE, number(65536, 65537)),
     ('last', 'the last code, and the end of a list', ANYWHERE, number(45, 46, 47)),
@@ -61,10 +60,10 @@ KINDS = [
         'where a cell stands in a node',
         ANYWHERE,
         '|'.join([
-            last('cellAt', 2, range(5)),
+            last('cellAt', 2, range(6)),
             last('operandAt', 3, [3, 4]),
-            last('cell|operand_at|operand_number', 9, range(5)),
-            rf'\[\w+ \+ {number(1, 2, 3, 4)}\]',
+            last('cell|operand_at|operand_number', 9, range(6)),
+            rf'\[\w+ \+ {number(1, 2, 3, 4, 5)}\]',
             rf'\(?k ≡ {number(3, 4)}\)',
         ]),
     ),
@@ -90,7 +89,7 @@ ALLOWED = [
     ('scratch', 'file_bytes/* file_save/*', '', 'the most bytes of a number'),
     ('bytes', 'file_bytes/* file_save/proofs/*', r'AllBelow 65536|< 65536', 'all numbers of two bytes'),
     ('place', 'tree_one_pass/src/*', r'marks\[at \+ \d\]', 'a mark among four'),
-    ('place', 'token_writer/src/*', r'tokens\[at \+ \d\]', 'a code among up to three'),
+    ('place', 'token_writer/src/* token_reader/src/*', r'tokens\[at \+ 1\]', 'a symbol, behind its code'),
     ('place', 'row_walk/src/* spines/src/digest.rt', r'rows\[at \+ \d\]', 'a cell of a row, beside its name'),
     ('nodes', 'spines/src/*', '', 'a row as one number'),
     ('levels', 'tree_one_pass/*', r'row / 128 % 8', 'a part of a number that holds a row of the table of forms'),

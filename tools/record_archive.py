@@ -37,9 +37,9 @@ from functools import cached_property
 from pathlib import Path
 
 from record_files import (
-    DEFECTS, FORM_NUMBER, FORMS, LONGEST_RECORDED, NO, ORDERS, REFUSALS, SEGMENTED, Dice, Node,
-    Tree, TreeFile, bare, call, encode, file_of, housed, nodes_of, numbers_of, padded, path,
-    random_tree, reply, small_tree, wide_tree)
+    DEFECTS, FORM_NUMBER, FORMS, LONGEST_RECORDED, NO, ORDERS, REFUSALS, SEGMENTED, SYMBOLS, Dice,
+    Node, Tree, TreeFile, bare, call, encode, file_of, has_symbol, housed, nodes_of, numbers_of,
+    padded, path, random_symbol, random_tree, reply, small_tree, wide_tree)
 
 FOLDER = Path('crates/recorded/data')
 LARGEST_OUTPUT = 1_000_000
@@ -171,10 +171,34 @@ def few_nodes(saves, dice):
         saves.add_table(table_of(nodes_of(tree, 'random', dice), dice.below(4)), meant=0)
 
 
+def symbols(saves, dice):
+    """A symbol of every length at every form: saved where it may stand, and else 6."""
+    for name in FORMS:
+        detail = NO if name in SEGMENTED else 0
+        for symbol in SYMBOLS:
+            tree = housed(bare(name, detail, full=True, symbol=symbol))
+            table = table_of(nodes_of(tree, 'random', dice), dice.below(4))
+            fits = has_symbol(name, detail)
+            saves.add_table(table, None if fits else 200, meant=0 if fits else 6)
+            if fits:
+                saves.add_table(table, len(table.saved) - 1, meant=REPLY_12)
+
+
+def with_symbols(tree, dice, symbol=None):
+    """The tree with this symbol, or with symbols of any length, at its names and literals."""
+    waiting = [tree]
+    while waiting:
+        node = waiting.pop()
+        if node.form in ('Path', 'Lit'):
+            node.symbol = random_symbol(dice) if symbol is None else symbol
+        waiting += node.operands()
+    return tree
+
+
 def many_nodes(saves, dice):
     """Trees at the counts where numbers get longer and where other arrays are used."""
     for count in (62, 63, 64, 65, 126, 127, 128, 129, 300):
-        tree = wide_tree(count, Tree('Lit'))
+        tree = with_symbols(wide_tree(count, Tree('Lit')), dice)
         file = file_of(nodes_of(tree), 1)
         table = table_of(nodes_of(tree, 'random', dice), 1)
         assert table.count == count and table.saved == file
@@ -183,8 +207,10 @@ def many_nodes(saves, dice):
         for lent in (len(file), len(file) + 1, enough - 1, enough, MOST_LENT):
             saves.add_table(table, lent, meant=0)
         saves.add_table(table, len(file) - 1, meant=REPLY_12)
-    largest = table_of(nodes_of(wide_tree(MOST_NODES, Tree('Lit')), 'random', dice), 2)
-    saves.add_table(largest, meant=0)
+    largest = wide_tree(MOST_NODES, Tree('Lit'))
+    for symbol in (None, 0, SYMBOLS[-1]):
+        nodes = nodes_of(with_symbols(largest, dice, symbol), 'random', dice)
+        saves.add_table(table_of(nodes, 2), meant=0)
 
 
 def other_cells(saves, dice):
@@ -286,6 +312,24 @@ def alike(orders, dice):
                 orders.add_files(first, second)
 
 
+def ordered_symbols(orders, dice):
+    """Trees that differ in one symbol alone, or in one symbol and the context."""
+    for name in FORMS:
+        detail = NO if name in SEGMENTED else 0
+        if has_symbol(name, detail):
+            trees = [housed(bare(name, detail, full=True, symbol=symbol)) for symbol in (0, *SYMBOLS)]
+            files = [file_of(nodes_of(tree)) for tree in trees]
+            for low, high in zip(files, files[1:]):
+                orders.add_both(low, high, BEFORE)
+            orders.add_both(files[-1], file_of(nodes_of(trees[0]), 1), BEFORE)
+    for size in (2, 20, 70):
+        nodes = nodes_of(with_symbols(wide_tree(2 * size + 2), dice))
+        last = nodes[-1]
+        assert last.form == FORM_NUMBER['Path']
+        low, high = ([*nodes[:-1], last._replace(symbol=symbol)] for symbol in (127, 128))
+        orders.add_both(file_of(low), file_of(high), BEFORE)
+
+
 def least_differences(orders, dice):
     """Only in the context, only in the last number that can differ, and in length."""
     one = [file_of(nodes_of(path()), context) for context in range(4)]
@@ -330,8 +374,8 @@ def checks(orders, dice):
     orders.add_files(bad[2][1], too_long, (2, 0))
 
 
-SAVE_MAKERS = (few_nodes, many_nodes, other_cells, headers, refused, changed_cells)
-ORDER_MAKERS = (alike, least_differences, checks)
+SAVE_MAKERS = (few_nodes, many_nodes, other_cells, headers, refused, changed_cells, symbols)
+ORDER_MAKERS = (alike, least_differences, checks, ordered_symbols)
 
 
 def main():

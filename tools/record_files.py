@@ -1,5 +1,5 @@
 #!/usr/bin/env python3
-"""Record tree files with the answers that document 01 gives for loading them.
+"""Record tree files with the answers that documents 01 and 02 give for loading them.
 
 Usage, from the root of the repository:
 
@@ -10,7 +10,7 @@ The same files come out at every run.
 
 What is recorded. `load` takes the bytes of a tree file and a lent node table.
 It refuses with a number from 1 to 11 and leaves the table as it was, or it
-accepts with context and count and fills five cells of the table for each node,
+accepts with context and count and fills six cells of the table for each node,
 leaving the cells behind them as they were.
 
 Records stand one behind the other, all numbers little endian:
@@ -21,9 +21,10 @@ Records stand one behind the other, all numbers little endian:
     u16  context, 0 when refused
     u16  count, 0 when refused
     the bytes of the file
-    when accepted, 5 * count cells of u16
+    when accepted, 6 * count cells of u16
 
-Where the answers come from. The part 'The rules' below states document 01 anew,
+Where the answers come from. The part 'The rules' below states document 01 anew, and of
+document 02 Paper 4 (a node's sixth number, its symbol),
 sentence by sentence, one function for each refusal, and `reply` takes the first
 that applies. It shares nothing with the loader. Where the text leaves room:
 
@@ -37,6 +38,7 @@ that applies. It shares nothing with the loader. Where the text leaves room:
   - A path type, ImplTrait or TraitObject with detail 0 passes 6, may have no
     operands, and is met by 9.
   - 'Attribute-free' in 10 means attributes 0.
+  - A path type without a segment has no name, and so no symbol (6).
   - A path (11) counts expressions and types; an item stands one below the owner
     of its list.
 
@@ -53,7 +55,10 @@ from pathlib import Path
 
 OUTPUT = Path('crates/recorded/data/files')
 LONGEST_RECORDED = 70_000
-LARGEST_OUTPUT = 5_000_000
+LARGEST_OUTPUT = 6_000_000
+
+CELLS = 6  # the numbers of a node
+MOST_CELLS = CELLS * 4_096
 
 # ---------------------------------------------------------------------------
 # Names and numbers of document 01
@@ -102,6 +107,16 @@ DETAILS = {
 }
 assert len(OPERATORS) == 28 and len(LAST_BOUND) == 8
 SEGMENTED = ('TypePath', 'TypeImplTrait', 'TypeTraitObject')
+
+# Document 02: "a symbol from 0 to 65,535, used by Path, Lit, named or numbered Field,
+# MethodCall and path types, and 0 elsewhere". Here one of each length, at its limits.
+NAMED = ('Path', 'Lit', 'Field', 'MethodCall', 'TypePath')
+SYMBOLS = (1, 127, 128, 16_383, 16_384, 65_535)
+
+
+def has_symbol(name, detail):
+    """Whether a node may have a symbol that is not 0."""
+    return name in NAMED and not (name in SEGMENTED and LAST_BOUND[detail] == 'none there')
 
 
 def details(name):
@@ -179,8 +194,8 @@ def read_numbers(data, start, how_many):
     return numbers, start
 
 
-class Node(namedtuple('Node', 'form attributes detail first second')):
-    """The five numbers of a node."""
+class Node(namedtuple('Node', 'form attributes detail first second symbol')):
+    """The six numbers of a node."""
 
     __slots__ = ()
 
@@ -224,14 +239,14 @@ class TreeFile:
 
     @cached_property
     def body(self):
-        """Five numbers a node with the place where they end, or None."""
-        return read_numbers(self.data, self.header[1], 5 * self.count)
+        """Six numbers a node with the place where they end, or None."""
+        return read_numbers(self.data, self.header[1], CELLS * self.count)
 
     @cached_property
     def nodes(self):
         """The nodes by their numbers, from 1."""
         numbers = iter(self.body[0])
-        return {at: Node(*five) for at, five in enumerate(zip(*[numbers] * 5), 1)}
+        return {at: Node(*cells) for at, cells in enumerate(zip(*[numbers] * CELLS), 1)}
 
     def class_at(self, operand):
         """The class of the node with that number; None when there is no such node."""
@@ -255,7 +270,7 @@ def context_is_too_high(file):
 
 def count_does_not_fit(file):
     """4. The node count is 0 or above 4,096, or a lent table is shorter than that many nodes."""
-    return not 1 <= file.count <= min(4_096, file.lent // 5)
+    return not 1 <= file.count <= min(4_096, file.lent // CELLS)
 
 
 def body_is_malformed(file):
@@ -264,8 +279,11 @@ def body_is_malformed(file):
 
 
 def label_is_not_allowed(file):
-    """6. A form, attribute or detail number is not allowed below."""
-    return not {node[:3] for node in file.nodes.values()} <= ALLOWED_LABELS
+    """6. A form, attribute or detail number is not allowed below; or a symbol is not 0 on a
+    node that has none.
+    """
+    return not {node[:3] for node in file.nodes.values()} <= ALLOWED_LABELS or any(
+        node.symbol and not has_symbol(node.name, node.detail) for node in file.nodes.values())
 
 
 def operand_is_misplaced(file):
@@ -410,14 +428,15 @@ class Tree:
     damage it, a number as it is, 'self' for its own number or 'above' for the
     first number above the count. A form may be given by name or by number."""
 
-    __slots__ = ('form', 'attributes', 'detail', 'first', 'second')
+    __slots__ = ('form', 'attributes', 'detail', 'first', 'second', 'symbol')
 
-    def __init__(self, form, first=None, second=None, attributes=0, detail=0):
+    def __init__(self, form, first=None, second=None, attributes=0, detail=0, symbol=0):
         self.form = form
         self.attributes = attributes
         self.detail = detail
         self.first = first
         self.second = second
+        self.symbol = symbol
 
     def operands(self):
         """The trees in its places."""
@@ -452,12 +471,12 @@ def nodes_of(root, order='printing', dice=None, orphans=()):
         return {None: 0, 'self': numbers[id(tree)], 'above': len(met) + 1}.get(operand, operand)
 
     return [Node(FORM_NUMBER.get(tree.form, tree.form), tree.attributes, tree.detail,
-                 cell(tree, tree.first), cell(tree, tree.second)) for tree in met]
+                 cell(tree, tree.first), cell(tree, tree.second), tree.symbol) for tree in met]
 
 
 def plain_nodes(*nodes):
     """Nodes given as name, first and second operand, with labels that are allowed."""
-    return [Node(FORM_NUMBER[name], 0, NO if name == 'TypePath' else 0, first, second)
+    return [Node(FORM_NUMBER[name], 0, NO if name == 'TypePath' else 0, first, second, 0)
             for name, first, second in nodes]
 
 
@@ -530,9 +549,9 @@ def leaf_for(place):
     }[place]()
 
 
-def bare(name, detail=0, attribute=0, full=False):
+def bare(name, detail=0, attribute=0, full=False, symbol=0):
     """A node of a form with its required operands, or with all that it may have."""
-    tree = Tree(name, attributes=attribute, detail=detail)
+    tree = Tree(name, attributes=attribute, detail=detail, symbol=symbol)
     tree.first, tree.second = (
         leaf_for(place) if full or place in REQUIRED else None for place in places(name, detail))
     if name == 'Closure' and detail == 1:
@@ -560,7 +579,14 @@ def random_node(dice, node_class, inner):
     if inner and name in SEGMENTED:
         allowed = [ANGLE, PARENTHESISED] if name == 'TypePath' else [PARENTHESISED]
     attribute = dice.pick(attributes(name)) if dice.chance(0.3) else 0
-    return Tree(name, attributes=attribute, detail=dice.pick(allowed))
+    detail = dice.pick(allowed)
+    symbol = random_symbol(dice) if has_symbol(name, detail) and dice.chance(0.7) else 0
+    return Tree(name, attributes=attribute, detail=detail, symbol=symbol)
+
+
+def random_symbol(dice):
+    """A symbol of any length."""
+    return dice.pick(SYMBOLS) if dice.chance(0.3) else dice.below(dice.pick((128, 16_384, 65_536)))
 
 
 def random_tree(dice, size, deep=0.5):
@@ -661,9 +687,9 @@ class Recording:
 
     def _roomy(self, data):
         header = read_numbers(data[:16], 0, 2)
-        cells = 5 * header[0][1] if header and header[0][1] <= 4_096 else 0
+        cells = CELLS * header[0][1] if header and header[0][1] <= 4_096 else 0
         return self._dice.pick((cells, cells, cells + 1, cells + self._dice.below(40),
-                                max(cells, 20_480)))
+                                max(cells, MOST_CELLS)))
 
     def write(self, output):
         """Write all records and give the number of bytes."""
@@ -694,36 +720,42 @@ def wide_tree(count, *ends):
 
 def long_files(recording, dice):
     """Files of 65,536 bytes, which 1 lets pass, and longer ones, to which more applies."""
-    valid = file_of(nodes_of(small_tree()))
+    valid, cells = file_of(nodes_of(small_tree())), CELLS * len(nodes_of(small_tree()))
     header_of_4096 = encode([0, 4_096])
     starts = [  # start, byte that fills the file, lent cells, reply without 1
-        (valid, 0x00, 35, 5),
-        (valid[:-1], 0x80, 35, 5),
-        (b'', 0x80, 20_480, 2),
-        (b'\x00' + padded(7, 1) + valid[2:], 0x00, 35, 2),
-        (encode([4]) + valid[1:], 0x00, 35, 3),
-        (encode([0, 0]), 0x00, 20_480, 4),
-        (header_of_4096, 0x00, 20_479, 4),
-        (header_of_4096, 0x00, 20_480, 5),
+        (valid, 0x00, cells, 5),
+        (valid[:-1], 0x80, cells, 5),
+        (b'', 0x80, MOST_CELLS, 2),
+        (b'\x00' + padded(7, 1) + valid[2:], 0x00, cells, 2),
+        (encode([4]) + valid[1:], 0x00, cells, 3),
+        (encode([0, 0]), 0x00, MOST_CELLS, 4),
+        (header_of_4096, 0x00, MOST_CELLS - 1, 4),
+        (header_of_4096, 0x00, MOST_CELLS, 5),
     ]
     for start, filler, lent, answer in starts:
         at_the_limit = start.ljust(65_535, bytes([filler])) + b'\x00'
         recording.add(at_the_limit, lent, meant=answer)
         recording.add(at_the_limit + bytes([filler]), lent, meant=1)
     defects = [
-        (nodes_of(Tree(57)), 5), (nodes_of(named()), 5), (nodes_of(Tree('Unary', 'self')), 5),
-        (nodes_of(cast(Tree('TypePath'))), 15), (nodes_of(closure(path())), 10),
-        (nodes_of(unary_chain(129)), 645), (nodes_of(wide_tree(4_096)), 20_480)]
-    for nodes, lent in defects:
-        recording.add(file_of(nodes).ljust(65_537, b'\x00'), lent, meant=1)
-    for length, filler, lent in ((65_537, 0xFF, 0), (65_538, 0x01, 20_480), (65_792, 0x00, 0),
-                                 (66_000, 0x80, 35), (69_999, 0x00, 0)):
+        nodes_of(Tree(57)), nodes_of(named()), nodes_of(Tree('Unary', 'self')),
+        nodes_of(cast(Tree('TypePath'))), nodes_of(closure(path())), nodes_of(unary_chain(129)),
+        nodes_of(Tree('Unary', path(), symbol=1)), nodes_of(wide_tree(4_096))]
+    for nodes in defects:
+        recording.add(file_of(nodes).ljust(65_537, b'\x00'), CELLS * len(nodes), meant=1)
+    for length, filler, lent in ((65_537, 0xFF, 0), (65_538, 0x01, MOST_CELLS), (65_792, 0x00, 0),
+                                 (66_000, 0x80, cells), (69_999, 0x00, 0)):
         recording.add(bytes([filler]) * length, lent, meant=1)
-    recording.add(valid.ljust(65_537, b'\x00'), 34, meant=1)
-    recording.add(valid.ljust(70_000, b'\x00'), 35, meant=1)
-    longest_well_formed = header_of_4096 + encode([65_535] * 20_480)
-    assert len(longest_well_formed) == 61_443
-    recording.add(longest_well_formed, 20_480, meant=6)
+    recording.add(valid.ljust(65_537, b'\x00'), cells - 1, meant=1)
+    recording.add(valid.ljust(70_000, b'\x00'), cells, meant=1)
+    # As many numbers of three bytes as make up 65,536, and one more or fewer.
+    for more in (-1, 0, 1):
+        wide = [65_535] * (20_478 + more)
+        full = header_of_4096 + encode([0] * (MOST_CELLS - len(wide)) + wide)
+        recording.add(full, MOST_CELLS, meant=1 if len(full) > 65_536 else 6)
+    assert len(header_of_4096 + encode([0] * 4_098 + [65_535] * 20_478)) == 65_535
+    # The longest accepted table: operands of two bytes, symbols of three.
+    longest = nodes_of(call(*[Tree('Path', symbol=65_535) for _ in range(2_047)]), 'random', dice)
+    recording.add_nodes(longest, lent=MOST_CELLS, meant=0)
 
 
 def headers(recording, dice):
@@ -736,7 +768,7 @@ def headers(recording, dice):
                   b'\x00\x81\x80\x00', b'\x04\x81\x00', b'\x80\x00\x00', b'\xff\xff\x03',
                   b'\xff\xff\x03\x80', b'\xff\xff\x04\x01', b'\x80\x80\x04\x01',
                   b'\x00\xff\xff\x7f', b'\x00\xff\xff\xff\x7f', b'\xff' * 11):
-        for lent in (0, 20_480):
+        for lent in (0, MOST_CELLS):
             recording.add(start, lent, meant=2)
     for context in range(4):
         recording.add_nodes(nodes, context, meant=0)
@@ -749,50 +781,52 @@ def headers(recording, dice):
     recording.add(padded(4, 2) + encode([count]) + body, meant=2)
     for context in (4, 5, 7, 8, 127, 128, 255, 256, 258, 16_383, 16_384, 32_768, 65_535):
         good = encode([context, count]) + body
-        for data, lent in ((good, 35), (good, 34), (good, 0), (good + b'\x00', 35),
-                           (good[:-1], 36), (good[:-1] + b'\x80', 35),
-                           (encode([context, count, 57]) + body[1:], 20_480)):
+        cells = CELLS * count
+        for data, lent in ((good, cells), (good, cells - 1), (good, 0), (good + b'\x00', cells),
+                           (good[:-1], cells + 1), (good[:-1] + b'\x80', cells),
+                           (encode([context, count, 57]) + body[1:], MOST_CELLS)):
             recording.add(data, lent, meant=3)
         for other in (0, 1, 4_096, 4_097, 65_535):
-            recording.add(encode([context, other]), 20_480, meant=3)
+            recording.add(encode([context, other]), MOST_CELLS, meant=3)
             recording.add(encode([context, other]) + body, 0, meant=3)
 
 
 def counts_and_tables(recording, dice):
     """Counts at their limits and lent tables at theirs."""
     for count in (0, 4_097, 4_098, 8_192, 13_107, 32_768, 65_535):
-        for lent in (0, 5, 20_480, min(5 * count, 65_535), 65_535):
+        for lent in (0, CELLS, MOST_CELLS, min(CELLS * count, 65_535), 65_535):
             recording.add(encode([0, count]), lent, meant=4)
-            recording.add(encode([1, count, 26, 0, 0, 0, 0]), lent, meant=4)
+            recording.add(encode([1, count, 26, 0, 0, 0, 0, 0]), lent, meant=4)
     for size in (1, 2, 3, 7, 26, 52):
         nodes = nodes_of(random_tree(dice, size))
-        cells, data = 5 * len(nodes), file_of(nodes, dice.below(4))
-        for lent in (cells, cells + 1, cells + 4, cells + 5, 20_480, 20_481, 65_535):
+        cells, data = CELLS * len(nodes), file_of(nodes, dice.below(4))
+        for lent in (cells, cells + 1, cells + 5, cells + 6, MOST_CELLS, MOST_CELLS + 1, 65_535):
             recording.add(data, lent, meant=0)
-        for lent in (cells - 1, cells - 4, cells - 5, len(nodes), 0):
+        for lent in (cells - 1, cells - 5, cells - 6, 5 * len(nodes), len(nodes), 0):
             recording.add(data, lent, meant=4)
             for damaged in (data + b'\x00', data[:-1], data[:-1] + b'\x80', data[:2],
                             data[:2] + b'\x39' + data[3:], data[:2] + padded(data[2], 1)):
                 recording.add(damaged, lent, meant=4)
     for data in (encode([0, 1]), encode([2, 1, 26]), encode([3, 4_096])):
-        recording.add(data, 20_480, meant=5)
-    for count, lent, answer in ((4_095, 20_475, 0), (4_095, 20_474, 4), (4_096, 20_480, 0),
-                                (4_096, 20_479, 4), (4_097, 20_480, 4), (4_097, 20_485, 4),
-                                (4_097, 65_535, 4)):
+        recording.add(data, MOST_CELLS, meant=5)
+    for count, lent, answer in ((4_095, MOST_CELLS - 6, 0), (4_095, MOST_CELLS - 7, 4),
+                                (4_096, MOST_CELLS, 0), (4_096, MOST_CELLS - 1, 4),
+                                (4_096, 20_480, 4), (4_097, MOST_CELLS, 4),
+                                (4_097, MOST_CELLS + 6, 4), (4_097, 65_535, 4)):
         nodes = nodes_of(wide_tree(count))
         assert len(nodes) == count
         recording.add_nodes(nodes, lent=lent, meant=answer)
 
 
 def body_numbers(recording, dice):
-    """Badly spelled numbers in the body: each of the five places, first, middle and last node."""
+    """Badly spelled numbers in the body: each of the six places, first, middle and last node."""
     nodes = nodes_of(small_tree())
     numbers = numbers_of(nodes, context=2)
-    worse = [numbers_of([Node(57, 3, 9, 0, 9)] + nodes[1:]),
+    worse = [numbers_of([Node(57, 3, 9, 0, 9, 7)] + nodes[1:]),
              numbers_of([nodes[0]._replace(second=0)] + nodes[1:])]
     for node in (1, 4, len(nodes)):
-        for place in range(5):
-            at = 2 + 5 * (node - 1) + place
+        for place in range(CELLS):
+            at = 2 + CELLS * (node - 1) + place
             for spelling in malformed_spellings(numbers[at]):
                 recording.add(respelled(numbers, at, spelling), meant=5)
             for other in worse:
@@ -800,26 +834,26 @@ def body_numbers(recording, dice):
             for value in (0, 127, 128, 255, 256, 16_383, 16_384, 65_280, 65_534, 65_535):
                 recording.add(respelled(numbers, at, encode([value])))
     large = numbers_of(nodes_of(wide_tree(300), 'random', dice))
-    for at in (2, 5, 700, 1_000, 1_499, 1_500, 1_501):
+    for at in (2, 5, 700, 1_000, 1_799, 1_800, 1_801):
         recording.add(respelled(large, at, padded(large[at], 1)), meant=5)
 
 
 def cut_files(recording, dice):
     """Every beginning of some files."""
     for nodes in (nodes_of(small_tree()), nodes_of(path()), nodes_of(random_tree(dice, 6)),
-                  [Node(65_535, 128, 16_384, 300, 65_535)] * 2):
+                  [Node(65_535, 128, 16_384, 300, 65_535, 16_384)] * 2):
         data = file_of(nodes, 1)
         for length in range(len(data)):
-            recording.add(data[:length], 5 * len(nodes), meant=2 if length < 2 else 5)
+            recording.add(data[:length], CELLS * len(nodes), meant=2 if length < 2 else 5)
     data = file_of(nodes_of(wide_tree(300)), 3)
     for length in (1, 2, 3, 4, 150, 151, len(data) - 8, len(data) - 3, len(data) - 1):
-        recording.add(data[:length], 1_500, meant=2 if length < 3 else 5)
+        recording.add(data[:length], CELLS * 300, meant=2 if length < 3 else 5)
 
 
 def trailing_bytes(recording, dice):
     """Bytes behind the last number."""
     behind = (b'\x00', b'\x01', b'\x7f', b'\x80', b'\xff', b'\x00\x00', b'\x80\x00', b'\x80\x01',
-              bytes(5), encode([26, 0, 0, 0, 0]), b'\xff' * 40, bytes(300))
+              bytes(6), encode([26, 0, 0, 0, 0, 0]), b'\xff' * 40, bytes(300))
     for tree in (path(), small_tree(), random_tree(dice, 40), Tree(0), Tree('Lit', detail=1),
                  named(), Tree('Unary', 'self'), cast(Tree('TypeImplTrait')),
                  closure(path())):
@@ -852,6 +886,40 @@ def labels(recording, dice):
                      call(path(), Tree(form), path()), Tree('Call', path(), Tree(form)),
                      Tree('Cast', path(), Tree(form, named()))):
             recording.add_tree(tree, dice.pick(ORDERS), meant=6)
+
+
+def symbols(recording, dice):
+    """A symbol of every length at every form, and at every place of a tree."""
+    for name in FORMS:
+        for detail in details(name):
+            missing = name in SEGMENTED and detail == 0
+            for symbol in SYMBOLS:
+                meant = 0 if has_symbol(name, detail) else 6
+                recording.add_tree(housed(bare(name, detail, full=True, symbol=symbol)),
+                                   dice.pick(ORDERS), meant)
+            recording.add_tree(housed(bare(name, detail)), meant=9 if missing else 0)
+    # 6 comes before 7 to 11, and after 5.
+    for tree in (Tree('Unary', symbol=1), Tree('Unary', 'self', symbol=1),
+                 cast(Tree('TypePath', symbol=1)), Tree('Closure', path(), detail=1, symbol=1),
+                 Tree('Unary', unary_chain(130), symbol=1),
+                 Tree('Call', path(), Tree('Link', named(), symbol=7))):
+        recording.add_tree(tree, meant=6)
+        recording.add(file_of(nodes_of(tree)) + b'\x00', meant=5)
+    for _ in range(60):
+        nodes = nodes_of(random_tree(dice, dice.between(2, 40)), dice.pick(ORDERS), dice)
+        at = dice.below(len(nodes))
+        meant = 0 if has_symbol(nodes[at].name, nodes[at].detail) else 6
+        nodes[at] = nodes[at]._replace(symbol=random_symbol(dice) or 1)
+        recording.add_nodes(nodes, meant=meant)
+
+
+def older_files(recording, dice):
+    """Files of five numbers a node: what their numbers say."""
+    for least, most, how_many in ((1, 3, 20), (4, 60, 40)):
+        for _ in range(how_many):
+            nodes = nodes_of(random_tree(dice, dice.between(least, most)), dice.pick(ORDERS), dice)
+            numbers = [number for node in nodes for number in node[:5]]
+            recording.add(encode([dice.below(4), len(nodes)] + numbers), meant=5)
 
 
 def operands(recording, dice):
@@ -1199,7 +1267,10 @@ DEFECTS = {
         lambda: Tree('Verbatim', detail=2), lambda: cast(Tree('TypeNever', attributes=1)),
         lambda: cast(Tree('TypePath', detail=4)), lambda: cast(Tree('TypeImplTrait', detail=8)),
         lambda: Tree('Binary', path(), path(), detail=28),
-        lambda: Tree('Call', path(), Tree('Link', path(), attributes=2))),
+        lambda: Tree('Call', path(), Tree('Link', path(), attributes=2)),
+        lambda: Tree('Reference', path(), symbol=1), lambda: Tree('Await', path(), symbol=65_535),
+        lambda: cast(Tree('TypeNever', symbol=128)), lambda: cast(Tree('TypePath', symbol=1)),
+        lambda: Tree('Call', path(), Tree('Link', path(), symbol=16_384))),
     7: (lambda: Tree('Unary'), lambda: Tree('Path', 1), lambda: Tree('Lit', 'above'),
         lambda: Tree('Reference', named()), lambda: Tree('Binary', path()),
         lambda: Tree('Cast', path(), path()), lambda: call(path(), named()), lambda: call(named()),
@@ -1253,13 +1324,13 @@ def broken_file(refusals, dice):
     tree = holding(parts or [small_tree()], dice)
     nodes = nodes_of(tree, dice.pick(ORDERS[:2] + ORDERS), dice, orphans)
     numbers = numbers_of(nodes, dice.below(4))
-    lent, tail, spellings = 5 * len(nodes), b'', {}
+    lent, tail, spellings = CELLS * len(nodes), b'', {}
     if 3 in refusals:
         numbers[0] = dice.pick((4, 5, 127, 128, 256, 65_535))
     if 4 in refusals and dice.chance(0.5):
         numbers[1] = dice.pick((0, 4_097, 65_535))
     elif 4 in refusals:
-        lent -= dice.between(1, 5)
+        lent -= dice.between(1, CELLS)
     if 5 in refusals and dice.chance(0.4):
         tail = dice.pick((b'\x00', b'\x80', b'\xff\x01', bytes(7)))
     elif 5 in refusals:
@@ -1299,6 +1370,8 @@ def same_node(recording, dice):
             (cast(Tree('TypePath', attributes=1)), 6),
             (cast(Tree('TypePath', 'self', detail=4)), 6),
             (cast(Tree('TypeImplTrait', detail=0, attributes=2)), 6),
+            (Tree('Unary', symbol=1), 6), (Tree('Path', symbol=1, attributes=3), 6),
+            (closure(Tree('Block', symbol=1)), 6), (closure(Tree('Lit', symbol=1)), 10),
             (closure(Tree('Block', attributes=3)), 6), (closure(Tree('Block', detail=2)), 6),
             (Tree('Closure', path(), detail=2), 6), (Tree('Closure', detail=2), 6),
             (Tree('TypePath'), 7), (Tree('TypePath', detail=NO), 7), (Tree('Link'), 7),
@@ -1327,8 +1400,9 @@ def same_node(recording, dice):
 
 def accepted_trees(recording, dice):
     """Accepted trees of all forms under all kinds of numbering."""
-    # The file of document 01's listing, `(a + b) * c`.
-    recording.add(bytes([0, 5, 5, 0, 2, 2, 3, 5, 0, 0, 4, 5] + [26, 0, 0, 0, 0] * 3), meant=0)
+    # The file of document 01's listing, `(a + b) * c`, with a 0 more for each node.
+    recording.add(bytes([0, 5, 5, 0, 2, 2, 3, 0, 5, 0, 0, 4, 5, 0] + [26, 0, 0, 0, 0, 0] * 3),
+                  meant=0)
     for least, most, how_many in ((1, 3, 40), (2, 12, 150), (13, 80, 150), (81, 420, 45)):
         for at in range(how_many):
             tree = random_tree(dice, dice.between(least, most), dice.pick((0.1, 0.5, 0.8, 0.97)))
@@ -1390,46 +1464,52 @@ def damaged_copies(recording, dice):
         return respelled(numbers, at, encode([new]))
 
     def label_changed(data, numbers):
-        at = 2 + 5 * dice.below(numbers[1]) + dice.below(3)
+        at = 2 + CELLS * dice.below(numbers[1]) + dice.below(3)
         new = dice.pick((0, 1, 2, 3, dice.between(1, 56)))
         return respelled(numbers, at, encode([new]))
 
     def operand_changed(data, numbers):
-        at = 2 + 5 * dice.below(numbers[1]) + dice.between(3, 4)
+        at = 2 + CELLS * dice.below(numbers[1]) + dice.between(3, 4)
         return respelled(numbers, at, encode([dice.below(numbers[1] + 2)]))
 
+    def symbol_changed(data, numbers):
+        at = 2 + CELLS * dice.below(numbers[1]) + 5
+        return respelled(numbers, at, encode([dice.pick((0, random_symbol(dice)))]))
+
     def operands_exchanged(data, numbers):
-        one, other = (2 + 5 * dice.below(numbers[1]) + dice.between(3, 4) for _ in range(2))
+        one, other = (2 + CELLS * dice.below(numbers[1]) + dice.between(3, 4)
+                      for _ in range(2))
         changed = list(numbers)
         changed[one], changed[other] = changed[other], changed[one]
         return encode(changed)
 
     def nodes_exchanged(data, numbers):
-        one, other = (2 + 5 * dice.below(numbers[1]) for _ in range(2))
+        one, other = (2 + CELLS * dice.below(numbers[1]) for _ in range(2))
         changed = list(numbers)
-        changed[one:one + 5], changed[other:other + 5] = \
-            numbers[other:other + 5], numbers[one:one + 5]
+        changed[one:one + CELLS], changed[other:other + CELLS] = \
+            numbers[other:other + CELLS], numbers[one:one + CELLS]
         return encode(changed)
 
     def last_node_removed(data, numbers):
-        return encode([numbers[0], numbers[1] - 1] + numbers[2:-5])
+        return encode([numbers[0], numbers[1] - 1] + numbers[2:-CELLS])
 
     def leaf_appended(data, numbers):
-        return encode([numbers[0], numbers[1] + 1] + numbers[2:] + [FORM_NUMBER['Lit'], 0, 0, 0, 0])
+        return encode([numbers[0], numbers[1] + 1] + numbers[2:]
+                      + [FORM_NUMBER['Lit'], 0, 0, 0, 0, 0])
 
     damages = (byte_changed, bit_changed, bytes_removed, bytes_inserted, number_changed,
-               label_changed, operand_changed, operands_exchanged, nodes_exchanged,
-               last_node_removed, leaf_appended)
+               label_changed, operand_changed, symbol_changed, operands_exchanged,
+               nodes_exchanged, last_node_removed, leaf_appended)
     for _ in range(90):
         nodes = nodes_of(random_tree(dice, dice.between(1, 40)), dice.pick(ORDERS), dice)
         numbers = numbers_of(nodes, dice.below(4))
         for damage in damages:
             damaged = damage(encode(numbers), numbers)
-            recording.add(damaged, dice.pick((5 * len(nodes), 5 * len(nodes) + 5, 20_480)))
+            recording.add(damaged, dice.pick((CELLS * len(nodes), CELLS * len(nodes) + 6, MOST_CELLS)))
 
 
 MAKERS = (long_files, headers, counts_and_tables, body_numbers, cut_files, trailing_bytes, labels,
-          operands, lists, ownership, segments_and_bounds, closures, depths, pairs, same_node,
+          symbols, older_files, operands, lists, ownership, segments_and_bounds, closures, depths, pairs, same_node,
           accepted_trees, largest_trees, damaged_copies)
 
 
@@ -1439,7 +1519,7 @@ def main():
     for seed, maker in enumerate(MAKERS, 100):
         maker(recording, Dice(seed))
     replies = Counter(record.reply for record in recording.records)
-    forms = {form for record in recording.records for form in record.cells[::5]}
+    forms = {form for record in recording.records for form in record.cells[::CELLS]}
     contexts = {record.context for record in recording.records if record.reply == 0}
     assert all(replies[refusal] >= 20 for refusal in range(1, 12)), replies
     assert replies[0] >= 300, replies

@@ -6,15 +6,22 @@
 #include <string.h>
 #include "tezhukor.h"
 
-static const uint8_t file[] = {0, 5, 5, 0, 1, 2, 3, 26, 0, 0, 0, 0, 5, 0, 1, 4, 5,
-                               26, 0, 0, 0, 0, 26, 0, 0, 0, 0};
+/* Of each node its form, attributes, detail, first and second operand, and symbol. */
+static const uint8_t file[] = {0, 5,                /* context, count */
+                               5, 0, 1, 2, 3, 0,    /* - */
+                               26, 0, 0, 0, 0, 1,   /* offset */
+                               5, 0, 1, 4, 5, 0,    /* - */
+                               26, 0, 0, 0, 0, 2,   /* station */
+                               26, 0, 0, 0, 0, 3};  /* start */
+
+static const char *const names[] = {"", "offset", "station", "start"};
 
 enum {
     NODES = 5, /* of the file */
     CELLS = TEZHUKOR_NODE_CELLS * TEZHUKOR_MOST_NODES,
     ROWS = TEZHUKOR_ROW_CELLS * NODES,
     SCRATCH = TEZHUKOR_SCRATCH_CELLS * NODES,
-    TOKENS = TEZHUKOR_TOKENS_PER_NODE * NODES,
+    TOKENS = TEZHUKOR_TOKEN_CELLS * TEZHUKOR_TOKENS_PER_NODE * NODES,
     BYTES = TEZHUKOR_FILE_BYTES(NODES)
 };
 
@@ -36,9 +43,13 @@ int main(void) {
         if (rows[TEZHUKOR_ROW_CELLS * (node - 1)] & 1) printf("node %u needs a pair\n", node);
     uint32_t written = tezhukor_write(context, count, table, cells, tokens, TOKENS);
     printf("tokens");
-    for (uint32_t at = 0; at < written; at++) printf(" %u", (unsigned)tokens[at]);
+    for (uint32_t at = 0; at < written; at++) {
+        const uint16_t *token = &tokens[TEZHUKOR_TOKEN_CELLS * at];
+        if (token[1] != 0) printf(" %s", names[token[1]]);
+        else printf(" %u", (unsigned)token[0]);
+    }
     printf("\n");
-    uint32_t nodes = tezhukor_read(tokens, written, again, CELLS);
+    uint32_t nodes = tezhukor_read(tokens, TEZHUKOR_TOKEN_CELLS * written, again, CELLS);
     int same = nodes == count && memcmp(table, again, 2 * cells) == 0;
     printf("read back %s\n", same ? "the same" : "another");
     /* The file's nodes are numbered from the root on, so saving gives its own bytes. */

@@ -14,7 +14,8 @@
  *    3 the context is above 3
  *    4 the node count is 0 or above 4,096, or the table is shorter than that many nodes
  *    5 a number of a node is malformed, or bytes follow the last one
- *    6 a form, attribute or detail number is not allowed
+ *    6 a form, attribute or detail number is not allowed, or a symbol is not 0 on a node
+ *      that has none
  *    7 an operand is absent, present or of the wrong class, or node 1 is no expression
  *    8 an operand's number is not above its owner's or is above the count, or a node
  *      is not owned exactly once
@@ -23,7 +24,8 @@
  *   11 a path from the root holds more than 128 nodes
  *   12 a lent buffer is too short
  *   13 the tree is not plain, or its context is not 0
- *   14 the token list is longer than 24,576, or holds a code above 45
+ *   14 the token list has more than 24,576 tokens, an odd number of cells, a code above
+ *      45, or a symbol that is not 0 on a token that has none
  *   15 the plain grammar gives the tokens no reading
  *   16 the reading needs more than 4,096 nodes, or a path of more than 128
  */
@@ -37,16 +39,20 @@
 extern "C" {
 #endif
 
-/* Cells that a node takes in a table, in rows and in scratch, and tokens at the most. */
-#define TEZHUKOR_NODE_CELLS 5
+/* Cells that a node takes in a table, in rows and in scratch, and tokens at the most;
+ * cells that a token takes. */
+#define TEZHUKOR_NODE_CELLS 6
 #define TEZHUKOR_ROW_CELLS 5
 #define TEZHUKOR_SCRATCH_CELLS 3
 #define TEZHUKOR_TOKENS_PER_NODE 6
+#define TEZHUKOR_TOKEN_CELLS 2
 #define TEZHUKOR_MOST_NODES 4096
 #define TEZHUKOR_MOST_TOKENS 24576
 
-/* Bytes that are enough for the tree file of so many nodes. */
-#define TEZHUKOR_FILE_BYTES(nodes) (3 * (2 + (size_t)TEZHUKOR_NODE_CELLS * (nodes)))
+/* Bytes that are enough for the saved tree file of so many nodes: three for the header,
+ * and of each node one for form, attributes and detail, two for an operand, three for
+ * the symbol. */
+#define TEZHUKOR_FILE_BYTES(nodes) (3 + 10 * (size_t)(nodes))
 
 /* The refusal in a reply of load, save, compare, write and read; 0 if there is none. */
 #define TEZHUKOR_REFUSAL(reply) ((uint16_t)((reply) >> 16))
@@ -54,9 +60,10 @@ extern "C" {
 #define TEZHUKOR_CONTEXT(reply) ((uint16_t)((reply) / 8192))
 #define TEZHUKOR_COUNT(reply) ((uint16_t)((reply) % 8192))
 
-/* Loads a tree file into a table, five cells a node: form, attributes, detail, first,
- * second. Replies the refusal times 65,536 (1 to 11), or the context times 8,192 and
- * the count. */
+/* Loads a tree file into a table, six cells a node: form, attributes, detail, first,
+ * second, symbol. Symbols are for Path, Lit, Field, MethodCall and path types with a
+ * segment, and 0 elsewhere; files of five numbers a node are no longer read. Replies the
+ * refusal times 65,536 (1 to 11), or the context times 8,192 and the count. */
 uint32_t tezhukor_load(const uint8_t *file, size_t file_length, uint16_t *table,
                        size_t table_length);
 
@@ -81,13 +88,17 @@ uint16_t tezhukor_decide(uint16_t context, uint16_t count, const uint16_t *table
                          size_t table_length, uint16_t *rows, size_t rows_length,
                          uint16_t *scratch, size_t scratch_length);
 
-/* Writes the tokens of a plain table in context 0; six cells a node must be lent.
- * Replies the refusal times 65,536 (3, 4, 6 to 13), or the number of tokens. */
+/* Writes the tokens of a plain table in context 0, two cells a token: its code, and the
+ * symbol of its node on names (32), literals (33) and numbered members (44), else 0.
+ * Twelve cells a node must be lent. Replies the refusal times 65,536 (3, 4, 6 to 13), or
+ * the number of tokens. */
 uint32_t tezhukor_write(uint16_t context, uint16_t count, const uint16_t *table,
                         size_t table_length, uint16_t *tokens, size_t tokens_length);
 
-/* Reads a token list into a table with room for the most nodes. Replies the refusal
- * times 65,536 (12, 14 to 16), or the number of nodes.
+/* Reads a token list, two cells a token and so many cells as tokens_length says, into a
+ * table with room for the most nodes; a name's, a literal's and a numbered member's
+ * symbol stands on the node that it names. Replies the refusal times 65,536 (12, 14 to
+ * 16), or the number of nodes.
  * It was measured to take up to 4.0 MiB of stack, for the longest lists (docs/PERFORMANCE.md). */
 uint32_t tezhukor_read(const uint16_t *tokens, size_t tokens_length, uint16_t *table,
                        size_t table_length);

@@ -7,7 +7,7 @@ mod library;
 pub mod questions;
 
 use crate::Refusal;
-use model::sizes::{CONTEXT_UNIT, MOST_TOKENS, REFUSAL_UNIT};
+use model::sizes::{CONTEXT_UNIT, MOST_TOKENS, REFUSAL_UNIT, TOKEN_CELLS};
 
 /// What a reply of one number says: what was done, or the refusal.
 pub fn done(reply: u32) -> Result<u16, Refusal> {
@@ -80,9 +80,9 @@ pub fn decide(
     }
 }
 
-/// Writes the tokens of a plain table;
-/// [`TOKENS_PER_NODE`](model::sizes::TOKENS_PER_NODE) cells a node must be lent. What is
-/// done is the number of tokens.
+/// Writes the tokens of a plain table, [`TOKEN_CELLS`] cells a token: its code and its
+/// symbol; [`TOKEN_CELLS_PER_NODE`](model::sizes::TOKEN_CELLS_PER_NODE) cells a node must
+/// be lent. What is done is the number of tokens.
 pub fn write(context: u16, count: u16, table: &[u16], tokens: &mut [u16]) -> u32 {
     // SAFETY: as above.
     unsafe {
@@ -103,8 +103,8 @@ const LONG: usize = 2_048;
 /// The longest lists were measured to take up to 4.0 MiB of it (docs/PERFORMANCE.md).
 const STACK: usize = 16 << 20;
 
-/// Reads a token list into a table of at least [`MOST_CELLS`](model::sizes::MOST_CELLS)
-/// cells. What is done is the number of nodes.
+/// Reads a token list, [`TOKEN_CELLS`] cells a token, into a table of at least
+/// [`MOST_CELLS`](model::sizes::MOST_CELLS) cells. What is done is the number of nodes.
 ///
 /// The library's reader is recursive: a long list is read on a thread of its own,
 /// whose stack is large enough for the longest one.
@@ -113,7 +113,8 @@ const STACK: usize = 16 << 20;
 ///
 /// If the list is long and the system starts no thread.
 pub fn read(tokens: &[u16], table: &mut [u16]) -> u32 {
-    if tokens.len() <= LONG || tokens.len() > MOST_TOKENS {
+    let length = tokens.len().div_ceil(TOKEN_CELLS);
+    if length <= LONG || length > MOST_TOKENS {
         return read_here(tokens, table);
     }
     std::thread::scope(|scope| {

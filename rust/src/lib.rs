@@ -6,7 +6,10 @@
 //!
 //! ```
 //! // offset - (station - start): Binary Sub over a Path and another Binary Sub.
-//! let file = [0, 5, 5, 0, 1, 2, 3, 26, 0, 0, 0, 0, 5, 0, 1, 4, 5, 26, 0, 0, 0, 0, 26, 0, 0, 0, 0];
+//! let name = [26, 0, 0, 0, 0, 0];
+//! let outer = [5, 0, 1, 2, 3, 0];
+//! let inner = [5, 0, 1, 4, 5, 0];
+//! let file = [&[0, 5][..], &outer, &name, &inner, &name, &name].concat();
 //! let rows = tezhukor::rows(&file)?;
 //! let pairs: Vec<bool> = rows.iter().map(|row| row.has_outer_pair()).collect();
 //! assert_eq!(pairs, [false, false, true, false, false]);
@@ -17,14 +20,18 @@
 //! await) can be written as tokens, and tokens read back as a tree:
 //!
 //! ```
-//! use tezhukor::codes::{CLOSE, MINUS, NAME, OPEN};
+//! use tezhukor::codes::{self, CLOSE, MINUS, NAME, OPEN};
+//! use tezhukor::Token;
 //!
-//! let tokens = [NAME, MINUS, OPEN, NAME, MINUS, NAME, CLOSE];
+//! // offset is symbol 1, station 2, start 3.
+//! let name = |symbol| Token::new(NAME, symbol);
+//! let [minus, open, close] = [MINUS, OPEN, CLOSE].map(Token::from);
+//! let tokens = [name(1), minus, open, name(2), minus, name(3), close];
 //! let file = tezhukor::tree_file(&tokens)?;
 //! assert_eq!(tezhukor::tokens(&file)?, tokens);
 //!
 //! // Without the pair it is another tree.
-//! let other = tezhukor::tree_file(&[NAME, MINUS, NAME, MINUS, NAME])?;
+//! let other = tezhukor::tree_file(&[name(1), minus, name(2), minus, name(3)])?;
 //! assert_ne!(other, file);
 //! # Ok::<(), tezhukor::Refusal>(())
 //! ```
@@ -37,14 +44,20 @@
 //! What is wrong with a file is told by number and in a sentence:
 //!
 //! ```
-//! let refusal = tezhukor::rows(&[4, 1, 26, 0, 0, 0, 0]).unwrap_err();
+//! let refusal = tezhukor::rows(&[4, 1, 26, 0, 0, 0, 0, 0]).unwrap_err();
 //! assert_eq!(refusal, tezhukor::Refusal::Context);
 //! assert_eq!(refusal.number(), 3);
 //! assert_eq!(refusal.to_string(), "The context is above 3.");
 //! ```
 //!
-//! Names and literals travel beside the tree, in order of occurrence; tree files hold
-//! none. Nests that double prettyplease's work with each level do not double it here.
+//! A node has six numbers, the last of them a symbol that Path, Lit, Field, MethodCall and
+//! path types may have. Files of five numbers a node, as older versions had them, are no
+//! longer read: they meet the refusal that their numbers give, 5 where the header is in
+//! order. A token is a code and a symbol, which a name, a literal and a numbered member may
+//! have: that of the node that it was written for, and of the node that is read from it. What
+//! a symbol stands for is the caller's affair; the command `sheet` keeps a line for each.
+//!
+//! Nests that double prettyplease's work with each level do not double it here.
 
 mod binding;
 pub mod boundary;
@@ -53,7 +66,7 @@ mod tree;
 
 pub use binding::{Binding, Lean};
 #[doc(inline)]
-pub use model::{codes, forms, sizes};
+pub use model::{codes, codes::Token, forms, sizes};
 pub use refusal::Refusal;
 use std::cmp::Ordering;
 pub use tree::{Node, Row, Tree};
@@ -62,7 +75,8 @@ pub use tree::{Node, Row, Tree};
 ///
 /// ```
 /// // (a + b) * c
-/// let file = [0, 5, 5, 0, 2, 2, 3, 5, 0, 0, 4, 5, 26, 0, 0, 0, 0, 26, 0, 0, 0, 0, 26, 0, 0, 0, 0];
+/// let name = [26, 0, 0, 0, 0, 0];
+/// let file = [&[0, 5, 5, 0, 2, 2, 3, 0, 5, 0, 0, 4, 5, 0][..], &name, &name, &name].concat();
 /// let rows = tezhukor::rows(&file)?;
 /// assert!(rows[1].has_outer_pair());
 /// assert_eq!(rows[1].precedence, 11);
@@ -75,12 +89,12 @@ pub fn rows(file: &[u8]) -> Result<Vec<Row>, Refusal> {
 /// The tokens of the tree file of a plain tree ([`codes`]).
 ///
 /// ```
-/// use tezhukor::Refusal;
-/// // A name, and a block, which is not plain.
-/// assert_eq!(tezhukor::tokens(&[0, 1, 26, 0, 0, 0, 0]), Ok(vec![32]));
-/// assert_eq!(tezhukor::tokens(&[0, 1, 6, 0, 0, 0, 0]), Err(Refusal::NotPlain));
+/// use tezhukor::{Refusal, Token};
+/// // A name with symbol 7, and a block, which is not plain.
+/// assert_eq!(tezhukor::tokens(&[0, 1, 26, 0, 0, 0, 0, 7]), Ok(vec![Token::new(32, 7)]));
+/// assert_eq!(tezhukor::tokens(&[0, 1, 6, 0, 0, 0, 0, 0]), Err(Refusal::NotPlain));
 /// ```
-pub fn tokens(file: &[u8]) -> Result<Vec<u16>, Refusal> {
+pub fn tokens(file: &[u8]) -> Result<Vec<Token>, Refusal> {
     Tree::load(file)?.tokens()
 }
 
@@ -90,7 +104,7 @@ pub fn tokens(file: &[u8]) -> Result<Vec<u16>, Refusal> {
 ///
 /// ```
 /// use std::cmp::Ordering::*;
-/// let (path, lit) = ([0, 1, 26, 0, 0, 0, 0], [0, 1, 20, 0, 0, 0, 0]);
+/// let (path, lit) = ([0, 1, 26, 0, 0, 0, 0, 0], [0, 1, 20, 0, 0, 0, 0, 0]);
 /// assert_eq!(tezhukor::cmp(&path, &lit), Ok(Greater));
 /// assert_eq!(tezhukor::cmp(&path, &path), Ok(Equal));
 /// assert_eq!(tezhukor::cmp(&[0, 0], &[]), Err(tezhukor::Refusal::Count));
@@ -103,13 +117,16 @@ pub fn cmp(first: &[u8], second: &[u8]) -> Result<Ordering, Refusal> {
 /// The tree file of a token list's reading.
 ///
 /// ```
-/// use tezhukor::Refusal;
-/// assert_eq!(tezhukor::tree_file(&[32]), Ok(vec![0, 1, 26, 0, 0, 0, 0]));
+/// use tezhukor::{codes::tokens, tree_file, Refusal, Token};
+/// assert_eq!(tree_file(&[Token::new(32, 7)]), Ok(vec![0, 1, 26, 0, 0, 0, 0, 7]));
+/// // Only names, literals and numbered members have symbols.
+/// assert_eq!(tree_file(&[Token::new(29, 7), Token::new(32, 7)]), Err(Refusal::Tokens));
 /// // Comparisons do not chain.
-/// assert_eq!(tezhukor::tree_file(&[32, 13, 32, 13, 32]), Err(Refusal::NoReading));
+/// assert_eq!(tree_file(&tokens(&[32, 13, 32, 13, 32])), Err(Refusal::NoReading));
 /// // A comma after the last argument changes nothing: `f(a,)` is `f(a)`.
-/// assert_eq!(tezhukor::tree_file(&[32, 35, 32, 39, 36]), tezhukor::tree_file(&[32, 35, 32, 36]));
+/// let without = tree_file(&tokens(&[32, 35, 32, 36]));
+/// assert_eq!(tree_file(&tokens(&[32, 35, 32, 39, 36])), without);
 /// ```
-pub fn tree_file(tokens: &[u16]) -> Result<Vec<u8>, Refusal> {
+pub fn tree_file(tokens: &[Token]) -> Result<Vec<u8>, Refusal> {
     Ok(Tree::read(tokens)?.to_file())
 }

@@ -33,7 +33,7 @@ refusals! {
     3 Context "The context is above 3.",
     4 Count "The node count is 0 or above 4,096, or the table is shorter than that many nodes.",
     5 Body "A number of a node is malformed, or bytes follow the last one.",
-    6 Label "A node's form, attributes or detail is a number that is not allowed there.",
+    6 Label "A node's form, attributes or detail is a number that is not allowed there, or it has a symbol where none is allowed.",
     7 Operand "An operand is absent where required, present where forbidden, or of the wrong class, or node 1 is no expression.",
     8 Numbering "An operand's number is not above its owner's or is above the count, or a node is not owned exactly once.",
     9 SegmentOrBound "A path type has no segment, or a list of bounds is empty.",
@@ -41,7 +41,7 @@ refusals! {
     11 Depth "A path from the root holds more than 128 nodes, list links not counted.",
     12 Buffer "A lent buffer is too short.",
     13 NotPlain "The tree has a form that is not plain, or its context is not 0.",
-    14 Tokens "The token list is longer than 24,576, or holds a code above 45.",
+    14 Tokens "The token list has more than 24,576 tokens, an odd number of cells, a code above 45, or a symbol on a token that has none.",
     15 NoReading "The plain grammar gives these tokens no reading.",
     16 ReadingTooLarge "The reading needs more than 4,096 nodes, or a path of more than 128.",
 }

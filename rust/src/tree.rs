@@ -1,11 +1,13 @@
 //! Accepted trees.
 
 use crate::{boundary, Refusal};
-use model::sizes::{file_bytes, MOST_CELLS, NODE_CELLS, ROW_CELLS, SCRATCH_CELLS, TOKENS_PER_NODE};
+use model::codes::{self, Token};
+use model::sizes::*;
 use model::table;
 
-/// A node: its form ([`crate::forms`]), attributes, detail, and the numbers of its
-/// operands, 0 for none. Nodes are numbered from 1, and operands above their owners.
+/// A node: its form ([`crate::forms`]), attributes, detail, the numbers of its operands, 0
+/// for none, and its symbol, 0 but on Path, Lit, Field, MethodCall and path types with a
+/// segment. Nodes are numbered from 1, and operands above their owners.
 #[derive(Copy, Clone, PartialEq, Eq, Hash, Debug, Default)]
 pub struct Node {
     pub form: u16,
@@ -13,6 +15,7 @@ pub struct Node {
     pub detail: u16,
     pub first: u16,
     pub second: u16,
+    pub symbol: u16,
 }
 
 /// What is decided for a node. All are 0 for a type and a list link.
@@ -37,12 +40,13 @@ impl Node {
             detail: cells[table::DETAIL],
             first: cells[table::FIRST],
             second: cells[table::SECOND],
+            symbol: cells[table::SYMBOL],
         }
     }
 
     /// Its cells in a table.
     pub fn cells(self) -> [u16; NODE_CELLS] {
-        [self.form, self.attributes, self.detail, self.first, self.second]
+        [self.form, self.attributes, self.detail, self.first, self.second, self.symbol]
     }
 }
 
@@ -103,10 +107,11 @@ impl Tree {
         }
     }
 
-    /// The reading of a token list, in context 0.
-    pub fn read(tokens: &[u16]) -> Result<Tree, Refusal> {
+    /// The reading of a token list, in context 0, each symbol on the node that its token
+    /// names.
+    pub fn read(tokens: &[Token]) -> Result<Tree, Refusal> {
         let mut cells = vec![0; MOST_CELLS];
-        let count = boundary::done(boundary::read(tokens, &mut cells))?;
+        let count = boundary::done(boundary::read(&codes::cells(tokens), &mut cells))?;
         cells.truncate(NODE_CELLS * usize::from(count));
         Ok(Tree { context: 0, cells })
     }
@@ -143,13 +148,13 @@ impl Tree {
         rows.chunks_exact(ROW_CELLS).map(Row::of_cells).collect()
     }
 
-    /// The tokens of a plain tree in context 0, with the pairs that it needs.
-    /// Refused is only what is not plain ([`Refusal::NotPlain`]).
-    pub fn tokens(&self) -> Result<Vec<u16>, Refusal> {
-        let mut tokens = vec![0; TOKENS_PER_NODE * usize::from(self.count())];
-        let reply = boundary::write(self.context, self.count(), &self.cells, &mut tokens);
-        tokens.truncate(boundary::done(reply)?.into());
-        Ok(tokens)
+    /// The tokens of a plain tree in context 0, with the pairs that it needs and the nodes'
+    /// symbols. Refused is only what is not plain ([`Refusal::NotPlain`]).
+    pub fn tokens(&self) -> Result<Vec<Token>, Refusal> {
+        let mut cells = vec![0; TOKEN_CELLS_PER_NODE * usize::from(self.count())];
+        let reply = boundary::write(self.context, self.count(), &self.cells, &mut cells);
+        let written = usize::from(boundary::done(reply)?);
+        Ok(Token::of_cells(&cells[..TOKEN_CELLS * written]))
     }
 
     /// The tree file: one for each context and tree, however its nodes are numbered
@@ -169,8 +174,8 @@ impl Tree {
     /// ```
     /// use tezhukor::Tree;
     /// // a + b: its operands numbered in order, and the other way round.
-    /// let tree = Tree::load(&[0, 3, 5, 0, 0, 2, 3, 26, 0, 0, 0, 0, 20, 0, 0, 0, 0])?;
-    /// let other = Tree::load(&[0, 3, 5, 0, 0, 3, 2, 20, 0, 0, 0, 0, 26, 0, 0, 0, 0])?;
+    /// let tree = Tree::load(&[0, 3, 5, 0, 0, 2, 3, 0, 26, 0, 0, 0, 0, 0, 20, 0, 0, 0, 0, 0])?;
+    /// let other = Tree::load(&[0, 3, 5, 0, 0, 3, 2, 0, 20, 0, 0, 0, 0, 0, 26, 0, 0, 0, 0, 0])?;
     /// assert_ne!(tree, other);
     /// assert_eq!(tree, other.canonical());
     /// assert_eq!(tree.to_file(), other.to_file());

@@ -10,7 +10,7 @@ use model::accept;
 use model::generate::{Dice, Draft, Family, Order};
 use model::lent::Lent;
 use model::sizes::*;
-use model::table::{self, NodeTable, ATTRIBUTES, DETAIL, FORM};
+use model::table::{self, NodeTable, ATTRIBUTES, DETAIL, FORM, SECOND, SYMBOL};
 use std::cmp::Ordering;
 use tezhukor::{boundary, Refusal, Tree};
 
@@ -94,10 +94,11 @@ fn changed_at_one_place() {
     each_tree(23, |tree, file, dice| {
         let mut other = tree.clone();
         let node = NODE_CELLS * dice.below(usize::from(tree.count));
-        match dice.below(4) {
+        match dice.below(5) {
             0 => other.context = (tree.context + 1) % (LAST_CONTEXT + 1),
             1 => other.cells[node + FORM] = dice.between(1, 56) as u16,
             2 => other.cells[node + ATTRIBUTES] = dice.below(3) as u16,
+            3 => other.cells[node + SYMBOL] = dice.pick(&[0, 1, 127, 128, 16_383, 16_384, 65_535]),
             _ => other.cells[node + DETAIL] = dice.below(28) as u16,
         }
         let meant = meant(&other);
@@ -128,22 +129,22 @@ fn every_length() {
     }
 }
 
-/// Numbers of one, two and three bytes are written; of three only as refused cells.
+/// Numbers of one, two and three bytes are written; of three only symbols.
 #[test]
 fn largest() {
     let dice = &mut Dice::new(26, 0);
     for count in [63, 64, 127, 128, 129, 1_000, 4_095, 4_096] {
         // A call of so many names, in a list of links.
-        let mut cells = vec![8, 0, 0, 2, 3, 26, 0, 0, 0, 0];
+        let mut cells = vec![8, 0, 0, 2, 3, 0, 26, 0, 0, 0, 0, 0];
         for link in (3..=count).step_by(2) {
             let next = if link + 2 <= count { link + 2 } else { 0 };
             if link + 1 <= count {
-                cells.extend([56, 0, 0, link + 1, next, 26, 0, 0, 0, 0]);
+                cells.extend([56, 0, 0, link + 1, next, 0, 26, 0, 0, 0, 0, MOST_SYMBOL - link]);
             }
         }
         let nodes = (cells.len() / NODE_CELLS) as u16;
         let last = cells.len() - 2 * NODE_CELLS;
-        cells[last + 4] = 0;
+        cells[last + SECOND] = 0;
         let table = NodeTable { context: 3, count: nodes, cells };
         let file = meant(&table);
         assert!(file.is_ok(), "{count}");
@@ -227,14 +228,14 @@ fn order_laws() {
 /// The first file's checks come first, also where the second's refusal is smaller.
 #[test]
 fn order_of_checks() {
-    let fine = [0, 1, 26, 0, 0, 0, 0];
+    let fine = [0, 1, 26, 0, 0, 0, 0, 0];
     let refused: [(&[u8], u16); 6] = [
         (&[0x80], 2),
         (&[4, 1], 3),
         (&[0, 0], 4),
         (&[0, 1, 26], 5),
-        (&[0, 1, 57, 0, 0, 0, 0], 6),
-        (&[0, 1, 5, 0, 0, 0, 0], 7),
+        (&[0, 1, 57, 0, 0, 0, 0, 0], 6),
+        (&[0, 1, 5, 0, 0, 0, 0, 0], 7),
     ];
     for (first, one) in refused {
         assert_eq!(compare(first, &fine), Err(one));
@@ -251,24 +252,32 @@ fn order_of_checks() {
 #[test]
 fn least_differences() {
     use Ordering::*;
-    let path = |context| [context, 1, 26, 0, 0, 0, 0];
+    let path = |context| [context, 1, 26, 0, 0, 0, 0, 0];
     assert_eq!(compare(&path(0), &path(1)), Ok(Less));
     assert_eq!(compare(&path(3), &path(2)), Ok(Greater));
-    // The last node has no operands: its detail is the last number in which accepted
-    // files can differ.
-    let block = |detail| [0, 1, 6, 0, detail, 0, 0];
+    // The last number is a symbol, of one byte or more.
+    let symbol = |symbol: u16| table::numbers(&[0, 1, 26, 0, 0, 0, 0, symbol]);
+    for symbols in [0, 1, 127, 128, 129, 16_383, 16_384, MOST_SYMBOL].windows(2) {
+        let [low, high] = [symbol(symbols[0]), symbol(symbols[1])];
+        assert_eq!(compare(&low, &high), Ok(Less));
+        assert_eq!(compare(&low, &low), Ok(Equal));
+        assert_eq!(compare(&high, &low), Ok(Greater));
+    }
+    // Of a node without one it is the detail, since the last node has no operands.
+    let block = |detail| [0, 1, 6, 0, detail, 0, 0, 0];
     assert_eq!(compare(&block(0), &block(1)), Ok(Less));
     assert_eq!(compare(&block(1), &block(1)), Ok(Equal));
     assert_eq!(compare(&block(1), &block(0)), Ok(Greater));
-    assert_eq!(compare(&block(0), &[0, 1, 6, 0, 0, 0, 1]), Err(7));
+    assert_eq!(compare(&block(0), &[0, 1, 6, 0, 0, 0, 0, 1]), Err(6));
+    assert_eq!(compare(&block(0), &[0, 1, 6, 0, 0, 0, 1, 0]), Err(7));
     // No accepted file's nodes are the beginning of another's: the longer has an operand
     // where the shorter has none.
     let call = |links: u8| {
-        let mut file = vec![0, 2 + 2 * links, 8, 0, 0, 2, if links == 0 { 0 } else { 3 }];
-        file.extend([26, 0, 0, 0, 0]);
+        let mut file = vec![0, 2 + 2 * links, 8, 0, 0, 2, if links == 0 { 0 } else { 3 }, 0];
+        file.extend([26, 0, 0, 0, 0, 0]);
         for link in 1..=links {
             let next = if link == links { 0 } else { 2 * link + 3 };
-            file.extend([56, 0, 0, 2 * link + 2, next, 26, 0, 0, 0, 0]);
+            file.extend([56, 0, 0, 2 * link + 2, next, 0, 26, 0, 0, 0, 0, 0]);
         }
         file
     };

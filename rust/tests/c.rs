@@ -24,9 +24,9 @@ fn example() {
     let printed = String::from_utf8_lossy(&output.stdout);
     let meant = [
         "node 3 needs a pair",
-        "tokens 32 1 35 32 1 32 36",
+        "tokens offset 1 35 station 1 start 36",
         "read back the same",
-        "saved 27 bytes, compared 1",
+        "saved 32 bytes, compared 1",
         "level 11, lean 0",
         "refused 12",
         "refused 2",

@@ -8,7 +8,7 @@ use model::table;
 use std::cmp::Ordering;
 use std::fmt::Debug;
 use tezhukor::sizes::{CONTEXT_UNIT, MOST_CELLS, REFUSAL_UNIT, ROW_CELLS, SCRATCH_CELLS};
-use tezhukor::{boundary, Refusal, Row, Tree};
+use tezhukor::{boundary, Refusal, Row, Token, Tree};
 
 /// Checks that a buffer holds an answer, and else what it was lent with.
 fn holds<Of: Cell + Debug>(mut buffer: Lent<Of>, answer: &[Of]) {
@@ -78,7 +78,7 @@ fn tokens() {
         assert_eq!(written, reply(record));
         holds(tokens, &record.cells());
         if record.refusal == 0 {
-            assert_eq!(tree.tokens().as_ref(), Ok(&record.cells()));
+            assert_eq!(tree.tokens(), Ok(Token::of_cells(&record.cells())));
         }
     }
     println!("tokens {}, different 0", records.len());
@@ -93,7 +93,8 @@ fn readings() {
         assert_eq!(boundary::read(&tokens, table.lend(record.lent)), reply(record));
         holds(table, &record.cells());
         if record.refusal == 0 {
-            assert_eq!(Tree::read(&tokens).expect("a tree").cells(), record.cells());
+            let tree = Tree::read(&Token::of_cells(&tokens)).expect("a tree");
+            assert_eq!(tree.cells(), record.cells());
         }
     }
     println!("readings {}, different 0", records.len());

@@ -72,7 +72,7 @@ fn first_example() {
     let rows =
         "ok 5\n1 0 11 0 0 0\n2 0 15 0 11 384\n3 1 11 11 0 0\n4 0 15 0 11 384\n5 0 15 11 0 0\n";
     assert_eq!(printed(&["rows", "-"], &file, 0), rows);
-    let tokens = "ok 7\n32 1 35 32 1 32 36\nNAME - ( NAME - NAME )\n";
+    let tokens = "ok 7\n32 1 35 32 1 32 36\n1 0 0 2 0 3 0\nNAME - ( NAME - NAME )\n";
     assert_eq!(printed(&["tokens", "-"], &file, 0), tokens);
 }
 
@@ -108,6 +108,54 @@ fn shown_as_read() {
     }
 }
 
+/// Equal names have equal symbols, and a line each in the names file.
+#[test]
+fn equal_names() {
+    let names = Scratch::new("equal");
+    let text = "a.m(b, 1) - a as a < 1 .m.0";
+    let read = "a.m(b, 1) - (a as a) < 1 .m.0";
+    let file = sheet(&["read", "--names", names.name(), read], b"").stdout;
+    assert_eq!(std::fs::read_to_string(&names.0).expect("names"), "a\nm\nb\n1\n0\n");
+    let shown = printed(&["show", "--names", names.name(), "-"], &file, 0);
+    assert_eq!(shown.trim_end(), text.replace("a as a", "(a as a)"));
+    // Without the file equal names still have equal letters.
+    assert_eq!(printed(&["show", "-"], &file, 0), "a.b(c, 1) - (a as A) < 1 .b.0\n");
+    // With another file other names, and in place of a line that is missing letters.
+    std::fs::write(&names.0, "first\n\nthird\n").expect("a file");
+    let shown = printed(&["show", "--names", names.name(), "-"], &file, 0);
+    assert_eq!(shown, "first.b(third, 1) - (first as first) < 1 .b.0\n");
+}
+
+/// Names stay where they are when the nodes are numbered otherwise, and when the tree is
+/// saved.
+#[test]
+fn names_in_any_numbering() {
+    let names = Scratch::new("numbered");
+    std::fs::write(&names.0, "offset\nstation\nstart\n").expect("a file");
+    let shown = |file: &[u8]| printed(&["show", "--names", names.name(), "-"], file, 0);
+    let [outer, inner] = [[5, 0, 1, 2, 3, 0], [5, 0, 1, 4, 5, 0]];
+    let name = |symbol| [26, 0, 0, 0, 0, symbol];
+    let head = [0, 5];
+    let file = [&head[..], &outer, &name(1), &inner, &name(2), &name(3)].concat();
+    let [outer, inner] = [[5, 0, 1, 5, 2, 0], [5, 0, 1, 4, 3, 0]];
+    let turned = [&head[..], &outer, &inner, &name(3), &name(2), &name(1)].concat();
+    assert_eq!(shown(&file), "offset - (station - start)\n");
+    assert_eq!(shown(&turned), shown(&file));
+    let saved = sheet(&["canonical", "-"], &turned).stdout;
+    assert_eq!(saved, file);
+    let why = |file: &[u8]| printed(&["why", "--names", names.name(), "-"], file, 0);
+    assert!(why(&file).starts_with("node 3 `station - start`"));
+    assert!(why(&turned).starts_with("node 2 `station - start`"));
+}
+
+/// A file of five numbers a node, as older versions had them, is refused.
+#[test]
+fn older_files() {
+    let older = [0, 3, 5, 0, 0, 2, 3, 26, 0, 0, 0, 0, 26, 0, 0, 0, 0];
+    let message = printed(&["check", "-"], &older, 1);
+    assert!(message.starts_with("sheet: refused (5) at node 3, byte 17: "), "{message}");
+}
+
 /// A comma after the last item of a list is read, and not shown.
 #[test]
 fn commas_after_last_items() {
@@ -140,18 +188,18 @@ fn reasons() {
     assert!(why("(-x).f").contains("below Unambiguous (15)"));
     assert_eq!(why("a + b * c"), "no pair was added\n");
     // A match that begins a statement, left of `+`.
-    let statement = [1, 3, 5, 0, 0, 2, 3, 23, 0, 0, 0, 0, 26, 0, 0, 0, 0];
+    let statement = [1, 3, 5, 0, 0, 2, 3, 0, 23, 0, 0, 0, 0, 0, 26, 0, 0, 0, 0, 0];
     assert!(printed(&["why", "-"], &statement, 0).contains("parenthesize asks for it: part 1"));
     assert_eq!(printed(&["show", "-"], &statement, 0), "(match .. { .. }) + a\n");
     // Binary with inner attributes alone.
-    let inner = [0, 3, 5, 1, 0, 2, 3, 26, 0, 0, 0, 0, 26, 0, 0, 0, 0];
+    let inner = [0, 3, 5, 1, 0, 2, 3, 0, 26, 0, 0, 0, 0, 0, 26, 0, 0, 0, 0, 0];
     assert_eq!(
         printed(&["why", "-"], &inner, 0),
         "node 1 `(a + b)`, the root: an inner pair; Binary `+` has one whenever it has \
          attributes, also inner ones\n"
     );
     // A struct in a condition.
-    let condition = [3, 3, 5, 0, 12, 2, 3, 26, 0, 0, 0, 0, 32, 0, 0, 0, 0];
+    let condition = [3, 3, 5, 0, 12, 2, 3, 0, 26, 0, 0, 0, 0, 0, 32, 0, 0, 0, 0, 0];
     assert!(printed(&["why", "-"], &condition, 0).contains("part 4"));
 }
 
@@ -173,7 +221,7 @@ fn leans() {
         assert!(!why(text).contains(" lean"), "{text}");
     }
     // A range left of another's dots.
-    let ranges = [0, 3, 27, 0, 0, 2, 0, 27, 0, 0, 3, 0, 26, 0, 0, 0, 0];
+    let ranges = [0, 3, 27, 0, 0, 2, 0, 0, 27, 0, 0, 3, 0, 0, 26, 0, 0, 0, 0, 0];
     assert!(printed(&["why", "-"], &ranges, 0).contains("ranges lean to neither side"));
 }
 
@@ -239,17 +287,18 @@ fn ends_behind_a_comma() {
 fn refusals() {
     let refused = |file: &[u8]| printed(&["check", "-"], file, 1);
     assert_eq!(
-        refused(&[0, 3, 5, 0, 0, 2, 2, 26, 0, 0, 0, 0, 26, 0, 0, 0, 0]),
+        refused(&[0, 3, 5, 0, 0, 2, 2, 0, 26, 0, 0, 0, 0, 0, 26, 0, 0, 0, 0, 0]),
         "sheet: refused (8) at node 2: An operand's number is not above its owner's or is above \
          the count, or a node is not owned exactly once.\n"
     );
-    assert!(refused(&[0, 1, 5, 0, 28, 0, 0]).starts_with("sheet: refused (6) at node 1: "));
-    assert!(refused(&[0, 1, 5, 0, 0, 0, 0]).starts_with("sheet: refused (7) at node 1: "));
+    assert!(refused(&[0, 1, 5, 0, 28, 0, 0, 0]).starts_with("sheet: refused (6) at node 1: "));
+    assert!(refused(&[0, 1, 6, 0, 0, 0, 0, 1]).starts_with("sheet: refused (6) at node 1: "));
+    assert!(refused(&[0, 1, 5, 0, 0, 0, 0, 0]).starts_with("sheet: refused (7) at node 1: "));
     assert!(refused(&[0, 1, 5, 0]).starts_with("sheet: refused (5) at node 1, byte 4: "));
     assert!(refused(&[9, 1]).starts_with("sheet: refused (3) with context 9: "));
     assert!(refused(&[]).starts_with("sheet: refused (2) at byte 0: "));
     assert!(refused(&vec![0; 70_000]).starts_with("sheet: refused (1): "));
-    let block = [0, 1, 6, 0, 0, 0, 0];
+    let block = [0, 1, 6, 0, 0, 0, 0, 0];
     assert!(printed(&["tokens", "-"], &block, 1).starts_with("sheet: refused (13): "));
     assert_eq!(printed(&["check", "-"], &block, 0), "accepted: 1 nodes, context 0, not plain\n");
 }
@@ -257,8 +306,8 @@ fn refusals() {
 /// One file for one tree: numbered otherwise, in another context, and another tree.
 #[test]
 fn archive() {
-    let sum = [0, 3, 5, 0, 0, 2, 3, 26, 0, 0, 0, 0, 20, 0, 0, 0, 0];
-    let turned = [0, 3, 5, 0, 0, 3, 2, 20, 0, 0, 0, 0, 26, 0, 0, 0, 0];
+    let sum = [0, 3, 5, 0, 0, 2, 3, 0, 26, 0, 0, 0, 0, 0, 20, 0, 0, 0, 0, 0];
+    let turned = [0, 3, 5, 0, 0, 3, 2, 0, 20, 0, 0, 0, 0, 0, 26, 0, 0, 0, 0, 0];
     let statement = [&[1], &sum[1..]].concat();
     assert_eq!(sheet(&["canonical", "-"], &turned).stdout, sum);
     assert_eq!(sheet(&["canonical", "-"], &sum).stdout, sum);
@@ -270,7 +319,7 @@ fn archive() {
         ("a", &sum[..]),
         ("b", &turned),
         ("c", &statement),
-        ("d", &[0, 1, 26, 0, 0, 0, 0]),
+        ("d", &[0, 1, 26, 0, 0, 0, 0, 0]),
         ("inside/a", &sum),
     ] {
         std::fs::write(at(name), bytes).expect("a file");

@@ -7,12 +7,15 @@ use tezhukor::sizes::*;
 use tezhukor::{codes, Refusal};
 
 /// The numbers by name.
-const SIZES: [(&str, usize); 14] = [
+const SIZES: [(&str, usize); 17] = [
     ("NODE_CELLS", NODE_CELLS),
+    ("NODE_BYTES", NODE_BYTES),
+    ("MOST_SYMBOL", MOST_SYMBOL as usize),
     ("ROW_CELLS", ROW_CELLS),
     ("SCRATCH_CELLS", SCRATCH_CELLS),
     ("TOKEN_CELLS", TOKEN_CELLS),
     ("TOKENS_PER_NODE", TOKENS_PER_NODE),
+    ("TOKEN_CELLS_PER_NODE", TOKEN_CELLS_PER_NODE),
     ("MOST_NODES", MOST_NODES),
     ("MOST_TOKENS", MOST_TOKENS),
     ("MOST_LEVELS", MOST_LEVELS),
@@ -104,9 +107,18 @@ fn the_header_agrees() {
         })
         .collect();
     defined.sort();
-    let cells = ["NODE_CELLS", "NO_OPERATOR", "ROW_CELLS", "SCRATCH_CELLS", "TOKENS_PER_NODE"];
     let names: Vec<&str> = defined.iter().map(|found| found.0).collect();
-    assert_eq!(names, [&["MOST_NODES", "MOST_TOKENS"], &cells[..]].concat());
+    let meant = [
+        "MOST_NODES",
+        "MOST_TOKENS",
+        "NODE_CELLS",
+        "NO_OPERATOR",
+        "ROW_CELLS",
+        "SCRATCH_CELLS",
+        "TOKENS_PER_NODE",
+        "TOKEN_CELLS",
+    ];
+    assert_eq!(names, meant);
     assert!(defined.iter().all(|found| SIZES.contains(found)), "{defined:?}");
 }
 

@@ -1,4 +1,4 @@
-//! Which node tables document 01 accepts: refusals 3, 4 and 6 to 11.
+//! Which node tables documents 01 and 02 accept: refusals 3, 4 and 6 to 11.
 //!
 //! The library is held against this. The oracle takes accepted trees only: there it
 //! guards the command line, and says in tests that the generators make nothing else.
@@ -36,6 +36,7 @@ fn label_is_not_allowed(nodes: &[Node]) -> bool {
         forms::class(node.form).is_none()
             || node.attributes >= forms::attributes(node.form)
             || node.detail >= forms::details(node.form)
+            || node.symbol != 0 && !forms::has_symbol(node.form, node.detail)
     })
 }
 

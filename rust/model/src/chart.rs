@@ -3,7 +3,8 @@
 //! For each span of the list the chart holds all expressions, types and lists
 //! that the grammar of `rules` gives for just these tokens, each with what
 //! the rules for its neighbours ask: how tightly it holds together, and whether
-//! it ends in a type name or in the name behind a dot. An expression of a span is
+//! it ends in a type name or in the name behind a dot; a node has the symbol of the token
+//! that names it. An expression of a span is
 //! a shorter one at its start, what may follow that, and whatever the rest can be.
 //! Nothing is decided by looking ahead, and no cut is preferred to another: all
 //! that fit are kept, and those that give equal trees are one.
@@ -20,6 +21,18 @@ struct Node {
     form: u16,
     detail: u16,
     operands: [Option<u32>; 2],
+    /// Of the name, literal or numbered member that is the node's own, 0 without one.
+    symbol: u16,
+}
+
+impl Node {
+    fn new(form: u16, detail: u16, operands: [Option<u32>; 2]) -> Node {
+        Node { form, detail, operands, symbol: 0 }
+    }
+
+    fn with(self, token: Token) -> Node {
+        Node { symbol: token.symbol, ..self }
+    }
 }
 
 /// What stands at the end of a span.
@@ -62,7 +75,8 @@ struct Mark {
 /// The spans of a token list that grows and shrinks at its end.
 pub struct Chart {
     rules: Rules,
-    tokens: Vec<u16>,
+    tokens: Vec<Token>,
+    codes: Vec<u16>,
     nodes: Vec<Node>,
     found: [Vec<Found>; CLASSES],
     /// The span from `i` to `j` stands at `j (j - 1) / 2 + i`.
@@ -77,6 +91,7 @@ impl Chart {
         Chart {
             rules,
             tokens: Vec::new(),
+            codes: Vec::new(),
             nodes: Vec::new(),
             found: [(); CLASSES].map(|()| Vec::new()),
             spans: Vec::new(),
@@ -85,16 +100,17 @@ impl Chart {
         }
     }
 
-    pub fn tokens(&self) -> &[u16] {
+    pub fn tokens(&self) -> &[Token] {
         &self.tokens
     }
 
     /// Another token at the end.
-    pub fn push(&mut self, code: u16) {
+    pub fn push(&mut self, token: Token) {
         let found = [0, 1, 2, 3].map(|class| self.found[class].len());
         self.marks.push(Mark { nodes: self.nodes.len(), found });
-        let at = self.tokens.len();
-        self.tokens.push(code);
+        let at = self.codes.len();
+        self.tokens.push(token);
+        self.codes.push(token.code);
         self.spans.resize(self.spans.len() + at + 1, [(0, 0); CLASSES]);
         if self.ends.len() == at {
             self.ends.push([Vec::new(), Vec::new()]);
@@ -107,8 +123,9 @@ impl Chart {
     /// The last token goes.
     pub fn pop(&mut self) {
         let mark = self.marks.pop().expect("a token");
-        let to = self.tokens.len();
+        let to = self.codes.len();
         self.tokens.pop();
+        self.codes.pop();
         self.nodes.truncate(mark.nodes);
         for (found, length) in self.found.iter_mut().zip(mark.found) {
             found.truncate(length);
@@ -122,12 +139,12 @@ impl Chart {
     }
 
     /// Another list.
-    pub fn read(&mut self, tokens: &[u16]) {
+    pub fn read(&mut self, tokens: &[Token]) {
         while !self.tokens.is_empty() {
             self.pop();
         }
-        for &code in tokens {
-            self.push(code);
+        for &token in tokens {
+            self.push(token);
         }
     }
 
@@ -162,7 +179,7 @@ impl Chart {
     /// Adds an expression in parentheses, which leave no node.
     fn add_group(&mut self, start: usize, inner: Found) {
         if self.rules.has(Change::GroupsLeaveNodes) {
-            let node = Node { form: forms::PAREN, detail: 0, operands: [Some(inner.tree), None] };
+            let node = Node::new(forms::PAREN, 0, [Some(inner.tree), None]);
             return self.add(Class::Expression, start, node, TIGHTEST, End::Other);
         }
         let same = |found: &Found| {
@@ -184,7 +201,7 @@ impl Chart {
             (Some(one), Some(other)) => self.equal(one, other),
             _ => false,
         };
-        (one.form, one.detail) == (other.form, other.detail)
+        (one.form, one.detail, one.symbol) == (other.form, other.detail, other.symbol)
             && one.operands.into_iter().zip(other.operands).all(same)
     }
 
@@ -195,7 +212,7 @@ impl Chart {
         self.expressions(from, to, starts[Class::Expression as usize]);
         self.types(from, to, starts[Class::Type as usize]);
         // Lists are asked for behind an opening and behind a comma only.
-        let before = from.checked_sub(1).map(|before| self.tokens[before]);
+        let before = from.checked_sub(1).map(|before| self.codes[before]);
         if matches!(before, Some(OPEN | COMMA)) {
             self.lists(Class::Expression, Class::ExpressionList, from, to, starts);
         }
@@ -214,14 +231,14 @@ impl Chart {
     /// The expressions of a span.
     fn expressions(&mut self, from: usize, to: usize, start: usize) {
         use Class::Expression;
-        let (first, last) = (self.tokens[from], self.tokens[to - 1]);
+        let (first, last) = (self.codes[from], self.codes[to - 1]);
         if to - from == 1 {
             let form = match first {
                 NAME => forms::PATH,
                 LITERAL => forms::LIT,
                 _ => return,
             };
-            let node = Node { form, detail: 0, operands: [None, None] };
+            let node = Node::new(form, 0, [None, None]).with(self.tokens[from]);
             return self.add(Expression, start, node, TIGHTEST, End::Other);
         }
         let level = self.rules.level(PREFIX);
@@ -229,7 +246,7 @@ impl Chart {
             for index in self.of(Expression, from + 1, to) {
                 let operand = self.at(Expression, index);
                 if operand.level >= PREFIX {
-                    let node = Node { form, detail, operands: [Some(operand.tree), None] };
+                    let node = Node::new(form, detail, [Some(operand.tree), None]);
                     self.add(Expression, start, node, level, operand.end);
                 }
             }
@@ -239,11 +256,7 @@ impl Chart {
                 let operand = self.at(Expression, index);
                 if operand.level >= PREFIX {
                     let inner = self.nodes.len() as u32;
-                    let reference = |tree| Node {
-                        form: forms::REFERENCE,
-                        detail: 0,
-                        operands: [Some(tree), None],
-                    };
+                    let reference = |tree| Node::new(forms::REFERENCE, 0, [Some(tree), None]);
                     self.nodes.push(reference(operand.tree));
                     self.add(Expression, start, reference(inner), PREFIX, operand.end);
                 }
@@ -269,9 +282,9 @@ impl Chart {
     /// The expressions that an expression begins which ends at a cut.
     fn followed(&mut self, left: Found, cut: usize, to: usize, start: usize) {
         use Class::{Expression, Type};
-        let code = self.tokens[cut];
-        let closed = |tokens: &[u16], opening: usize, closing: u16| {
-            opening + 1 < to && tokens[to - 1] == closing
+        let code = self.codes[cut];
+        let closed = |codes: &[u16], opening: usize, closing: u16| {
+            opening + 1 < to && codes[to - 1] == closing
         };
         if let Some(infix) = self.rules.infix(code) {
             let barred = left.end == End::TypeName && self.rules.not_after_type_name(code);
@@ -282,7 +295,7 @@ impl Chart {
                 let right = self.at(Expression, index);
                 if right.level >= infix.right {
                     let operands = [Some(left.tree), Some(right.tree)];
-                    let node = Node { form: infix.form, detail: infix.detail, operands };
+                    let node = Node::new(infix.form, infix.detail, operands);
                     self.add(Expression, start, node, infix.level, right.end);
                 }
             }
@@ -294,7 +307,7 @@ impl Chart {
                 for index in self.of(Type, cut + 1, to) {
                     let ty = self.at(Type, index);
                     let operands = [Some(left.tree), Some(ty.tree)];
-                    let node = Node { form: forms::CAST, detail: 0, operands };
+                    let node = Node::new(forms::CAST, 0, operands);
                     self.add(Expression, start, node, level, ty.end);
                 }
             }
@@ -303,43 +316,44 @@ impl Chart {
         if left.level < TIGHTEST {
             return;
         }
-        let one = |form, detail| Node { form, detail, operands: [Some(left.tree), None] };
+        let one = |form, detail| Node::new(form, detail, [Some(left.tree), None]);
         match code {
             QUESTION if cut + 1 == to => {
                 self.add(Expression, start, one(forms::TRY, 0), TIGHTEST, End::Other);
             }
             DOT if cut + 2 == to => {
-                let (node, end) = match self.tokens[cut + 1] {
-                    NAME => (one(forms::FIELD, 0), End::DotName),
-                    MEMBER => (one(forms::FIELD, 1), End::Other),
+                let member = self.tokens[cut + 1];
+                let (node, end) = match member.code {
+                    NAME => (one(forms::FIELD, 0).with(member), End::DotName),
+                    MEMBER => (one(forms::FIELD, 1).with(member), End::Other),
                     AWAIT => (one(forms::AWAIT, 0), End::Other),
                     _ => return,
                 };
                 self.add(Expression, start, node, TIGHTEST, end);
             }
-            DOT if closed(&self.tokens, cut + 2, CLOSE)
-                && self.tokens[cut + 1..cut + 3] == [NAME, OPEN] =>
+            DOT if closed(&self.codes, cut + 2, CLOSE)
+                && self.codes[cut + 1..cut + 3] == [NAME, OPEN] =>
             {
-                self.called(forms::METHOD_CALL, left, cut + 3, to - 1, start);
+                let call = one(forms::METHOD_CALL, 0).with(self.tokens[cut + 1]);
+                self.called(call, cut + 3, to - 1, start);
             }
-            OPEN if closed(&self.tokens, cut, CLOSE) => {
+            OPEN if closed(&self.codes, cut, CLOSE) => {
                 let barred = match left.end {
                     End::DotName => !self.rules.has(Change::FieldIsCalled),
                     _ => {
-                        self.tokens[cut - 1] == MEMBER
-                            && self.rules.has(Change::NumberedIsNotCalled)
+                        self.codes[cut - 1] == MEMBER && self.rules.has(Change::NumberedIsNotCalled)
                     }
                 };
                 if !barred {
-                    self.called(forms::CALL, left, cut + 1, to - 1, start);
+                    self.called(one(forms::CALL, 0), cut + 1, to - 1, start);
                 }
             }
-            OPEN_BRACKET if closed(&self.tokens, cut, CLOSE_BRACKET) => {
+            OPEN_BRACKET if closed(&self.codes, cut, CLOSE_BRACKET) => {
                 for end in self.ends_inside(cut, to, Change::CommaAfterIndex) {
                     for index in self.of(Expression, cut + 1, end) {
                         let inner = self.at(Expression, index);
                         let operands = [Some(left.tree), Some(inner.tree)];
-                        let node = Node { form: forms::INDEX, detail: 0, operands };
+                        let node = Node::new(forms::INDEX, 0, operands);
                         self.add(Expression, start, node, TIGHTEST, End::Other);
                     }
                 }
@@ -356,21 +370,23 @@ impl Chart {
         to: usize,
         change: Change,
     ) -> impl Iterator<Item = usize> {
-        let comma = self.rules.has(change) && opening + 2 < to && self.tokens[to - 2] == COMMA;
+        let comma = self.rules.has(change) && opening + 2 < to && self.codes[to - 2] == COMMA;
         std::iter::once(to - 1).chain(comma.then_some(to - 2))
     }
 
     /// Whether a list without items is what stands here.
     fn is_empty(&self, from: usize, to: usize, never: Change) -> bool {
-        let comma = self.rules.has(Change::CommaInEmptyList) && self.tokens[from..to] == [COMMA];
+        let comma = self.rules.has(Change::CommaInEmptyList) && self.codes[from..to] == [COMMA];
         from == to && !self.rules.has(never) || comma
     }
 
-    /// The calls of an expression with the arguments of a span, which may be empty.
-    fn called(&mut self, form: u16, callee: Found, from: usize, to: usize, start: usize) {
+    /// The calls, of which one without arguments is given, with the arguments of a span,
+    /// which may be empty.
+    fn called(&mut self, call: Node, from: usize, to: usize, start: usize) {
         use Class::{Expression, ExpressionList};
         let add = |chart: &mut Chart, arguments| {
-            let node = Node { form, detail: 0, operands: [Some(callee.tree), arguments] };
+            let operands = [call.operands[0], arguments];
+            let node = Node { operands, ..call };
             chart.add(Expression, start, node, TIGHTEST, End::Other);
         };
         if self.is_empty(from, to, Change::NoEmptyArguments) {
@@ -385,7 +401,7 @@ impl Chart {
     /// The types of a span.
     fn types(&mut self, from: usize, to: usize, start: usize) {
         use Class::{Type, TypeList};
-        let (first, last) = (self.tokens[from], self.tokens[to - 1]);
+        let (first, last) = (self.codes[from], self.codes[to - 1]);
         if to - from == 1 {
             let (form, detail, end) = match first {
                 NAME => (forms::TYPE_PATH, 1, End::TypeName),
@@ -393,24 +409,24 @@ impl Chart {
                 NOT => (forms::TYPE_NEVER, 0, End::Other),
                 _ => return,
             };
-            let node = Node { form, detail, operands: [None, None] };
+            let node = Node::new(form, detail, [None, None]).with(self.tokens[from]);
             return self.add(Type, start, node, TIGHTEST, end);
         }
         if let Some((form, detail)) = self.rules.type_prefix(first) {
             for index in self.of(Type, from + 1, to) {
                 let operand = self.at(Type, index);
-                let node = Node { form, detail, operands: [Some(operand.tree), None] };
+                let node = Node::new(form, detail, [Some(operand.tree), None]);
                 self.add(Type, start, node, TIGHTEST, operand.end);
             }
         }
-        if to - from >= 3 && (first, self.tokens[from + 1], last) == (NAME, LESS, GREATER) {
+        if to - from >= 3 && (first, self.codes[from + 1], last) == (NAME, LESS, GREATER) {
             let end = match self.rules.has(Change::NoLessAfterTypeArguments) {
                 true => End::TypeName,
                 false => End::Other,
             };
+            let name = self.tokens[from];
             let add = |chart: &mut Chart, arguments| {
-                let operands = [None, arguments];
-                let node = Node { form: forms::TYPE_PATH, detail: 2, operands };
+                let node = Node::new(forms::TYPE_PATH, 2, [None, arguments]).with(name);
                 chart.add(Type, start, node, TIGHTEST, end);
             };
             if self.is_empty(from + 2, to - 1, Change::NoEmptyTypeArguments) {
@@ -433,8 +449,7 @@ impl Chart {
         starts: [usize; CLASSES],
     ) {
         let start = starts[list as usize];
-        let link =
-            |item: Found, next| Node { form: LINK, detail: 0, operands: [Some(item.tree), next] };
+        let link = |item: Found, next| Node::new(LINK, 0, [Some(item.tree), next]);
         let comma_after_last = self.rules.comma_after_last(class == Class::Type);
         let two_commas = self.rules.has(Change::TwoCommasAfterLast);
         for index in starts[class as usize]..self.found[class as usize].len() {
@@ -443,12 +458,12 @@ impl Chart {
         }
         for place in 0..self.ends[from][class as usize].len() {
             let cut = self.ends[from][class as usize][place];
-            if self.tokens[cut] != COMMA {
+            if self.codes[cut] != COMMA {
                 continue;
             }
             let is_last = match to - cut {
                 1 => comma_after_last,
-                2 => two_commas && self.tokens[cut + 1] == COMMA,
+                2 => two_commas && self.codes[cut + 1] == COMMA,
                 _ => false,
             };
             for index in self.of(class, from, cut) {
@@ -467,7 +482,7 @@ impl Chart {
     /// All readings of the list.
     fn trees(&self) -> Vec<u32> {
         let mut trees: Vec<u32> = Vec::new();
-        for index in self.of(Class::Expression, 0, self.tokens.len()) {
+        for index in self.of(Class::Expression, 0, self.codes.len()) {
             let tree = self.at(Class::Expression, index).tree;
             if !trees.iter().any(|&other| self.equal(other, tree)) {
                 trees.push(tree);
@@ -484,7 +499,7 @@ impl Chart {
 
     /// Whether there is no reading.
     pub fn is_unread(&self) -> bool {
-        self.of(Class::Expression, 0, self.tokens.len()).is_empty()
+        self.of(Class::Expression, 0, self.codes.len()).is_empty()
     }
 
     fn table(&self, root: u32) -> Vec<u16> {
@@ -496,7 +511,7 @@ impl Chart {
             if let Some(place) = owner {
                 cells[place] = (start / NODE_CELLS + 1) as u16;
             }
-            cells.extend([node.form, 0, node.detail, 0, 0]);
+            cells.extend([node.form, 0, node.detail, 0, 0, node.symbol]);
             for place in [1, 0] {
                 if let Some(operand) = node.operands[place] {
                     waiting.push((operand, Some(start + FIRST + place)));
@@ -515,17 +530,57 @@ mod tests {
     /// The forms of the only reading in the order of their numbers, none if there is
     /// no reading. `a` is a name, and words are parted by spaces.
     fn forms_of(text: &str) -> Option<Vec<u16>> {
-        let tokens: Vec<u16> = text.split_whitespace().map(code).collect();
-        let mut chart = Chart::new(Rules::new(None));
-        chart.read(&tokens);
-        let readings = chart.readings();
+        let codes: Vec<u16> = text.split_whitespace().map(code).collect();
+        let readings = readings(&tokens(&codes));
         assert!(readings.len() < 2, "{text}");
         readings.first().map(|table| table.chunks(NODE_CELLS).map(|node| node[0]).collect())
     }
 
+    fn readings(tokens: &[Token]) -> Vec<Vec<u16>> {
+        let mut chart = Chart::new(Rules::new(None));
+        chart.read(tokens);
+        chart.readings()
+    }
+
     fn code(word: &str) -> u16 {
-        let spelled = if word == "a" { "x" } else { word };
-        (0..CODES).find(|&code| text(&[code]) == spelled).expect("a token")
+        match word {
+            "a" => NAME,
+            "0" => MEMBER,
+            _ => (0..).zip(SPELLED).find(|(_, spelled)| *spelled == word).expect("a token").0,
+        }
+    }
+
+    /// `a . b ( c , 1 ) . 2 . d as e < f > - ( g )`, with other symbols.
+    #[test]
+    fn symbols_travel_with_their_tokens() {
+        let codes = [
+            NAME, DOT, NAME, OPEN, NAME, COMMA, LITERAL, CLOSE, DOT, MEMBER, DOT, NAME, AS, NAME,
+            LESS, NAME, GREATER, MINUS, OPEN, NAME, CLOSE,
+        ];
+        let mut list = tokens(&codes);
+        for (token, symbol) in list.iter_mut().filter(|token| has_symbol(token.code)).zip(1..) {
+            token.symbol = 7_000 * symbol;
+        }
+        let readings = readings(&list);
+        let nodes: Vec<[u16; 2]> =
+            readings[0].chunks(NODE_CELLS).map(|node| [node[0], node[5] / 7_000]).collect();
+        let meant = [
+            [BINARY, 0],
+            [CAST, 0],
+            [FIELD, 6],
+            [FIELD, 5],
+            [METHOD_CALL, 2],
+            [PATH, 1],
+            [LINK, 0],
+            [PATH, 3],
+            [LINK, 0],
+            [forms::LIT, 4],
+            [forms::TYPE_PATH, 7],
+            [LINK, 0],
+            [forms::TYPE_PATH, 8],
+            [PATH, 9],
+        ];
+        assert_eq!(nodes, meant);
     }
 
     #[test]

@@ -14,13 +14,13 @@ pub fn closes(code: u16) -> bool {
 }
 
 /// Where such a comma stands.
-pub fn before_closing(tokens: &[u16]) -> Vec<usize> {
-    let stands = |window: &[u16]| window[0] == COMMA && closes(window[1]);
+pub fn before_closing(tokens: &[Token]) -> Vec<usize> {
+    let stands = |window: &[Token]| window[0].code == COMMA && closes(window[1].code);
     (0..).zip(tokens.windows(2)).filter(|(_, window)| stands(window)).map(|(at, _)| at).collect()
 }
 
 /// The list without these commas.
-pub fn without(tokens: &[u16]) -> Vec<u16> {
+pub fn without(tokens: &[Token]) -> Vec<Token> {
     let commas = before_closing(tokens);
     (0..tokens.len()).filter(|at| !commas.contains(at)).map(|at| tokens[at]).collect()
 }
@@ -34,15 +34,15 @@ pub fn item_before(closing: u16) -> u16 {
 }
 
 /// The list with an item behind each of these commas.
-pub fn with_items(tokens: &[u16]) -> Vec<u16> {
+pub fn with_items(tokens: &[Token]) -> Vec<Token> {
     let commas = before_closing(tokens);
-    let item = |at: usize| commas.contains(&at).then(|| item_before(tokens[at + 1]));
+    let item = |at: usize| commas.contains(&at).then(|| item_before(tokens[at + 1].code).into());
     (0..tokens.len()).flat_map(|at| [Some(tokens[at]), item(at)]).flatten().collect()
 }
 
 /// Puts up to three commas in: most before what closes something, some behind what opens
 /// something, behind another comma or anywhere.
-pub fn put_in(dice: &mut Dice, tokens: &mut Vec<u16>) {
+pub fn put_in(dice: &mut Dice, tokens: &mut Vec<Token>) {
     for _ in 0..dice.between(1, 3) {
         let (is_meant, behind): (fn(u16) -> bool, usize) = match dice.below(10) {
             0 => (|code| code == COMMA, 1),
@@ -50,9 +50,10 @@ pub fn put_in(dice: &mut Dice, tokens: &mut Vec<u16>) {
             2 => (|_| true, 0),
             _ => (closes, 0),
         };
-        let places: Vec<usize> = (0..tokens.len()).filter(|&at| is_meant(tokens[at])).collect();
+        let places: Vec<usize> =
+            (0..tokens.len()).filter(|&at| is_meant(tokens[at].code)).collect();
         if !places.is_empty() {
-            tokens.insert(dice.pick(&places) + behind, COMMA);
+            tokens.insert(dice.pick(&places) + behind, COMMA.into());
         }
     }
 }
@@ -63,11 +64,13 @@ mod tests {
 
     #[test]
     fn commas_go_and_items_come() {
-        let list = [NAME, OPEN, NAME, COMMA, CLOSE, AS, NAME, LESS, NAME, COMMA, GREATER];
+        let codes = [NAME, OPEN, NAME, COMMA, CLOSE, AS, NAME, LESS, NAME, COMMA, GREATER];
+        let list = tokens(&codes);
         assert_eq!(before_closing(&list), [3, 9]);
-        assert_eq!(without(&list), [NAME, OPEN, NAME, CLOSE, AS, NAME, LESS, NAME, GREATER]);
-        assert_eq!(with_items(&list)[3..6], [COMMA, LITERAL, CLOSE]);
-        assert_eq!(with_items(&list)[10..], [COMMA, UNDERSCORE, GREATER]);
-        assert_eq!(before_closing(&[COMMA, COMMA, CLOSE, COMMA, OPEN]), [1]);
+        let bare = [NAME, OPEN, NAME, CLOSE, AS, NAME, LESS, NAME, GREATER];
+        assert_eq!(without(&list), tokens(&bare));
+        assert_eq!(with_items(&list)[3..6], tokens(&[COMMA, LITERAL, CLOSE]));
+        assert_eq!(with_items(&list)[10..], tokens(&[COMMA, UNDERSCORE, GREATER]));
+        assert_eq!(before_closing(&tokens(&[COMMA, COMMA, CLOSE, COMMA, OPEN])), [1]);
     }
 }

@@ -136,6 +136,16 @@ pub fn details(form: u16) -> u16 {
     }
 }
 
+/// Whether a node may have a symbol that is not 0: names, literals, members and methods, and
+/// path types with a segment.
+pub fn has_symbol(form: u16, detail: u16) -> bool {
+    match form {
+        PATH | LIT | FIELD | METHOD_CALL => true,
+        TYPE_PATH => detail != 0,
+        _ => false,
+    }
+}
+
 /// What may stand in a place for an operand.
 #[derive(Copy, Clone, PartialEq, Eq, Debug)]
 pub enum Place {

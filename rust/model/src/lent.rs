@@ -20,7 +20,7 @@ pub trait Cell: Copy + PartialEq {
 }
 
 impl Cell for u16 {
-    /// No table, row or token list has such a number.
+    /// But for symbols no table, row or token list has such a number.
     fn pattern(at: usize) -> u16 {
         0xA000 | (at & 0x0FFF) as u16
     }

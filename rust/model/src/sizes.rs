@@ -1,7 +1,10 @@
 //! The numbers of tables, token lists and files, each by its name, once.
 
-/// Cells of a node in a node table: form, attributes, detail, first, second.
-pub const NODE_CELLS: usize = 5;
+/// Cells of a node in a node table: form, attributes, detail, first, second, symbol.
+pub const NODE_CELLS: usize = 6;
+
+/// The highest symbol of a node that may have one.
+pub const MOST_SYMBOL: u16 = 65_535;
 
 /// Cells of a row: pair, precedence, previous operator, next operator, flags.
 pub const ROW_CELLS: usize = 5;
@@ -9,8 +12,8 @@ pub const ROW_CELLS: usize = 5;
 /// Cells of scratch that deciding takes for a node.
 pub const SCRATCH_CELLS: usize = 3;
 
-/// Cells of a token in a token list.
-pub const TOKEN_CELLS: usize = 1;
+/// Cells of a token in a token list: code, symbol.
+pub const TOKEN_CELLS: usize = 2;
 
 /// The most tokens that are written for a node.
 pub const TOKENS_PER_NODE: usize = 6;
@@ -42,13 +45,17 @@ pub const REFUSAL_UNIT: u32 = 65_536;
 /// The reply to a file that is loaded is its context times this, and the count.
 pub const CONTEXT_UNIT: u16 = 8_192;
 
-/// The most bytes of a number in a tree file.
-pub const NUMBER_BYTES: usize = 3;
+/// The most bytes of an accepted table's header in its file: one for the context, two for
+/// the count.
+pub const HEADER_BYTES: usize = 3;
 
-/// Bytes that are enough for the tree file of so many nodes: context, count, and the
-/// numbers of each node.
+/// The most bytes of a node there: one for each of form, attributes and detail, two for each
+/// operand, three for the symbol.
+pub const NODE_BYTES: usize = 10;
+
+/// Bytes that are enough for the tree file of so many nodes.
 pub const fn file_bytes(nodes: usize) -> usize {
-    NUMBER_BYTES * (2 + NODE_CELLS * nodes)
+    HEADER_BYTES + NODE_BYTES * nodes
 }
 
 /// The last number of an operator: Binary's are 0 to 27, 28 is `=`, and this is Range's.
@@ -59,6 +66,9 @@ pub const NO_OPERATOR: u16 = 65_535;
 
 /// The answer for an operator is its level times this, and its lean.
 pub const LEVEL_UNIT: u16 = 4;
+
+/// Cells that are lent for the tokens of a node.
+pub const TOKEN_CELLS_PER_NODE: usize = TOKEN_CELLS * TOKENS_PER_NODE;
 
 /// Cells of the largest table.
 pub const MOST_CELLS: usize = NODE_CELLS * MOST_NODES;

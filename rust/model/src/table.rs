@@ -10,6 +10,7 @@ pub const ATTRIBUTES: usize = 1;
 pub const DETAIL: usize = 2;
 pub const FIRST: usize = 3;
 pub const SECOND: usize = 4;
+pub const SYMBOL: usize = 5;
 
 /// A node table: the cells of its nodes, with context and count beside it.
 #[derive(Clone, PartialEq, Eq, Debug)]
@@ -33,7 +34,7 @@ impl NodeTable {
         }
         let cells = met.iter().flat_map(|node| {
             let [first, second] = node.operands.map(|operand| numbers[usize::from(operand)]);
-            [node.form, node.attributes, node.detail, first, second]
+            [node.form, node.attributes, node.detail, first, second, node.symbol]
         });
         NodeTable { context: self.context, count: self.count, cells: cells.collect() }
     }
@@ -46,11 +47,12 @@ impl NodeTable {
     /// The tree in so many parentheses.
     pub fn in_parens(&self, pairs: u16) -> NodeTable {
         let mut cells: Vec<u16> =
-            (1..=pairs).flat_map(|number| [forms::PAREN, 0, 0, number + 1, 0]).collect();
+            (1..=pairs).flat_map(|number| [forms::PAREN, 0, 0, number + 1, 0, 0]).collect();
         for node in self.cells.chunks(NODE_CELLS) {
             let moved = |&operand: &u16| if operand == 0 { 0 } else { operand + pairs };
             cells.extend(&node[..FIRST]);
-            cells.extend(node[FIRST..].iter().map(moved));
+            cells.extend(node[FIRST..=SECOND].iter().map(moved));
+            cells.push(node[SYMBOL]);
         }
         NodeTable { context: self.context, count: self.count + pairs, cells }
     }
@@ -63,6 +65,7 @@ pub struct Node {
     pub attributes: u16,
     pub detail: u16,
     pub operands: [u16; 2],
+    pub symbol: u16,
 }
 
 /// The node with a number from 1 on.
@@ -73,6 +76,7 @@ pub fn node(cells: &[u16], number: u16) -> Node {
         attributes: cells[ATTRIBUTES],
         detail: cells[DETAIL],
         operands: [cells[FIRST], cells[SECOND]],
+        symbol: cells[SYMBOL],
     }
 }
 

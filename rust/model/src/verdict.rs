@@ -1,8 +1,9 @@
-//! What document 01 says of reading a token list.
+//! What documents 01 and 02 say of reading a token list.
 
 use crate::chart::Chart;
+use crate::codes::{has_symbol, Token};
 use crate::forms;
-use crate::sizes::{LAST_CODE, MOST_CELLS, MOST_LEVELS, MOST_TOKENS, NODE_CELLS};
+use crate::sizes::{LAST_CODE, MOST_CELLS, MOST_LEVELS, MOST_TOKENS, NODE_CELLS, TOKEN_CELLS};
 use crate::table::{FIRST, FORM, SECOND};
 
 /// The table of the reading, or the number of the refusal.
@@ -31,12 +32,25 @@ pub fn within_bounds(table: Vec<u16>) -> Verdict {
 }
 
 /// Of any list; what 14 speaks of comes first.
-pub fn of(chart: &mut Chart, tokens: &[u16]) -> Result<Verdict, Vec<Vec<u16>>> {
-    if tokens.len() > MOST_TOKENS || tokens.iter().any(|&code| code > LAST_CODE) {
+pub fn of(chart: &mut Chart, tokens: &[Token]) -> Result<Verdict, Vec<Vec<u16>>> {
+    if tokens.len() > MOST_TOKENS || !tokens.iter().all(is_token) {
         return Ok(Err(14));
     }
     chart.read(tokens);
     verdict(chart)
+}
+
+/// Of any cells, which are no token list if their number is odd.
+pub fn of_cells(chart: &mut Chart, cells: &[u16]) -> Result<Verdict, Vec<Vec<u16>>> {
+    match cells.len() % TOKEN_CELLS {
+        0 => of(chart, &Token::of_cells(cells)),
+        _ => Ok(Err(14)),
+    }
+}
+
+/// Whether there is such a code, and it carries a symbol only if it may.
+fn is_token(token: &Token) -> bool {
+    token.code <= LAST_CODE && (token.symbol == 0 || has_symbol(token.code))
 }
 
 /// How many nodes the longest path of a table holds, links not counted. Owners

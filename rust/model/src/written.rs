@@ -1,15 +1,15 @@
-//! What document 01 says is written for a plain tree, once it is known where its pairs
-//! stand; and the tree without its own parentheses.
+//! What documents 01 and 02 say is written for a plain tree, once it is known where its
+//! pairs stand; and the tree without its own parentheses.
 
 use crate::accept;
-use crate::codes::{self, *};
+use crate::codes::{self, has_symbol, Token, *};
 use crate::forms::{self, *};
-use crate::sizes::{NODE_CELLS, TOKENS_PER_NODE};
+use crate::sizes::{NODE_CELLS, TOKEN_CELLS_PER_NODE};
 use crate::table::{self, Node, NodeTable, FIRST};
 
 /// The tokens of a tree, and where the pairs stand that were added.
 pub struct Written {
-    pub tokens: Vec<u16>,
+    pub tokens: Vec<Token>,
     pub pairs: Vec<[usize; 2]>,
 }
 
@@ -29,7 +29,7 @@ impl Written {
     }
 
     /// The tokens without one of the pairs, and no other token.
-    pub fn without(&self, pair: [usize; 2]) -> Vec<u16> {
+    pub fn without(&self, pair: [usize; 2]) -> Vec<Token> {
         let kept = |at: &usize| !pair.contains(at);
         (0..self.tokens.len()).filter(kept).map(|at| self.tokens[at]).collect()
     }
@@ -60,23 +60,25 @@ impl Writer<'_> {
         let node = table::node(self.cells, number);
         let [before, between, behind] = signs(&node);
         let start = self.out.tokens.len();
-        self.out.tokens.extend(has_pair.then_some(OPEN));
-        self.out.tokens.extend(before);
+        // Of a node's own tokens at most one has a symbol, which is the node's.
+        let own = |code: u16| Token::new(code, if has_symbol(code) { node.symbol } else { 0 });
+        self.out.tokens.extend(has_pair.then(|| Token::from(OPEN)));
+        self.out.tokens.extend(before.into_iter().map(own));
         self.node(node.operands[0]);
-        self.out.tokens.extend(between);
+        self.out.tokens.extend(between.into_iter().map(own));
         self.node(node.operands[1]);
-        self.out.tokens.extend(behind);
+        self.out.tokens.extend(behind.into_iter().map(own));
         if self.has_comma.binary_search(&number).is_ok() {
-            self.out.tokens.push(COMMA);
+            self.out.tokens.push(COMMA.into());
         }
         if has_pair {
             self.out.pairs.push([start, self.out.tokens.len()]);
-            self.out.tokens.push(CLOSE);
+            self.out.tokens.push(CLOSE.into());
         }
     }
 }
 
-/// A node's own tokens: before its first operand, between the two, and behind.
+/// The codes of a node's own tokens: before its first operand, between the two, and behind.
 fn signs(node: &Node) -> [Vec<u16>; 3] {
     let [before, between, behind]: [&[u16]; 3] = match (node.form, node.detail) {
         (PATH, _) | (TYPE_PATH, 1) => [&[NAME], &[], &[]],
@@ -114,9 +116,9 @@ pub fn reply(
     tree: &NodeTable,
     lent: usize,
     pairs: impl Fn(&NodeTable) -> Vec<bool>,
-) -> Result<Vec<u16>, u16> {
+) -> Result<Vec<Token>, u16> {
     match accept::refusal(tree) {
-        0 if lent < TOKENS_PER_NODE * usize::from(tree.count) => Err(12),
+        0 if lent < TOKEN_CELLS_PER_NODE * usize::from(tree.count) => Err(12),
         0 if !is_plain(tree) || tree.context != 0 => Err(13),
         0 => Ok(Written::new(tree, &pairs(tree)).tokens),
         refusal => Err(refusal),
@@ -151,7 +153,7 @@ pub fn without_parens(tree: &NodeTable) -> Vec<u16> {
         if let Some(place) = owner {
             cells[place] = (start / NODE_CELLS + 1) as u16;
         }
-        cells.extend([node.form, node.attributes, node.detail, 0, 0]);
+        cells.extend([node.form, node.attributes, node.detail, 0, 0, node.symbol]);
         for place in [1, 0] {
             if node.operands[place] != 0 {
                 waiting.push((node.operands[place], Some(start + FIRST + place)));

@@ -9,13 +9,13 @@
 //! TEZHUKOR_FUZZ says how many of each are made; 2,000 if it says nothing.
 
 use model::chart::Chart;
-use model::codes::{self, CLOSE, COMMA, EQUALS, MINUS, NAME, OPEN};
+use model::codes::{self, Token, CLOSE, COMMA, EQUALS, MINUS, NAME, OPEN};
 use model::commas;
-use model::generate::{Dice, Family};
+use model::generate::{self, Dice, Family};
 use model::lent::Lent;
 use model::rules::Rules;
 use model::sizes::*;
-use model::table::{self, NodeTable, DETAIL, FIRST, FORM, SECOND};
+use model::table::{self, NodeTable, DETAIL, FIRST, FORM, SECOND, SYMBOL};
 use model::written::{self, last_links, without_parens, Written};
 use model::{accept, forms, verdict};
 use tezhukor::{boundary, Refusal, Tree};
@@ -117,7 +117,7 @@ fn pairs(table: &NodeTable) -> Vec<bool> {
 }
 
 /// Writes a table with so many cells lent; gives the tokens.
-fn write(table: &NodeTable, length: usize, tally: &mut Tally) -> Option<Vec<u16>> {
+fn write(table: &NodeTable, length: usize, tally: &mut Tally) -> Option<Vec<Token>> {
     let mut lent = Lent::new(length);
     let NodeTable { context, count, cells } = table;
     let reply = boundary::write(*context, *count, cells, lent.lend(length));
@@ -128,12 +128,17 @@ fn write(table: &NodeTable, length: usize, tally: &mut Tally) -> Option<Vec<u16>
     };
     assert_eq!(reply, number, "{table:?}");
     tally.count(meant.as_ref().err().copied().unwrap_or(0));
-    holds(lent, meant.as_deref().unwrap_or(&[]));
+    holds(lent, &codes::cells(meant.as_deref().unwrap_or(&[])));
     meant.ok()
 }
 
 /// Reads a token list with so many cells lent, when it must give that.
-fn read(tokens: &[u16], length: usize, verdict: &Result<Vec<u16>, u16>, tally: &mut Tally) {
+fn read(tokens: &[Token], length: usize, verdict: &Result<Vec<u16>, u16>, tally: &mut Tally) {
+    read_cells(&codes::cells(tokens), length, verdict, tally);
+}
+
+/// The same for any cells.
+fn read_cells(tokens: &[u16], length: usize, verdict: &Result<Vec<u16>, u16>, tally: &mut Tally) {
     let mut lent = Lent::new(length);
     let reply = boundary::read(tokens, lent.lend(length));
     let meant = if length < MOST_CELLS { &Err(12) } else { verdict };
@@ -237,7 +242,7 @@ fn ask(table: &NodeTable, dice: &mut Dice, decides: &mut Tally, writes: &mut Tal
     let count = usize::from(table.count);
     let lengths = [around(ROW_CELLS * count, dice), around(SCRATCH_CELLS * count, dice)];
     decide(table, lengths, decides);
-    let length = around(TOKENS_PER_NODE * count, dice);
+    let length = around(TOKEN_CELLS_PER_NODE * count, dice);
     write(table, length, writes);
 }
 
@@ -290,10 +295,31 @@ fn damaged_tables() {
             [around(ROW_CELLS * nodes, dice), around(SCRATCH_CELLS * nodes, dice)],
             &mut decides,
         );
-        write(&table, around(TOKENS_PER_NODE * nodes, dice), &mut writes);
+        write(&table, around(TOKEN_CELLS_PER_NODE * nodes, dice), &mut writes);
     }
     decides.print("damaged tables decided");
     writes.print("damaged tables written");
+}
+
+/// Symbols where nodes may have one change no row; a symbol at any node is allowed or 6.
+#[test]
+fn symbols() {
+    let [mut decides, mut loads] = [(); 2].map(|()| Tally::default());
+    for index in 0..times() {
+        let dice = &mut Dice::new(31, index);
+        let mut shape = Family::Mixed.tree(32, index);
+        shape.cells.iter_mut().skip(SYMBOL).step_by(NODE_CELLS).for_each(|symbol| *symbol = 0);
+        let mut named = shape.clone();
+        generate::symbols(&mut named, dice);
+        assert_eq!(tree(&named).rows(), tree(&shape).rows());
+        let nodes = usize::from(shape.count);
+        let node = NODE_CELLS * dice.below(nodes);
+        named.cells[node + SYMBOL] = dice.pick(&[1, 127, 128, 16_383, 16_384, MOST_SYMBOL]);
+        decide(&named, [ROW_CELLS * nodes, SCRATCH_CELLS * nodes], &mut decides);
+        load(&table::write(&named), NODE_CELLS * nodes, &mut loads);
+    }
+    decides.print("tables with a symbol at any node decided");
+    loads.print("their files loaded");
 }
 
 #[test]
@@ -306,7 +332,7 @@ fn every_length() {
             continue;
         }
         let file = table::write(&tree);
-        for length in 0..=TOKENS_PER_NODE * count + 8 {
+        for length in 0..=TOKEN_CELLS_PER_NODE * count + 8 {
             load(&file, length, &mut loads);
             decide(&tree, [length, SCRATCH_CELLS * count], &mut decides);
             decide(&tree, [ROW_CELLS * count, length], &mut decides);
@@ -326,8 +352,8 @@ fn written_and_read() {
     let [mut writes, mut reads] = [(); 2].map(|()| Tally::default());
     for index in 0..times() {
         let tree = Family::Plain.tree(7, index);
-        let tokens =
-            write(&tree, TOKENS_PER_NODE * usize::from(tree.count), &mut writes).expect("plain");
+        let tokens = write(&tree, TOKEN_CELLS_PER_NODE * usize::from(tree.count), &mut writes)
+            .expect("plain");
         let bare = without_parens(&tree);
         read(&tokens, MOST_CELLS, &Ok(bare), &mut reads);
     }
@@ -335,26 +361,37 @@ fn written_and_read() {
     reads.print("their tokens read");
 }
 
-/// A token list: written for a plain tree and edited, or any codes.
-fn list(dice: &mut Dice, index: u64) -> Vec<u16> {
+/// A token list: written for a plain tree and edited, or any codes; with symbols, now and
+/// then at a token that has none.
+fn list(dice: &mut Dice, index: u64) -> Vec<Token> {
+    let mut tokens = shape(dice, index);
+    generate::token_symbols(&mut tokens, dice);
+    if !tokens.is_empty() && dice.percent(10) {
+        let at = dice.below(tokens.len());
+        tokens[at].symbol = dice.pick(&generate::SYMBOLS);
+    }
+    tokens
+}
+
+fn shape(dice: &mut Dice, index: u64) -> Vec<Token> {
     if dice.percent(20) {
         return (0..dice.below(9))
-            .map(|_| dice.below(usize::from(codes::CODES) + 1) as u16)
+            .map(|_| Token::from(dice.below(usize::from(codes::CODES) + 1) as u16))
             .collect();
     }
     let tree = Family::Plain.tree(8, index);
     let mut tokens = match tree.count {
         0..=12 => Written::new(&tree, &pairs(&tree)).tokens,
-        _ => vec![32, 31, 32, 13, 32, 17, 13, 32],
+        _ => codes::tokens(&[32, 31, 32, 13, 32, 17, 13, 32]),
     };
     for _ in 0..dice.below(4) {
         let at = dice.below(tokens.len() + 1);
         let code = dice.pick(&[1, 2, 5, 8, 10, 13, 17, 28, 31, 32, 33, 34, 35, 36, 39, 44, 45, 46]);
         match dice.below(3) {
-            0 => tokens.insert(at, code),
+            0 => tokens.insert(at, code.into()),
             1 if at < tokens.len() => drop(tokens.remove(at)),
-            _ if at < tokens.len() => tokens[at] = code,
-            _ => tokens.push(code),
+            _ if at < tokens.len() => tokens[at].code = code,
+            _ => tokens.push(code.into()),
         }
     }
     tokens
@@ -374,6 +411,44 @@ fn token_lists() {
         assert_eq!(file.map(|file| Tree::load(&file).expect("a tree").cells().to_vec()), verdict);
     }
     tally.print("token lists read");
+}
+
+/// Any cells: those of a list, one cut off at the end, one more, or one changed.
+#[test]
+fn token_cells() {
+    let mut tally = Tally::default();
+    let mut chart = Chart::new(Rules::new(None));
+    for index in 0..times() {
+        let dice = &mut Dice::new(33, index);
+        let mut cells = codes::cells(&list(dice, index));
+        let any = dice.pick(&[0, 1, 32, 33, 44, 45, 46, 127, 128, 16_383, 16_384, 65_535]);
+        match dice.below(4) {
+            0 => cells.truncate(dice.below(cells.len() + 1)),
+            1 => cells.insert(dice.below(cells.len() + 1), any),
+            2 if !cells.is_empty() => {
+                let at = dice.below(cells.len());
+                cells[at] = any;
+            }
+            _ => {}
+        }
+        let verdict = verdict::of_cells(&mut chart, &cells).expect("at most one reading");
+        let length = dice.pick(&[MOST_CELLS, MOST_CELLS, MOST_CELLS + 1, MOST_CELLS - 1]);
+        read_cells(&cells, length, &verdict, &mut tally);
+    }
+    // Every symbol at every code, alone and as one operand of a sum.
+    for code in 0..=codes::CODES {
+        for symbol in generate::SYMBOLS {
+            let token = Token::new(code, symbol);
+            for list in [vec![token], vec![token, MINUS.into(), Token::new(NAME, 9)]] {
+                let verdict = verdict::of(&mut chart, &list).expect("at most one reading");
+                read(&list, MOST_CELLS, &verdict, &mut tally);
+                // Half a token more.
+                let odd = [&codes::cells(&list)[..], &[NAME]].concat();
+                read_cells(&odd, MOST_CELLS, &Err(14), &mut tally);
+            }
+        }
+    }
+    tally.print("cells read");
 }
 
 /// Plain trees with commas after the last items of some lists, which are read alike; and
@@ -405,11 +480,9 @@ fn longest_lists() {
     let mut tally = Tally::default();
     for length in [2_047, 2_048, 2_049, MOST_TOKENS - 1, MOST_TOKENS, MOST_TOKENS + 1] {
         let long = |verdict| if length > MOST_TOKENS { Err(14) } else { verdict };
-        let name = vec![forms::PATH, 0, 0, 0, 0];
+        let name = vec![forms::PATH, 0, 0, 0, 0, 0];
         let even = length - (length + 1) % 2;
-        let mut grouped = vec![OPEN; even / 2];
-        grouped.push(NAME);
-        grouped.extend(vec![CLOSE; even / 2]);
+        let grouped = [vec![OPEN; even / 2], vec![NAME], vec![CLOSE; even / 2]].concat();
         let grouped_verdict = if even > MOST_TOKENS { Err(14) } else { Ok(name) };
         let repeated = |codes: &[u16]| codes.iter().copied().cycle().take(length).collect();
         // A name behind prefixes, called with a name and so many commas behind it.
@@ -429,9 +502,12 @@ fn longest_lists() {
             (called(length, 2), long(Err(15))),
         ];
         for (list, verdict) in &lists {
+            let list = codes::tokens(list);
             for cells in [MOST_CELLS - 1, MOST_CELLS, MOST_CELLS + 1] {
-                read(list, cells, verdict, &mut tally);
+                read(&list, cells, verdict, &mut tally);
             }
+            let odd = [&codes::cells(&list)[..], &[NAME]].concat();
+            read_cells(&odd, MOST_CELLS, &Err(14), &mut tally);
         }
     }
     tally.print("longest lists read");

@@ -54,7 +54,7 @@ pub fn compare() -> u64 {
         add(maker, [0; 3], ours, context_of_root(maker as u16));
     }
     // The contexts do not depend on the operand; this one is scanned quickly.
-    let operand = Subject::new(&[PATH, 0, 0, 0, 0], 1, 1);
+    let operand = Subject::new(&[PATH, 0, 0, 0, 0, 0], 1, 1);
     for from in every_context() {
         let ours = questions::context(Maker::LeftmostWithDot, from, [false; 2], 0);
         add(Maker::LeftmostWithDot, from, ours, operand.leftmost_with_dot(from).1);

@@ -21,7 +21,7 @@ pub fn record(length: u32) -> u64 {
     different
 }
 
-/// A stem has the number of its nodes in a byte, then five bytes for each of four nodes,
+/// A stem has the number of its nodes in a byte, then six bytes for each of four nodes,
 /// zeros for those that it has not.
 fn stems() -> Vec<u8> {
     let Spines { nexts, ends, forms, .. } = set(1);

@@ -10,9 +10,15 @@ const NAME: [u16; 5] = [PATH, 0, 0, 0, 0];
 /// A path type without arguments.
 const TYPE: [u16; 5] = [TYPE_PATH, 0, 1, 0, 0];
 
+/// The cells of nodes that are given as document 01 has them. Document 02: "each node gains
+/// a 0", its symbol.
+fn cells(nodes: &[[u16; 5]]) -> Vec<u16> {
+    nodes.iter().flat_map(|node| node.iter().copied().chain([0])).collect()
+}
+
 /// The pair of a node of a tree, given node by node.
 fn pair(context: u16, nodes: &[[u16; 5]], node: u16) -> u16 {
-    answers(context, nodes.len() as u16, &nodes.concat()).row(node).pair
+    answers(context, nodes.len() as u16, &cells(nodes)).row(node).pair
 }
 
 /// A Binary of the first two operands.
@@ -22,8 +28,8 @@ fn binary(operator: u16) -> [u16; 5] {
 
 #[test]
 fn p1_listing() {
-    let mut file = vec![0, 5, 5, 0, 2, 2, 3, 5, 0, 0, 4, 5];
-    file.extend([26, 0, 0, 0, 0].repeat(3));
+    let mut file = vec![0, 5, 5, 0, 2, 2, 3, 0, 5, 0, 0, 4, 5, 0];
+    file.extend([26, 0, 0, 0, 0, 0].repeat(3));
     let table = table::read(&file).expect("well formed");
     assert_eq!(table::write(&table), file);
     let answers = answers(table.context, table.count, &table.cells);
@@ -135,6 +141,6 @@ fn let_over_a_prefix() {
         NAME,
         TYPE,
     ];
-    let row = answers(0, 9, &tree.concat()).row(3);
+    let row = answers(0, 9, &cells(&tree)).row(3);
     assert_eq!(row.cells(), [1, 5, 6, 0, 0]);
 }

@@ -76,9 +76,16 @@ pub fn tables(text: &str) -> Vec<Result<Vec<u16>, String>> {
 }
 
 /// A node at the end of the table, with its number.
-fn node(cells: &mut Vec<u16>, form: u16, detail: u16) -> usize {
-    cells.extend([form, 0, detail, 0, 0]);
+fn node(cells: &mut Vec<u16>, form: u16, detail: u16, symbol: u16) -> usize {
+    cells.extend([form, 0, detail, 0, 0, symbol]);
     cells.len() / NODE_CELLS
+}
+
+/// The symbol that a name, a literal or a member was spelled by, as `codes::text` does:
+/// `x7#0`, `"7"` or `7#0`.
+fn symbol(value: &Value) -> u16 {
+    let spelled = value.head.trim_end_matches("#0").trim_matches('"').trim_start_matches('x');
+    spelled.parse().unwrap_or_else(|_| panic!("no symbol in {}", value.head))
 }
 
 fn operand(cells: &mut [u16], node: usize, place: usize, operand: usize) {
@@ -112,13 +119,20 @@ fn one_of(names: &[&str], value: &Value) -> Result<u16, String> {
 fn expression(value: &Value, cells: &mut Vec<u16>) -> Result<usize, String> {
     let kind = value.field("kind");
     let inside = &kind.inside;
+    let mut own = 0;
     let (form, detail, operands): (u16, u16, Vec<&Value>) = match (kind.head, &inside[..]) {
         ("Paren", [inner]) => return expression(inner, cells),
         ("Path", [_, path]) => match &path.field("segments").inside[..] {
-            [segment] if segment.field("args").head == "None" => (PATH, 0, vec![]),
+            [segment] if segment.field("args").head == "None" => {
+                own = symbol(segment.field("ident"));
+                (PATH, 0, vec![])
+            }
             _ => return Err("Path".to_string()),
         },
-        ("Lit", _) => (LIT, 0, vec![]),
+        ("Lit", [literal]) => {
+            own = symbol(literal.field("symbol"));
+            (LIT, 0, vec![])
+        }
         ("Unary", [operator, inner]) => {
             let operators = ["Deref", "Not", "Neg"];
             let at = operators.iter().position(|name| *name == operator.head);
@@ -136,18 +150,20 @@ fn expression(value: &Value, cells: &mut Vec<u16>) -> Result<usize, String> {
         ("Assign", [left, right, _]) => (ASSIGN, 0, vec![left, right]),
         ("Cast", [inner, ty]) => (CAST, 0, vec![inner, ty]),
         ("Field", [inner, member]) => {
+            own = symbol(member);
             (FIELD, u16::from(member.head.starts_with(|c: char| c.is_ascii_digit())), vec![inner])
         }
         ("Index", [inner, index, _]) => (INDEX, 0, vec![inner, index]),
         ("Call", [callee, arguments]) => (CALL, 0, vec![callee, arguments]),
         ("MethodCall", [call]) if call.field("seg").field("args").head == "None" => {
+            own = symbol(call.field("seg").field("ident"));
             (METHOD_CALL, 0, vec![call.field("receiver"), call.field("args")])
         }
         ("Try", [inner]) => (TRY, 0, vec![inner]),
         ("Await", [inner, _]) => (AWAIT, 0, vec![inner]),
         (other, _) => return Err(other.to_string()),
     };
-    let number = node(cells, form, detail);
+    let number = node(cells, form, detail, own);
     for (place, value) in operands.into_iter().enumerate() {
         let at = match (form, place) {
             (CAST, 1) => ty(value, cells)?,
@@ -167,7 +183,7 @@ fn links<'a, 'b: 'a>(
 ) -> Result<usize, String> {
     let (mut first, mut before) = (0, 0);
     for value in items {
-        let link = node(cells, LINK, 0);
+        let link = node(cells, LINK, 0, 0);
         if before == 0 {
             first = link;
         } else {
@@ -193,11 +209,11 @@ fn ty(value: &Value, cells: &mut Vec<u16>) -> Result<usize, String> {
             let [segment] = &path.field("segments").inside[..] else {
                 return Err("Path".to_string());
             };
-            return path_type(segment.field("args"), cells);
+            return path_type(segment, cells);
         }
         (other, _) => return Err(other.to_string()),
     };
-    let number = node(cells, form, detail);
+    let number = node(cells, form, detail, 0);
     if let Some(inner) = inner {
         let at = ty(inner, cells)?;
         operand(cells, number, 0, at);
@@ -205,15 +221,16 @@ fn ty(value: &Value, cells: &mut Vec<u16>) -> Result<usize, String> {
     Ok(number)
 }
 
-fn path_type(arguments: &Value, cells: &mut Vec<u16>) -> Result<usize, String> {
+fn path_type(segment: &Value, cells: &mut Vec<u16>) -> Result<usize, String> {
+    let (arguments, own) = (segment.field("args"), symbol(segment.field("ident")));
     if arguments.head == "None" {
-        return Ok(node(cells, TYPE_PATH, 1));
+        return Ok(node(cells, TYPE_PATH, 1, own));
     }
     let angle = &arguments.inside[0];
     if angle.head != "AngleBracketed" {
         return Err(angle.head.to_string());
     }
-    let number = node(cells, TYPE_PATH, 2);
+    let number = node(cells, TYPE_PATH, 2, own);
     let mut types = Vec::new();
     for argument in &angle.inside[0].field("args").inside {
         let ("Arg", [inner]) = (argument.head, &argument.inside[..]) else {

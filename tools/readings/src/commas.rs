@@ -12,7 +12,7 @@ use crate::ours::Ours;
 use crate::trees;
 use crate::written::with_commas;
 use model::chart::Chart;
-use model::codes::COMMA;
+use model::codes::{Token, COMMA};
 use model::commas::{before_closing, closes, item_before};
 use model::generate::Dice;
 use model::rules::{Change, Rules};
@@ -42,17 +42,17 @@ impl Charts {
     }
 
     fn last(&self) -> Option<u16> {
-        self.chart.tokens().last().copied()
+        self.chart.tokens().last().map(|token| token.code)
     }
 
-    pub fn push(&mut self, code: u16) {
-        if self.last() == Some(COMMA) && closes(code) {
-            self.with_items.push(item_before(code));
+    pub fn push(&mut self, token: Token) {
+        if self.last() == Some(COMMA) && closes(token.code) {
+            self.with_items.push(item_before(token.code).into());
             self.without.pop();
         }
-        self.chart.push(code);
-        self.with_items.push(code);
-        self.without.push(code);
+        self.chart.push(token);
+        self.with_items.push(token);
+        self.without.push(token);
     }
 
     pub fn pop(&mut self) {
@@ -62,15 +62,15 @@ impl Charts {
         self.without.pop();
         if self.last() == Some(COMMA) && closes(code) {
             self.with_items.pop();
-            self.without.push(COMMA);
+            self.without.push(COMMA.into());
         }
     }
 
-    pub fn read(&mut self, tokens: &[u16]) {
+    pub fn read(&mut self, tokens: &[Token]) {
         while self.last().is_some() {
             self.pop();
         }
-        tokens.iter().for_each(|&code| self.push(code));
+        tokens.iter().for_each(|&token| self.push(token));
     }
 
     /// Whether the readings are those that document 01's rule gives.
@@ -144,7 +144,7 @@ pub fn each_list(
         // How many tokens more there must be.
         let wanted = if held { 0 } else { 2 - usize::from(code == COMMA) };
         if length > wanted {
-            charts.push(code);
+            charts.push(lists::at_place(code, charts.chart.tokens().len()));
             each_list(charts, codes, length - 1, held, visit);
             charts.pop();
         }
@@ -163,7 +163,7 @@ fn choices(links: &[u16], most: usize) -> impl Iterator<Item = Vec<u16>> + '_ {
 
 /// The tokens of a plain tree with a comma after the last item of some of its lists: each
 /// choice of its first lists, up to so many of them, and all lists if there are more.
-pub fn each_choice(tree: &NodeTable, most: usize, mut visit: impl FnMut(Vec<u16>)) {
+pub fn each_choice(tree: &NodeTable, most: usize, mut visit: impl FnMut(Vec<Token>)) {
     let links = last_links(tree);
     choices(&links, most).for_each(|chosen| visit(with_commas(tree, &chosen)));
     if links.len() > most {

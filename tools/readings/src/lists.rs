@@ -3,8 +3,8 @@
 use crate::makers;
 use crate::ours::Ours;
 use model::chart::Chart;
-use model::codes::{text, CODES};
-use model::generate::Dice;
+use model::codes::{self, has_symbol, text, Token, CODES, NAME};
+use model::generate::{Dice, SYMBOLS};
 use model::rules::{Change, Rules};
 use model::sizes::{MOST_CELLS, NODE_CELLS};
 use model::table::numbers;
@@ -42,7 +42,7 @@ impl Tally {
     pub fn list(
         &mut self,
         ours: &mut Ours,
-        tokens: &[u16],
+        tokens: &[Token],
         verdict: Result<Verdict, Vec<Vec<u16>>>,
     ) {
         self.lists += 1;
@@ -55,7 +55,7 @@ impl Tally {
         };
         self.replies[usize::from(*verdict.as_ref().err().unwrap_or(&0))] += 1;
         self.digested(tokens.len() as u16);
-        tokens.iter().for_each(|&code| self.digested(code));
+        tokens.iter().flat_map(|token| token.cells()).for_each(|cell| self.digested(cell));
         match &verdict {
             Ok(table) => table.iter().for_each(|&cell| self.digested(cell)),
             Err(refusal) => self.digested(1_000 + refusal),
@@ -75,7 +75,7 @@ impl Tally {
         &mut self,
         chart: &mut Chart,
         ours: &mut Ours,
-        tokens: &[u16],
+        tokens: &[Token],
         known: Verdict,
     ) {
         // The chart grows with the square of the length.
@@ -93,7 +93,7 @@ impl Tally {
         self.digest ^= self.digest >> 29;
     }
 
-    pub fn differs(&mut self, what: &str, tokens: &[u16]) {
+    pub fn differs(&mut self, what: &str, tokens: &[Token]) {
         self.different += 1;
         let mut spelled = text(tokens);
         spelled.truncate(200);
@@ -122,12 +122,19 @@ impl Tally {
     }
 }
 
-/// All lists of up to so many tokens over some codes, in the order of their codes.
+/// A code as it stands at a place of a list, with a symbol by its place if it may have one.
+pub fn at_place(code: u16, place: usize) -> Token {
+    const BY_PLACE: [u16; 9] = [1, 127, 128, 16_383, 16_384, 65_535, 2, 300, 0];
+    Token::new(code, if has_symbol(code) { BY_PLACE[place % BY_PLACE.len()] } else { 0 })
+}
+
+/// All lists of up to so many tokens over some codes, in the order of their codes, with
+/// symbols by their places.
 pub fn each_list(chart: &mut Chart, codes: &[u16], length: usize, visit: &mut impl FnMut(&Chart)) {
     visit(chart);
     if length > 0 {
         for &code in codes {
-            chart.push(code);
+            chart.push(at_place(code, chart.tokens().len()));
             each_list(chart, codes, length - 1, visit);
             chart.pop();
         }
@@ -175,7 +182,9 @@ pub fn compare(ours: &mut Ours, Asked { smaller, lists, seed, change }: Asked) -
     for (most_tokens, lists) in [(40, lists), (200, lists / 40)] {
         let (mut tally, start) = (Tally::default(), Instant::now());
         for index in 0..lists {
-            let tokens = makers::random(&mut Dice::new(seed, index), seed, most_tokens);
+            let dice = &mut Dice::new(seed, index);
+            let mut tokens = makers::random(dice, seed, most_tokens);
+            makers::misplace_symbol(dice, &mut tokens);
             tally.list(ours, &tokens, verdict::of(&mut chart, &tokens));
         }
         tally.print(&format!("random, about {most_tokens} tokens"), start);
@@ -186,7 +195,56 @@ pub fn compare(ours: &mut Ours, Asked { smaller, lists, seed, change }: Asked) -
         tally.constructed(&mut chart, ours, &tokens, known);
     }
     tally.print("constructed", start);
-    different + tally.different + short_tables(ours) + damaged_numbers(ours, seed)
+    let others = any_cells(ours, seed, lists / 10) + short_tables(ours);
+    different + tally.different + others + damaged_numbers(ours, seed)
+}
+
+/// Cells that are no token list, or one with another cell: an odd number of them, symbols
+/// where there are none, codes that there are not.
+fn any_cells(ours: &mut Ours, seed: u64, lists: u64) -> u64 {
+    let mut chart = Chart::new(Rules::new(None));
+    let (mut replies, mut different) = ([0u64; 17], 0);
+    let mut cells = |ours: &mut Ours, cells: &[u16]| {
+        let verdict = verdict::of_cells(&mut chart, cells).expect("at most one reading");
+        replies[usize::from(*verdict.as_ref().err().unwrap_or(&0))] += 1;
+        if ours.read_cells(cells, MOST_CELLS).is_some_and(|ours| ours != verdict) {
+            different += 1;
+            println!("  we read otherwise: {cells:?}");
+        }
+    };
+    for index in 0..lists {
+        let dice = &mut Dice::new(seed + 5, index);
+        let mut list = codes::cells(&makers::random(dice, seed, 40));
+        let any = dice.pick(&[0, 1, NAME, CODES - 1, CODES, 127, 128, 16_384, 65_535]);
+        match dice.below(4) {
+            0 => list.truncate(dice.below(list.len() + 1)),
+            1 => list.insert(dice.below(list.len() + 1), any),
+            2 => list.push(any),
+            _ if list.is_empty() => {}
+            _ => {
+                let at = dice.below(list.len());
+                list[at] = any;
+            }
+        }
+        cells(ours, &list);
+    }
+    // Each symbol at each code, alone and behind a prefix; and half a token more.
+    for code in 0..=CODES {
+        for symbol in SYMBOLS {
+            for list in [&[code, symbol][..], &[29, 0, code, symbol], &[code, symbol, NAME]] {
+                cells(ours, list);
+            }
+        }
+    }
+    println!(
+        "any cells: lists {}, read {}, by 14, 15, 16: {}, {}, {}; different {different}",
+        replies.iter().sum::<u64>(),
+        replies[0],
+        replies[14],
+        replies[15],
+        replies[16],
+    );
+    different
 }
 
 /// Bytes on the standard input of the program `reading`, some with a malformed
@@ -199,16 +257,16 @@ fn damaged_numbers(ours: &mut Ours, seed: u64) -> u64 {
     let (mut malformed, mut different) = (0, 0);
     for index in 0..1_000 {
         let dice = &mut Dice::new(seed + 3, index);
-        let mut bytes = numbers(&makers::random(dice, seed, 40));
+        let mut bytes = numbers(&codes::cells(&makers::random(dice, seed, 40)));
         let at = dice.below(bytes.len() + 1);
         let behind: &[u8] =
             dice.pick(&[&[0x80], &[0x80, 0], &[0xFF, 0xFF, 4], &[0xA0, 0], &[0x20]]);
         bytes.splice(at..at, behind.iter().copied());
-        let verdict = match codes_of(&bytes) {
-            Some(tokens) => verdict::of(&mut chart, &tokens).expect("at most one reading"),
+        let verdict = match cells_of(&bytes) {
+            Some(cells) => verdict::of_cells(&mut chart, &cells).expect("at most one reading"),
             None => Err(14),
         };
-        malformed += u64::from(codes_of(&bytes).is_none());
+        malformed += u64::from(cells_of(&bytes).is_none());
         if ours.read_file(&bytes) != Some(verdict) {
             different += 1;
             println!("  we read otherwise: {bytes:?}");
@@ -220,7 +278,7 @@ fn damaged_numbers(ours: &mut Ours, seed: u64) -> u64 {
 
 /// The numbers that bytes hold, none if one is malformed: a number is a run that
 /// its first byte without the high bit ends.
-fn codes_of(bytes: &[u8]) -> Option<Vec<u16>> {
+fn cells_of(bytes: &[u8]) -> Option<Vec<u16>> {
     let number = |run: &[u8]| {
         let (&last, others) = run.split_last()?;
         if last & 0x80 != 0 || last == 0 && !others.is_empty() {
@@ -241,9 +299,10 @@ fn short_tables(ours: &mut Ours) -> u64 {
     let mut different = 0;
     for lent in [0, NODE_CELLS, MOST_CELLS - 1] {
         for list in [&[][..], &[32], &[32, 0, 32], &[0], &[46], &[36; 24_577]] {
-            different += u64::from(ours.read(list, lent) != Some(Err(12)));
+            different += u64::from(ours.read(&codes::tokens(list), lent) != Some(Err(12)));
+            different += u64::from(ours.read_cells(list, lent) != Some(Err(12)));
         }
     }
-    println!("short tables: lists 18, different {different}");
+    println!("short tables: lists 36, different {different}");
     different
 }

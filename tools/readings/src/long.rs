@@ -67,6 +67,7 @@ fn lists() -> Vec<(&'static str, Vec<u16>)> {
 /// Asks our reader for one list; a process of its own, so that its stack is its own.
 pub fn one(ours: &mut Ours, name: &str) -> Option<u64> {
     let (_, list) = lists().into_iter().find(|(known, _)| *known == name)?;
+    let list = tokens(&list);
     let start = Instant::now();
     let verdict = ours.read(&list, MOST_CELLS)?;
     let time = start.elapsed();

@@ -6,25 +6,39 @@ use crate::written::written;
 use model::codes::*;
 use model::commas;
 use model::forms;
-use model::generate::{Dice, Family};
+use model::generate::{self, Dice, Family, SYMBOLS};
 use model::sizes::{MOST_LEVELS, MOST_NODES, MOST_TOKENS, NODE_CELLS};
 use model::table::NodeTable;
-use model::table::{ATTRIBUTES, DETAIL, FIRST, FORM, SECOND};
+use model::table::{ATTRIBUTES, DETAIL, FIRST, FORM, SECOND, SYMBOL};
 use model::verdict::{within_bounds, Verdict};
 use model::written::{last_links, without_parens};
 
-/// A list with up to about so many tokens.
-pub fn random(dice: &mut Dice, seed: u64, most_tokens: usize) -> Vec<u16> {
-    match dice.below(5) {
+/// A list with up to about so many tokens, with symbols at most that may have one.
+pub fn random(dice: &mut Dice, seed: u64, most_tokens: usize) -> Vec<Token> {
+    let mut list = match dice.below(5) {
         0..=2 => edited(dice, seed, most_tokens),
-        3 => walked(dice, most_tokens),
-        _ => (0..dice.between(1, 12)).map(|_| dice.below(CODES.into()) as u16).collect(),
+        3 => tokens(&walked(dice, most_tokens)),
+        _ => (0..dice.between(1, 12)).map(|_| any_code(dice).into()).collect(),
+    };
+    generate::token_symbols(&mut list, dice);
+    list
+}
+
+fn any_code(dice: &mut Dice) -> u16 {
+    dice.below(CODES.into()) as u16
+}
+
+/// Seldom gives a symbol to a token that may have none.
+pub fn misplace_symbol(dice: &mut Dice, tokens: &mut [Token]) {
+    if !tokens.is_empty() && dice.percent(4) {
+        let at = dice.below(tokens.len());
+        tokens[at].symbol = dice.pick(&SYMBOLS);
     }
 }
 
 /// The same with commas put in, half of them in what is written for a plain tree that has
 /// lists.
-pub fn with_commas(dice: &mut Dice, seed: u64, most_tokens: usize) -> Vec<u16> {
+pub fn with_commas(dice: &mut Dice, seed: u64, most_tokens: usize) -> Vec<Token> {
     let mut tokens = match dice.percent(50) {
         true => loop {
             let tree = drawn(dice, seed, most_tokens);
@@ -39,7 +53,7 @@ pub fn with_commas(dice: &mut Dice, seed: u64, most_tokens: usize) -> Vec<u16> {
 }
 
 /// What is written for a plain tree, with up to three edits.
-fn edited(dice: &mut Dice, seed: u64, most_tokens: usize) -> Vec<u16> {
+fn edited(dice: &mut Dice, seed: u64, most_tokens: usize) -> Vec<Token> {
     let tree = drawn(dice, seed, most_tokens);
     let mut tokens = written(&tree).tokens;
     for _ in 0..dice.below(4) {
@@ -60,35 +74,35 @@ pub fn drawn(dice: &mut Dice, seed: u64, most_tokens: usize) -> NodeTable {
     }
 }
 
-fn edit(dice: &mut Dice, tokens: &mut Vec<u16>) {
+fn edit(dice: &mut Dice, tokens: &mut Vec<Token>) {
     let length = tokens.len();
     if length == 0 {
-        tokens.push(NAME);
+        tokens.push(NAME.into());
         return;
     }
     let at = dice.below(length);
     let code = match dice.below(3) {
         0 => dice
             .pick(&[LESS, SHIFT_LEFT, GREATER, OPEN, CLOSE, COMMA, NAME, DOT, AS, MINUS, EQUALS]),
-        _ => dice.below(CODES.into()) as u16,
+        _ => any_code(dice),
     };
     match dice.below(8) {
         0 => {
             tokens.remove(at);
         }
-        1 => tokens.insert(at, code),
-        2 => tokens[at] = code,
+        1 => tokens.insert(at, code.into()),
+        2 => tokens[at] = code.into(),
         3 => tokens.swap(at, (at + 1) % length),
         4 => {
             // A pair round some tokens.
             let to = dice.between(at, length);
-            tokens.insert(to, CLOSE);
-            tokens.insert(at, OPEN);
+            tokens.insert(to, CLOSE.into());
+            tokens.insert(at, OPEN.into());
         }
         5 => {
             // One pair of parentheses goes, matched or not.
-            let opening = tokens.iter().position(|&code| code == OPEN);
-            let closing = tokens.iter().rposition(|&code| code == CLOSE);
+            let opening = tokens.iter().position(|token| token.code == OPEN);
+            let closing = tokens.iter().rposition(|token| token.code == CLOSE);
             if let (Some(opening), Some(closing)) = (opening, closing) {
                 tokens.remove(opening.max(closing));
                 tokens.remove(opening.min(closing));
@@ -96,10 +110,11 @@ fn edit(dice: &mut Dice, tokens: &mut Vec<u16>) {
         }
         6 => {
             // Another operator.
-            let operators: Vec<usize> = (0..length).filter(|&at| tokens[at] <= EQUALS).collect();
+            let is_operator = |at: &usize| tokens[*at].code <= EQUALS;
+            let operators: Vec<usize> = (0..length).filter(is_operator).collect();
             if !operators.is_empty() {
                 let at = dice.pick(&operators);
-                tokens[at] = dice.below(usize::from(EQUALS) + 1) as u16;
+                tokens[at].code = dice.below(usize::from(EQUALS) + 1) as u16;
             }
         }
         _ => {
@@ -118,7 +133,7 @@ fn walked(dice: &mut Dice, most_tokens: usize) -> Vec<u16> {
     let mut operand = true;
     while tokens.len() < length {
         if dice.percent(2) {
-            tokens.push(dice.below(CODES.into()) as u16);
+            tokens.push(any_code(dice));
         }
         if operand {
             match dice.below(10) {
@@ -201,7 +216,7 @@ pub fn table(dice: &mut Dice, seed: u64) -> NodeTable {
     let mut tree = drawn(dice, seed, 60);
     for _ in 0..dice.below(3) {
         let node = NODE_CELLS * dice.below(tree.count.into());
-        match dice.below(12) {
+        match dice.below(13) {
             0 => tree.context = dice.below(5) as u16,
             1 => {
                 tree.count = dice.pick(&[0, tree.count - 1, tree.count + 1, MOST_NODES as u16 + 1])
@@ -211,6 +226,7 @@ pub fn table(dice: &mut Dice, seed: u64) -> NodeTable {
             4..=7 => tree.cells[node + DETAIL] = dice.below(30) as u16,
             8 => tree.cells[node + FIRST] = dice.below(usize::from(tree.count) + 2) as u16,
             9 => tree.cells[node + SECOND] = dice.below(usize::from(tree.count) + 2) as u16,
+            10 => tree.cells[node + SYMBOL] = dice.pick(&[1, 127, 128, 16_383, 16_384, 65_535]),
             // A leaf or an operand's owner becomes another of its kind.
             _ => {
                 let leaf = tree.cells[node + FIRST..=node + SECOND] == [0, 0];
@@ -230,8 +246,55 @@ pub fn table(dice: &mut Dice, seed: u64) -> NodeTable {
     tree
 }
 
-/// A list with its verdict.
+/// The codes of a list with its verdict, without symbols.
 pub type Constructed = (Vec<u16>, Verdict);
+
+/// A list with its verdict.
+pub type Named = (Vec<Token>, Verdict);
+
+/// The list with symbols at its tokens, and its reading with the same ones at its nodes: in
+/// the order in which nodes are printed.
+pub fn named((codes, verdict): Constructed, dice: &mut Dice) -> Named {
+    let mut list = tokens(&codes);
+    generate::token_symbols(&mut list, dice);
+    let symbols = list.iter().filter(|token| has_symbol(token.code)).map(|token| token.symbol);
+    let verdict = verdict.map(|mut cells| {
+        let nodes = naming_nodes(&cells);
+        assert!(nodes.iter().all(|node| cells[node + SYMBOL] == 0), "no symbols yet");
+        nodes.iter().zip(symbols).for_each(|(node, symbol)| cells[node + SYMBOL] = symbol);
+        cells
+    });
+    (list, verdict)
+}
+
+/// Where the nodes stand that have a name, a literal or a member, in the order in which
+/// they are printed.
+fn naming_nodes(cells: &[u16]) -> Vec<usize> {
+    let mut found = Vec::new();
+    // Nodes that are to come, and names.
+    let mut waiting = vec![(0, false)];
+    while let Some((node, is_name)) = waiting.pop() {
+        if is_name {
+            found.push(node);
+            continue;
+        }
+        let operand = |place: usize| usize::from(cells[node + place]).checked_sub(1);
+        let below = |place: usize| operand(place).map(|at| (NODE_CELLS * at, false));
+        let name = forms::has_symbol(cells[node + FORM], cells[node + DETAIL]);
+        // What is printed last waits first; a member stands behind its first operand.
+        waiting.extend(below(SECOND));
+        waiting.extend(name.then_some((node, true)));
+        waiting.extend(below(FIRST));
+    }
+    found
+}
+
+/// A tree with all symbols 0.
+fn erased(tree: &NodeTable) -> NodeTable {
+    let mut tree = tree.clone();
+    tree.cells.iter_mut().skip(SYMBOL).step_by(NODE_CELLS).for_each(|symbol| *symbol = 0);
+    tree
+}
 
 /// A chain of so many nodes: each step puts tokens before and behind the operand.
 struct Nest {
@@ -242,9 +305,10 @@ struct Nest {
     other: Option<(usize, &'static [u16])>,
 }
 
-const PATH_CELLS: [u16; 5] = [forms::PATH, 0, 0, 0, 0];
-const TYPE_CELLS: [u16; 5] = [forms::TYPE_PATH, 0, 1, 0, 0];
-const LINK_TO_PATH: [u16; 10] = [forms::LINK, 0, 0, 2, 0, forms::PATH, 0, 0, 0, 0];
+const PATH_CELLS: [u16; NODE_CELLS] = [forms::PATH, 0, 0, 0, 0, 0];
+const TYPE_CELLS: [u16; NODE_CELLS] = [forms::TYPE_PATH, 0, 1, 0, 0, 0];
+const LINK_TO_PATH: [u16; 2 * NODE_CELLS] =
+    [forms::LINK, 0, 0, 2, 0, 0, forms::PATH, 0, 0, 0, 0, 0];
 
 /// Nests of expressions, all written without parentheses.
 const NESTS: [Nest; 14] = [
@@ -307,16 +371,19 @@ const NESTS: [Nest; 14] = [
 /// Cells with all operands further on by so many nodes.
 fn shifted(cells: &[u16], by: usize) -> impl Iterator<Item = u16> + '_ {
     let operand = move |cell: u16| if cell == 0 { 0 } else { cell + by as u16 };
-    cells
-        .iter()
-        .zip((0..NODE_CELLS).cycle())
-        .map(move |(&cell, at)| if at < FIRST { cell } else { operand(cell) })
+    cells.iter().zip((0..NODE_CELLS).cycle()).map(move |(&cell, at)| {
+        if (FIRST..=SECOND).contains(&at) {
+            operand(cell)
+        } else {
+            cell
+        }
+    })
 }
 
 /// A node above the tree of a table, which stands in one of its places beside
 /// another tree.
 fn above(cells: &[u16], (form, detail): (u16, u16), other: Option<(usize, &[u16])>) -> Vec<u16> {
-    let mut table = vec![form, 0, detail, 2, 0];
+    let mut table = vec![form, 0, detail, 2, 0, 0];
     match other {
         None => table.extend(shifted(cells, 1)),
         Some((1, other)) => {
@@ -376,7 +443,7 @@ fn links(items: usize, item: &[u16]) -> Vec<u16> {
     for at in 0..items {
         let by = nodes * at;
         let next = if at + 1 < items { by + nodes + 1 } else { 0 };
-        table.extend([forms::LINK, 0, 0, by as u16 + 2, next as u16]);
+        table.extend([forms::LINK, 0, 0, by as u16 + 2, next as u16, 0]);
         table.extend(shifted(item, by + 1));
     }
     table
@@ -385,10 +452,11 @@ fn links(items: usize, item: &[u16]) -> Vec<u16> {
 /// A tree called with arguments that make it so many nodes. A `?` behind it mends
 /// an odd number.
 pub fn called(tree: &NodeTable, nodes: usize) -> Option<Constructed> {
+    let tree = erased(tree);
     let mut tokens = vec![OPEN];
-    tokens.extend(written(tree).tokens);
+    tokens.extend(written(&tree).tokens.iter().map(|token| token.code));
     tokens.push(CLOSE);
-    let mut table = without_parens(tree);
+    let mut table = without_parens(&tree);
     let has = |table: &[u16]| table.len() / NODE_CELLS;
     if (nodes.checked_sub(has(&table) + 1)?) % 2 == 1 {
         tokens.push(QUESTION);
@@ -403,7 +471,7 @@ pub fn called(tree: &NodeTable, nodes: usize) -> Option<Constructed> {
         tokens.push(LITERAL);
     }
     tokens.push(CLOSE);
-    let links = links(arguments, &[forms::LIT, 0, 0, 0, 0]);
+    let links = links(arguments, &[forms::LIT, 0, 0, 0, 0, 0]);
     let other = (arguments > 0).then_some((1, &links[..]));
     let table = above(&table, (forms::CALL, 0), other);
     assert_eq!(has(&table), nodes);
@@ -427,7 +495,7 @@ pub fn type_arguments(nodes: usize) -> Constructed {
     }
     tokens.push(GREATER);
     let mut ty =
-        above(&links(room / 2, &[forms::TYPE_INFER, 0, 0, 0, 0]), (forms::TYPE_PATH, 2), None);
+        above(&links(room / 2, &[forms::TYPE_INFER, 0, 0, 0, 0, 0]), (forms::TYPE_PATH, 2), None);
     ty[FIRST..=SECOND].copy_from_slice(&[0, 2]);
     if tokens[2] == AND {
         ty = above(&ty, (forms::TYPE_REFERENCE, 0), None);
@@ -442,7 +510,8 @@ pub const MOST_PAIRS: usize = (MOST_TOKENS - 1) / 2;
 
 /// A name, or one with a prefix, in so many parentheses.
 pub fn grouped(pairs: usize, inner: &[u16]) -> Constructed {
-    const NEGATED: [u16; 10] = [forms::UNARY, 0, 2, 2, 0, forms::PATH, 0, 0, 0, 0];
+    const NEGATED: [u16; 2 * NODE_CELLS] =
+        [forms::UNARY, 0, 2, 2, 0, 0, forms::PATH, 0, 0, 0, 0, 0];
     let table = match inner {
         [NAME] => &PATH_CELLS[..],
         [MINUS, NAME] => &NEGATED[..],
@@ -455,8 +524,14 @@ pub fn grouped(pairs: usize, inner: &[u16]) -> Constructed {
     (tokens, verdict)
 }
 
+/// Each list with symbols.
+fn all_named(lists: Vec<Constructed>, seed: u64) -> Vec<Named> {
+    let with_symbols = |(index, list)| named(list, &mut Dice::new(seed + 4, index));
+    (0..).zip(lists).map(with_symbols).collect()
+}
+
 /// Lists at the bounds of 14 and 16, and just below and above them.
-pub fn constructed(seed: u64) -> Vec<Constructed> {
+pub fn constructed(seed: u64) -> Vec<Named> {
     let mut lists = Vec::new();
     for path in [2, MOST_LEVELS - 1, MOST_LEVELS, MOST_LEVELS + 1, MOST_LEVELS + 2, 600, 3_000] {
         lists.extend(NESTS.iter().map(|nest| nest.of(path)));
@@ -495,7 +570,7 @@ pub fn constructed(seed: u64) -> Vec<Constructed> {
         lists.push((vec![CLOSE, code], Err(14)));
     }
     lists.push((Vec::new(), Err(15)));
-    lists
+    all_named(lists, seed)
 }
 
 /// A list whose last token closes a list of items, with so many commas before it. One
@@ -533,28 +608,17 @@ const COMMA_NESTS: [Nest; 3] = [
     },
 ];
 
-const CALL_OF_PATH: [u16; 20] = [
-    forms::CALL,
-    0,
-    0,
-    2,
-    3,
-    forms::PATH,
-    0,
-    0,
-    0,
-    0,
-    forms::LINK,
-    0,
-    0,
-    4,
-    0,
-    forms::PATH,
-    0,
-    0,
-    0,
-    0,
-];
+const CALL_OF_PATH: [u16; 4 * NODE_CELLS] = {
+    let mut cells = [0; 4 * NODE_CELLS];
+    let nodes =
+        [[forms::CALL, 0, 0, 2, 3, 0], PATH_CELLS, [forms::LINK, 0, 0, 4, 0, 0], PATH_CELLS];
+    let mut at = 0;
+    while at < cells.len() {
+        cells[at] = nodes[at / NODE_CELLS][at % NODE_CELLS];
+        at += 1;
+    }
+    cells
+};
 
 /// A name called with a name in so many parentheses, and a comma behind it or not.
 pub fn called_with_grouped(pairs: usize, commas: usize) -> Constructed {
@@ -577,7 +641,7 @@ pub fn tried((mut tokens, verdict): Constructed) -> Constructed {
 
 /// Lists with commas after last items at the bounds of 14 and 16: paths, nodes and tokens;
 /// the same with two commas, or none.
-pub fn constructed_with_commas(seed: u64) -> Vec<Constructed> {
+pub fn constructed_with_commas(seed: u64) -> Vec<Named> {
     let mut lists = Vec::new();
     for path in [2, MOST_LEVELS - 1, MOST_LEVELS, MOST_LEVELS + 1, 600] {
         lists.extend(COMMA_NESTS.iter().map(|nest| nest.of(path)));
@@ -604,5 +668,5 @@ pub fn constructed_with_commas(seed: u64) -> Vec<Constructed> {
             lists.push(tried(called_with_grouped(pairs, commas)));
         }
     }
-    lists
+    all_named(lists, seed)
 }

@@ -1,12 +1,14 @@
 //! Our writer and our reader: the one file that knows how they are asked.
 //!
 //! As programs, `target/bin/tokens` takes a tree file on standard input and prints
-//! `ok`, the count and the codes, and `target/bin/reading` takes the codes as the
-//! numbers of a tree file and prints `ok` and the count, then for each node its
-//! number and its five numbers; both print `no` and the number on a refusal.
+//! `ok` and the count, then a line with the codes and a line with the symbols, and
+//! `target/bin/reading` takes code and symbol of each token as the numbers of a tree file
+//! and prints `ok` and the count, then for each node its number and its six numbers;
+//! both print `no` and the number on a refusal.
 //! As functions they come from the static library of `answers`, with the feature
 //! `library`.
 
+use model::codes::{self, Token};
 use model::sizes::NODE_CELLS;
 use model::table::{self, NodeTable};
 use model::verdict::Verdict;
@@ -60,7 +62,7 @@ impl Ours {
 
     /// The tokens of a node table, or the refusal, with so many cells lent.
     #[allow(unused_variables)]
-    pub fn write(&mut self, tree: &NodeTable, lent: usize) -> Option<Result<Vec<u16>, u16>> {
+    pub fn write(&mut self, tree: &NodeTable, lent: usize) -> Option<Result<Vec<Token>, u16>> {
         match self {
             Ours::Absent => None,
             Ours::Programs => Some(printed_tokens(&run("tokens", &table::write(tree)))),
@@ -70,18 +72,26 @@ impl Ours {
     }
 
     /// The table of a list's reading, or the refusal, with so many cells lent.
-    #[allow(unused_variables)]
-    pub fn read(&mut self, tokens: &[u16], lent: usize) -> Option<Verdict> {
+    pub fn read(&mut self, tokens: &[Token], lent: usize) -> Option<Verdict> {
         match self {
             Ours::Absent => None,
-            Ours::Programs => Some(printed_table(&run("reading", &table::numbers(tokens)))),
+            _ => self.read_cells(&codes::cells(tokens), lent),
+        }
+    }
+
+    /// The same for any cells.
+    #[allow(unused_variables)]
+    pub fn read_cells(&mut self, cells: &[u16], lent: usize) -> Option<Verdict> {
+        match self {
+            Ours::Absent => None,
+            Ours::Programs => Some(printed_table(&run("reading", &table::numbers(cells)))),
             #[cfg(feature = "library")]
-            Ours::Library(library) => Some(library.read(tokens, lent)),
+            Ours::Library(library) => Some(library.read(cells, lent)),
         }
     }
 
     /// What the program `tokens` answers to any bytes.
-    pub fn write_file(&mut self, file: &[u8]) -> Option<Result<Vec<u16>, u16>> {
+    pub fn write_file(&mut self, file: &[u8]) -> Option<Result<Vec<Token>, u16>> {
         matches!(self, Ours::Programs).then(|| printed_tokens(&run("tokens", file)))
     }
 
@@ -123,13 +133,13 @@ fn answer(printed: &str) -> Result<(usize, Vec<Vec<u16>>), u16> {
     }
 }
 
-fn printed_tokens(printed: &str) -> Result<Vec<u16>, u16> {
+fn printed_tokens(printed: &str) -> Result<Vec<Token>, u16> {
     let (count, lines) = answer(printed)?;
-    let tokens = lines.concat();
-    if tokens.len() == count {
-        Ok(tokens)
-    } else {
-        Err(SPOILT)
+    match &lines[..] {
+        [codes, symbols] if [codes.len(), symbols.len()] == [count, count] => {
+            Ok(codes.iter().zip(symbols).map(|(&code, &symbol)| Token::new(code, symbol)).collect())
+        }
+        _ => Err(SPOILT),
     }
 }
 
@@ -148,8 +158,9 @@ fn printed_table(printed: &str) -> Verdict {
 #[cfg(feature = "library")]
 mod library {
     use super::SPOILT;
+    use model::codes::Token;
     use model::lent::Lent;
-    use model::sizes::{MOST_NODES, NODE_CELLS, TOKENS_PER_NODE, TOKEN_CELLS};
+    use model::sizes::{MOST_NODES, NODE_CELLS, TOKEN_CELLS, TOKEN_CELLS_PER_NODE};
     use model::verdict::Verdict;
     use model::NodeTable;
     use tezhukor::boundary;
@@ -159,13 +170,13 @@ mod library {
 
     impl Library {
         pub fn new() -> Self {
-            Library(Lent::new(TOKENS_PER_NODE * (MOST_NODES + 1)))
+            Library(Lent::new(TOKEN_CELLS_PER_NODE * (MOST_NODES + 1)))
         }
 
-        pub fn write(&mut self, tree: &NodeTable, lent: usize) -> Result<Vec<u16>, u16> {
+        pub fn write(&mut self, tree: &NodeTable, lent: usize) -> Result<Vec<Token>, u16> {
             let NodeTable { context, count, cells } = tree;
             let reply = boundary::write(*context, *count, cells, self.0.lend(lent));
-            self.taken(reply, TOKEN_CELLS)
+            self.taken(reply, TOKEN_CELLS).map(|cells| Token::of_cells(&cells))
         }
 
         pub fn read(&mut self, tokens: &[u16], lent: usize) -> Verdict {

@@ -2,7 +2,7 @@
 //! number, and random ones.
 
 use model::forms::{self, *};
-use model::generate::{Dice, Family};
+use model::generate::{symbols, Dice, Family};
 use model::sizes::NODE_CELLS;
 use model::table::{NodeTable, FIRST};
 
@@ -113,11 +113,13 @@ impl PlainTrees {
     }
 
     /// The tree with so many nodes and a number from 0 on, its nodes numbered as
-    /// written.
+    /// written, with symbols by its number.
     pub fn tree(&self, nodes: usize, index: u128) -> NodeTable {
         let mut cells = Vec::with_capacity(NODE_CELLS * nodes);
         self.plant(Expression, nodes, index, &mut cells);
-        NodeTable { context: 0, count: nodes as u16, cells }
+        let mut table = NodeTable { context: 0, count: nodes as u16, cells };
+        symbols(&mut table, &mut Dice::new(nodes as u64, index as u64));
+        table
     }
 
     /// One of the trees with so many nodes, each as likely as another.
@@ -139,7 +141,7 @@ impl PlainTrees {
         }
         let stem = chosen.expect("a number below the count");
         let at = cells.len();
-        cells.extend([stem.form, 0, stem.detail, 0, 0]);
+        cells.extend([stem.form, 0, stem.detail, 0, 0, 0]);
         let rest = nodes - 1;
         let mut put = |place: usize, part, nodes, index| {
             cells[at + FIRST + place] = (cells.len() / NODE_CELLS + 1) as u16;

@@ -10,10 +10,10 @@
 //! - u16: the context, 0 when refused
 //! - u16: the count, 0 when refused
 //!
-//! Then, in `readings`, the tokens, two bytes each, and when not refused the table,
-//! five cells of u16 for each of so many nodes as the count says. In `tokens`, the
-//! bytes of a tree file, and when not refused so many tokens as the count says, each
-//! a cell of u16.
+//! Then, in `readings`, the cells of the tokens, code and symbol, two bytes each, and when
+//! not refused the table, six cells of u16 for each of so many nodes as the count says. In
+//! `tokens`, the bytes of a tree file, and when not refused so many tokens as the count
+//! says, each two cells of u16.
 
 use crate::commas::{self, Charts};
 use crate::lists;
@@ -25,9 +25,10 @@ use model::chart::Chart;
 use model::codes::*;
 use model::commas::before_closing;
 use model::forms::operator::ADD;
-use model::generate::{Dice, Family};
+use model::generate::{Dice, Family, SYMBOLS};
 use model::rules::Rules;
-use model::sizes::{MOST_CELLS, MOST_NODES, MOST_TOKENS, NODE_CELLS, TOKENS_PER_NODE, TOKEN_CELLS};
+use model::sizes::{MOST_CELLS, MOST_NODES, MOST_TOKENS, NODE_CELLS};
+use model::sizes::{TOKEN_CELLS, TOKEN_CELLS_PER_NODE};
 use model::table::{self, NodeTable};
 use model::verdict::{self, Verdict};
 use std::path::PathBuf;
@@ -75,8 +76,13 @@ impl Records {
 }
 
 /// Records a list with a table of so many cells lent.
-fn add_list(records: &mut Records, lent: u16, tokens: &[u16], verdict: &Verdict) {
-    let bytes: Vec<u8> = tokens.iter().flat_map(|code| code.to_le_bytes()).collect();
+fn add_list(records: &mut Records, lent: u16, tokens: &[Token], verdict: &Verdict) {
+    add_cells(records, lent, &cells(tokens), verdict);
+}
+
+/// The same for any cells.
+fn add_cells(records: &mut Records, lent: u16, cells: &[u16], verdict: &Verdict) {
+    let bytes: Vec<u8> = cells.iter().flat_map(|cell| cell.to_le_bytes()).collect();
     let short = usize::from(lent) < MOST_CELLS;
     records.add(lent, &bytes, if short { &Err(12) } else { verdict }, NODE_CELLS);
 }
@@ -87,7 +93,7 @@ fn add_tree(records: &mut Records, lent: u16, tree: &NodeTable) {
     if !written::fits_a_file(tree) {
         return;
     }
-    let reply = written::reply(tree, lent.into());
+    let reply = written::reply(tree, lent.into()).map(|tokens| cells(&tokens));
     records.add(lent, &table::write(tree), &reply, TOKEN_CELLS);
 }
 
@@ -125,7 +131,8 @@ fn add_commas(records: &mut Records) {
         add_list(records, LENT, charts.chart.tokens(), &verdict);
     };
     for list in COMMA_LISTS {
-        charts.read(list);
+        let places = (0..).zip(list);
+        charts.read(&places.map(|(at, &code)| lists::at_place(code, at)).collect::<Vec<_>>());
         add(&charts);
     }
     charts.read(&[]);
@@ -160,6 +167,7 @@ fn add_commas(records: &mut Records) {
     }
     for (nodes, count) in [(MOST_NODES, 1), (MOST_NODES, 2), (MOST_NODES + 1, 1)] {
         let list = makers::with_last_comma(makers::type_arguments(nodes), count);
+        let list = makers::named(list, &mut Dice::new(SEED, 1));
         add_list(records, LENT, &list.0, &list.1);
     }
     // As many tokens as there may be, and one more, which is the comma.
@@ -168,19 +176,20 @@ fn add_commas(records: &mut Records) {
         [makers::tried(makers::called_with_grouped(most, 1)), makers::called_with_grouped(more, 1)]
     {
         assert_eq!(tokens.len(), MOST_TOKENS + usize::from(verdict == Err(14)));
-        add_list(records, LENT, &tokens, &verdict);
+        let list = makers::named((tokens, verdict), &mut Dice::new(SEED, 2));
+        add_list(records, LENT, &list.0, &list.1);
     }
 }
 
 pub fn record() {
-    readings().write("readings");
-    tokens().write("tokens");
+    read_lists().write("readings");
+    written_trees().write("tokens");
 }
 
 /// All lists of up to 2 tokens; of those of up to 5 some that have a reading, and
-/// some that lack one and begin like one; random lists; constructed ones; and lists with
-/// commas before what closes something.
-fn readings() -> Records {
+/// some that lack one and begin like one; random lists; each code with each symbol;
+/// constructed lists; and lists with commas before what closes something.
+fn read_lists() -> Records {
     let mut records = Records::default();
     let mut chart = Chart::new(Rules::new(None));
     let one = |chart: &Chart| verdict::verdict(chart).expect("at most one reading");
@@ -201,9 +210,20 @@ fn readings() -> Records {
         }
     });
     for index in 0..2_000 {
-        let tokens = makers::random(&mut Dice::new(SEED, index), SEED, 40);
+        let dice = &mut Dice::new(SEED, index);
+        let mut tokens = makers::random(dice, SEED, 40);
+        makers::misplace_symbol(dice, &mut tokens);
         let verdict = verdict::of(&mut chart, &tokens).expect("at most one reading");
         add_list(&mut records, LENT, &tokens, &verdict);
+    }
+    // Each symbol at each code, alone and behind a prefix; and half a token more.
+    for code in 0..=CODES {
+        for symbol in SYMBOLS {
+            for list in [&[code, symbol][..], &[NOT, 0, code, symbol], &[code, symbol, NAME]] {
+                let verdict = verdict::of_cells(&mut chart, list).expect("at most one reading");
+                add_cells(&mut records, LENT, list, &verdict);
+            }
+        }
     }
     for (tokens, verdict) in makers::constructed(SEED) {
         if tokens.len() <= 700 {
@@ -212,10 +232,11 @@ fn readings() -> Records {
     }
     for nodes in [MOST_NODES, MOST_NODES + 1] {
         let tree = makers::drawn(&mut Dice::new(SEED, 0), SEED, 400);
-        let (tokens, verdict) = makers::called(&tree, nodes).expect("a smaller tree");
-        add_list(&mut records, LENT, &tokens, &verdict);
-        let (tokens, verdict) = makers::type_arguments(nodes);
-        add_list(&mut records, LENT, &tokens, &verdict);
+        let called = makers::called(&tree, nodes).expect("a smaller tree");
+        for list in [called, makers::type_arguments(nodes)] {
+            let (tokens, verdict) = makers::named(list, &mut Dice::new(SEED, 3));
+            add_list(&mut records, LENT, &tokens, &verdict);
+        }
     }
     // As many tokens as there may be, and one more.
     for (pairs, inner) in
@@ -223,13 +244,20 @@ fn readings() -> Records {
     {
         let (tokens, verdict) = makers::grouped(pairs, inner);
         assert_eq!(tokens.len() > MOST_TOKENS, verdict == Err(14));
+        let (tokens, verdict) = makers::named((tokens, verdict), &mut Dice::new(SEED, 4));
         add_list(&mut records, LENT, &tokens, &verdict);
+        // Half a token more.
+        let odd = [&cells(&tokens)[..], &[NAME]].concat();
+        add_cells(&mut records, LENT, &odd, &Err(14));
     }
     for lent in [0, NODE_CELLS, MOST_CELLS - 1, MOST_CELLS].map(|cells| cells as u16) {
         for list in [&[][..], &[NAME], &[NAME, ADD, NAME], &[ADD], &[CODES]] {
-            let verdict = verdict::of(&mut chart, list).expect("at most one reading");
-            add_list(&mut records, lent, list, &verdict);
+            let list = tokens(list);
+            let verdict = verdict::of(&mut chart, &list).expect("at most one reading");
+            add_list(&mut records, lent, &list, &verdict);
         }
+        // An odd number of cells meets 12 first too.
+        add_cells(&mut records, lent, &[NAME], &Err(14));
     }
     add_commas(&mut records);
     records
@@ -237,7 +265,7 @@ fn readings() -> Records {
 
 /// All trees of few nodes; random ones; such as are not plain, or not accepted; and
 /// buffers that are just long enough or one cell too short.
-fn tokens() -> Records {
+fn written_trees() -> Records {
     let mut records = Records::default();
     for (labels, most_nodes) in
         [(PlainTrees::every(3), 3), (PlainTrees::kinds(4), 4), (PlainTrees::narrow(5), 5)]
@@ -258,14 +286,14 @@ fn tokens() -> Records {
     }
     for index in 0..60 {
         let tree = makers::drawn(&mut Dice::new(SEED + 1, index), SEED + 1, 60);
-        add_tree(&mut records, TOKENS_PER_NODE as u16 * tree.count, &tree);
-        add_tree(&mut records, TOKENS_PER_NODE as u16 * tree.count - 1, &tree);
+        add_tree(&mut records, TOKEN_CELLS_PER_NODE as u16 * tree.count, &tree);
+        add_tree(&mut records, TOKEN_CELLS_PER_NODE as u16 * tree.count - 1, &tree);
     }
     // The shorter buffer is met before the tree that is not plain.
     for index in 0..20 {
         let tree = Family::Scans.tree(SEED, index);
         if tree.count < 100 {
-            add_tree(&mut records, TOKENS_PER_NODE as u16 * tree.count - 1, &tree);
+            add_tree(&mut records, TOKEN_CELLS_PER_NODE as u16 * tree.count - 1, &tree);
         }
     }
     let most = (0..).map(|index| Family::Plain.tree(SEED, index));

@@ -8,7 +8,7 @@ use crate::makers;
 use crate::trees;
 use crate::written::written;
 use model::chart::Chart;
-use model::codes::{self, text, CLOSE, DOT, LITERAL, MEMBER, OPEN};
+use model::codes::{self, text, Token, CLOSE, DOT, LITERAL, MEMBER, OPEN};
 use model::generate::Dice;
 use model::rules::Rules;
 use model::table::NodeTable;
@@ -92,14 +92,15 @@ impl Drop for Judge {
 }
 
 /// Whether rustc refuses a list on purpose: a call without arguments of an await.
-fn calls_await(tokens: &[u16]) -> bool {
-    tokens.windows(3).any(|window| window == [codes::AWAIT, OPEN, CLOSE])
+fn calls_await(tokens: &[Token]) -> bool {
+    let call = codes::tokens(&[codes::AWAIT, OPEN, CLOSE]);
+    tokens.windows(3).any(|window| window == call)
 }
 
 /// Lists with the tree that rustc must read, gathered until a batch is full.
 struct Judged {
     judge: Judge,
-    waiting: Vec<(Vec<u16>, Vec<u16>)>,
+    waiting: Vec<(Vec<Token>, Vec<u16>)>,
     agreed: u64,
     /// Lists without a reading that rustc reads as a tree that is not plain.
     not_plain: u64,
@@ -122,7 +123,7 @@ impl Judged {
         }
     }
 
-    fn differs(&mut self, tokens: &[u16], read: &Read) {
+    fn differs(&mut self, tokens: &[Token], read: &Read) {
         self.different += 1;
         if self.different <= 20 {
             println!("  rustc reads {read:?}: {}", text(tokens));
@@ -130,7 +131,7 @@ impl Judged {
     }
 
     /// A list that must be read as a tree.
-    fn list(&mut self, tokens: Vec<u16>, table: Vec<u16>) {
+    fn list(&mut self, tokens: Vec<Token>, table: Vec<u16>) {
         if calls_await(&tokens) {
             // Some are tried, one at a time.
             if self.refused_awaits + self.read_awaits < 100 {
@@ -161,7 +162,7 @@ impl Judged {
     }
 
     /// A list without a reading, which must be an error or a tree that is not plain.
-    fn error(&mut self, tokens: &[u16]) {
+    fn error(&mut self, tokens: &[Token]) {
         match self.judge.all(&[text(tokens)]).pop() {
             Some(Read::Error) => self.agreed += 1,
             Some(Read::Other(_)) => self.not_plain += 1,
@@ -234,7 +235,12 @@ pub fn compare(trees: u64, pairs: u64, seed: u64) -> u64 {
 }
 
 /// Lists that have a reading; and, one at a time, so many of those that have none.
-fn random(chart: &mut Chart, name: &str, lists: impl Iterator<Item = Vec<u16>>, most: u64) -> u64 {
+fn random(
+    chart: &mut Chart,
+    name: &str,
+    lists: impl Iterator<Item = Vec<Token>>,
+    most: u64,
+) -> u64 {
     let (mut judged, mut errors, start) = (Judged::new(), Judged::new(), Instant::now());
     for tokens in lists {
         match verdict::of(chart, &tokens) {
@@ -293,13 +299,13 @@ pub fn commas(trees: u64, pairs: u64, seed: u64) -> u64 {
 /// Whether a list means to rustc what it means here: `&&` before an operand is two
 /// references to it, `>>`, `>=` and `>>=` may close type arguments, and a numbered member
 /// is a literal too.
-fn is_as_spelled(tokens: &[u16]) -> bool {
-    let otherwise = |code: &u16| matches!(code, 5 | 11 | 16 | 27);
-    let apart = |window: &[u16]| match window {
-        [before, MEMBER] => *before != DOT,
-        [before, LITERAL] => *before == DOT,
+fn is_as_spelled(tokens: &[Token]) -> bool {
+    let otherwise = |token: &Token| matches!(token.code, 5 | 11 | 16 | 27);
+    let apart = |window: &[Token]| match [window[0].code, window[1].code] {
+        [before, MEMBER] => before != DOT,
+        [before, LITERAL] => before == DOT,
         _ => false,
     };
-    let first = tokens.first().is_none_or(|&code| code == MEMBER);
+    let first = tokens.first().is_none_or(|token| token.code == MEMBER);
     !(first || tokens.iter().any(otherwise) || tokens.windows(2).any(apart))
 }

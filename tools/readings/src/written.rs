@@ -1,5 +1,6 @@
 //! What is written for a plain tree, with the outer pairs of the crate's own rows.
 
+use model::codes::Token;
 use model::sizes::{MOST_NODES, NODE_CELLS};
 use model::written::{self, Written};
 use model::NodeTable;
@@ -20,13 +21,13 @@ pub fn written(tree: &NodeTable) -> Written {
 }
 
 /// Its tokens with a comma after the last item of the lists with these last links.
-pub fn with_commas(tree: &NodeTable, has_comma: &[u16]) -> Vec<u16> {
+pub fn with_commas(tree: &NodeTable, has_comma: &[u16]) -> Vec<Token> {
     Written::with_commas(tree, &pairs(tree), has_comma).tokens
 }
 
 /// The tokens that must be written for any node table with so many cells lent, or
 /// the refusal.
-pub fn reply(tree: &NodeTable, lent: usize) -> Result<Vec<u16>, u16> {
+pub fn reply(tree: &NodeTable, lent: usize) -> Result<Vec<Token>, u16> {
     written::reply(tree, lent, pairs)
 }
 

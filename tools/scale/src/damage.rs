@@ -2,8 +2,8 @@
 
 use model::forms::{self, BLOCK, CLOSURE, TYPE_IMPL_TRAIT, TYPE_PATH, TYPE_TRAIT_OBJECT};
 use model::generate::Dice;
-use model::sizes::{MOST_FILE_BYTES, MOST_LEVELS, MOST_NODES, NODE_CELLS};
-use model::table::{self, groups, NodeTable, ATTRIBUTES, DETAIL, FIRST, FORM, SECOND};
+use model::sizes::{MOST_FILE_BYTES, MOST_LEVELS, MOST_NODES, MOST_SYMBOL, NODE_CELLS};
+use model::table::{self, groups, NodeTable, ATTRIBUTES, DETAIL, FIRST, FORM, SECOND, SYMBOL};
 use model::verdict::longest_path;
 
 /// A file, and the reply that its damage is meant to give where that is certain.
@@ -66,6 +66,7 @@ fn change_cell(table: &mut NodeTable, dice: &mut Dice) {
         FORM => 58,
         ATTRIBUTES => 4,
         DETAIL => forms::details(table.cells[node]).max(1) + 1,
+        SYMBOL => MOST_SYMBOL,
         _ => table.count.saturating_add(2),
     };
     table.cells[cell] = match dice.below(10) {
@@ -82,8 +83,8 @@ fn change_cell(table: &mut NodeTable, dice: &mut Dice) {
 fn in_detail(table: &NodeTable, dice: &mut Dice) -> Option<Damaged> {
     let refusal = dice.pick(&[9, 10]);
     let fits = |node: &[u16]| match (refusal, node) {
-        (9, [TYPE_PATH | TYPE_IMPL_TRAIT | TYPE_TRAIT_OBJECT, _, _, 0, 0]) => true,
-        (10, [CLOSURE, _, _, body, _]) => {
+        (9, [TYPE_PATH | TYPE_IMPL_TRAIT | TYPE_TRAIT_OBJECT, _, _, 0, 0, 0]) => true,
+        (10, [CLOSURE, _, _, body, ..]) => {
             table.cells[NODE_CELLS * (usize::from(*body) - 1)..][..FIRST] != [BLOCK, 0, 0]
         }
         _ => false,

@@ -5,17 +5,19 @@ use crate::forms::*;
 use crate::sizes::NODE_CELLS;
 use crate::table::{node, Node, NodeTable};
 
-/// Form, attributes and detail of a node.
+/// Form, attributes, detail and symbol of a node.
 #[derive(Copy, Clone, PartialEq, Eq, Debug)]
 pub struct Label {
     pub form: u16,
     pub attributes: u16,
     pub detail: u16,
+    pub symbol: u16,
 }
 
 impl Label {
+    /// Without a symbol.
     pub const fn new(form: u16, attributes: u16, detail: u16) -> Self {
-        Label { form, attributes, detail }
+        Label { form, attributes, detail, symbol: 0 }
     }
 
     /// A form without attributes and with detail 0, or for a path type 1.
@@ -78,8 +80,8 @@ impl Draft {
     pub fn of(table: &NodeTable) -> Self {
         let operand = |number: u16| usize::from(number).checked_sub(1);
         let nodes = (1..=table.count).map(|number| {
-            let Node { form, attributes, detail, operands } = node(&table.cells, number);
-            let label = Label { form, attributes, detail };
+            let Node { form, attributes, detail, operands, symbol } = node(&table.cells, number);
+            let label = Label { form, attributes, detail, symbol };
             DraftNode { label, operands: operands.map(operand) }
         });
         Draft { nodes: nodes.collect() }
@@ -119,6 +121,7 @@ impl Draft {
             let DraftNode { label, operands } = self.nodes[at];
             cells.extend([label.form, label.attributes, label.detail]);
             cells.extend(operands.map(|operand| operand.map_or(0, |operand| numbers[operand])));
+            cells.push(label.symbol);
         }
         NodeTable { context, count: met.len() as u16, cells }
     }

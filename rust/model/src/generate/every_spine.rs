@@ -174,7 +174,7 @@ const FEW_ENDS: [Stem; 7] = [
 /// label of a Break.
 fn is_like(stem: Stem, kind: Stem) -> bool {
     let seen = |stem: Stem| {
-        let Label { form, attributes, detail } = stem.label;
+        let Label { form, attributes, detail, .. } = stem.label;
         let attributed = matches!(form, ASSIGN | BINARY | RANGE | GROUP) && attributes != 0;
         let detail = match form {
             BINARY => level(detail),

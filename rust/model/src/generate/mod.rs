@@ -25,7 +25,10 @@ pub use small::SmallTrees;
 pub use spines::{spine, ENDS, NEXTS};
 pub use stem::{call_of, planted, Fill, Stem};
 
-use crate::table::NodeTable;
+use crate::codes::{self, Token};
+use crate::forms::has_symbol;
+use crate::sizes::{MOST_SYMBOL, NODE_CELLS};
+use crate::table::{NodeTable, DETAIL, FORM, SYMBOL};
 
 /// Families of trees.
 #[derive(Copy, Clone, PartialEq, Eq, Debug)]
@@ -62,8 +65,17 @@ impl Family {
         Family::ALL.into_iter().find(|family| family.name() == name)
     }
 
-    /// A tree of the family.
+    /// A tree of the family, with symbols where nodes may have them.
     pub fn tree(self, seed: u64, index: u64) -> NodeTable {
+        let mut table = self.shape(seed, index);
+        if self != Family::Mixed {
+            symbols(&mut table, &mut Dice::new(!seed, index));
+        }
+        table
+    }
+
+    /// A tree of the family, all symbols 0.
+    fn shape(self, seed: u64, index: u64) -> NodeTable {
         let dice = &mut Dice::new(seed, index);
         let (draft, context) = match self {
             Family::Random => (random(dice, Profile::All), dice.below(4)),
@@ -77,5 +89,35 @@ impl Family {
             }
         };
         draft.number(context as u16, Order::any(dice), dice)
+    }
+}
+
+/// Symbols at the ends of each length that they have in a file.
+pub const SYMBOLS: [u16; 7] = [0, 1, 127, 128, 16_383, 16_384, MOST_SYMBOL];
+
+/// A symbol of any length.
+pub fn symbol(dice: &mut Dice) -> u16 {
+    let below = dice.pick(&[128, 16_384, usize::from(MOST_SYMBOL) + 1]);
+    match dice.percent(40) {
+        true => dice.pick(&SYMBOLS),
+        false => dice.below(below) as u16,
+    }
+}
+
+/// Gives symbols of every length to most nodes that may have one.
+pub fn symbols(table: &mut NodeTable, dice: &mut Dice) {
+    for node in table.cells.chunks_mut(NODE_CELLS) {
+        if has_symbol(node[FORM], node[DETAIL]) && dice.percent(80) {
+            node[SYMBOL] = symbol(dice);
+        }
+    }
+}
+
+/// Gives symbols of every length to most tokens that may have one.
+pub fn token_symbols(tokens: &mut [Token], dice: &mut Dice) {
+    for token in tokens.iter_mut().filter(|token| codes::has_symbol(token.code)) {
+        if dice.percent(80) {
+            token.symbol = symbol(dice);
+        }
     }
 }

@@ -3,7 +3,7 @@
 use super::draft::{Draft, DraftNode};
 use super::stem::Stem;
 use crate::sizes::NODE_CELLS;
-use crate::table::{NodeTable, FIRST};
+use crate::table::{NodeTable, FIRST, SECOND, SYMBOL};
 
 /// Stands for the number of the node that comes below a piece.
 pub const BELOW: u16 = 255;
@@ -27,6 +27,7 @@ impl Piece {
                 let number = operand.map_or(0, |operand| operand as u16 + 1);
                 cells.push(if open { BELOW } else { number });
             }
+            cells.push(label.symbol);
         }
         Piece { cells }
     }
@@ -50,13 +51,13 @@ impl Piece {
     fn lay(&self, cells: &mut Vec<u16>) {
         let before = (cells.len() / NODE_CELLS) as u16;
         for node in self.cells.chunks_exact(NODE_CELLS) {
-            let (label, operands) = node.split_at(FIRST);
-            cells.extend(label);
-            cells.extend(operands.iter().map(|&operand| match operand {
+            cells.extend(&node[..FIRST]);
+            cells.extend(node[FIRST..=SECOND].iter().map(|&operand| match operand {
                 0 => 0,
                 BELOW => before + self.nodes() as u16 + 1,
                 operand => before + operand,
             }));
+            cells.push(node[SYMBOL]);
         }
     }
 

@@ -75,6 +75,7 @@ fn has_bad_label(node: &Node) -> bool {
     forms::class(node.form).is_none()
         || node.attributes >= forms::attributes(node.form)
         || node.detail >= forms::details(node.form)
+        || node.symbol != 0 && !forms::has_symbol(node.form, node.detail)
 }
 
 fn at(nodes: &[Node], number: u16) -> Option<&Node> {

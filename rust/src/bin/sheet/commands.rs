@@ -8,7 +8,7 @@ use std::ffi::{OsStr, OsString};
 use std::fmt::Write;
 use std::io::{IsTerminal, Read};
 use tezhukor::sizes::MOST_FILE_BYTES;
-use tezhukor::{codes, forms, Refusal, Tree};
+use tezhukor::{codes, forms, Refusal, Token, Tree};
 
 /// One byte more than a tree file may have shows that it is too long.
 const FILE_BYTES: u64 = MOST_FILE_BYTES as u64 + 1;
@@ -50,9 +50,10 @@ fn names_option(arguments: &[OsString]) -> Result<(Option<&OsStr>, &[OsString]),
 fn read(text: &str, names: Option<&OsStr>) -> Result<Answer, Answer> {
     let at = |at, message: &str| Answer::refused(locate::pointed(text, at, message));
     let tokens = lexer::tokens(text).map_err(|error| at(error.at, &error.message))?;
-    let codes: Vec<u16> = tokens.iter().map(|token| token.code).collect();
-    let tree = Tree::read(&codes).map_err(|refusal| match refusal {
+    let (named, table) = lexer::named(text, &tokens);
+    let tree = Tree::read(&named).map_err(|refusal| match refusal {
         Refusal::NoReading => {
+            let codes: Vec<u16> = tokens.iter().map(|token| token.code).collect();
             let place = locate::unread(&codes);
             at(
                 tokens.get(place.token).map_or(text.trim_end().len(), |token| token.at),
@@ -62,8 +63,7 @@ fn read(text: &str, names: Option<&OsStr>) -> Result<Answer, Answer> {
         _ => Answer::refused(words(refusal, "")),
     })?;
     if let Some(file) = names {
-        let lines = lexer::names(text, &tokens);
-        std::fs::write(file, lines).map_err(|error| unreadable(file, &error))?;
+        std::fs::write(file, table.lines()).map_err(|error| unreadable(file, &error))?;
     }
     Ok(Answer::done(tree.to_file()))
 }
@@ -99,13 +99,14 @@ fn rows(file: &OsStr) -> Result<Answer, Answer> {
     Ok(Answer::done(text))
 }
 
-/// The codes, and below them how they are spelled.
+/// As the program `tokens` prints them, and below how the codes are spelled.
 fn tokens(file: &OsStr) -> Result<Answer, Answer> {
     let tokens = load(file)?.tokens().map_err(|refusal| Answer::refused(words(refusal, "")))?;
-    let numbers: Vec<String> = tokens.iter().map(u16::to_string).collect();
-    let spelled: Vec<&str> =
-        tokens.iter().filter_map(|&code| codes::SPELLED.get(usize::from(code)).copied()).collect();
-    Ok(Answer::done(format!("ok {}\n{}\n{}\n", tokens.len(), numbers.join(" "), spelled.join(" "))))
+    let line = |word: fn(&Token) -> String| tokens.iter().map(word).collect::<Vec<_>>().join(" ");
+    let numbers = line(|token| token.code.to_string());
+    let symbols = line(|token| token.symbol.to_string());
+    let spelled = line(|token| codes::SPELLED[usize::from(token.code)].to_string());
+    Ok(Answer::done(format!("ok {}\n{numbers}\n{symbols}\n{spelled}\n", tokens.len())))
 }
 
 fn check(file: &OsStr) -> Result<Answer, Answer> {

@@ -1,11 +1,12 @@
 //! Text to plain tokens.
 
+use crate::names::Table;
 use crate::open::{Next, Open};
 use tezhukor::codes::*;
 
 /// A token and the bytes of the text that it stands for.
 #[derive(Copy, Clone, PartialEq, Eq, Debug)]
-pub struct Token {
+pub struct Lexed {
     pub code: u16,
     pub at: usize,
     pub end: usize,
@@ -28,7 +29,7 @@ const KEYWORDS: [&str; 45] = [
 ];
 
 /// The tokens of a text.
-pub fn tokens(text: &str) -> Result<Vec<Token>, Error> {
+pub fn tokens(text: &str) -> Result<Vec<Lexed>, Error> {
     let mut lexer = Lexer { text, at: 0, open: Open::new(), tokens: Vec::new() };
     while lexer.skip_blank() {
         lexer.token()?;
@@ -36,19 +37,21 @@ pub fn tokens(text: &str) -> Result<Vec<Token>, Error> {
     Ok(lexer.tokens)
 }
 
-/// The names and literals, a line each.
-pub fn names(text: &str, tokens: &[Token]) -> String {
-    let named = tokens.iter().filter(|token| matches!(token.code, NAME | LITERAL | MEMBER));
-    // A literal may hold a line break; in its line it is a blank.
-    let line = |token: &Token| text[token.at..token.end].replace(['\n', '\r'], " ") + "\n";
-    named.map(line).collect()
+/// The tokens with the symbols of their names and literals, and the table of these.
+pub fn named(text: &str, tokens: &[Lexed]) -> (Vec<Token>, Table) {
+    let mut table = Table::default();
+    let named = tokens.iter().map(|&Lexed { code, at, end }| match has_symbol(code) {
+        true => Token::new(code, table.symbol(&text[at..end])),
+        false => code.into(),
+    });
+    (named.collect(), table)
 }
 
 struct Lexer<'a> {
     text: &'a str,
     at: usize,
     open: Open,
-    tokens: Vec<Token>,
+    tokens: Vec<Lexed>,
 }
 
 impl<'a> Lexer<'a> {
@@ -68,7 +71,7 @@ impl<'a> Lexer<'a> {
 
     fn put(&mut self, code: u16, length: usize) {
         let (at, end) = (self.at, self.at + length);
-        self.tokens.push(Token { code, at, end });
+        self.tokens.push(Lexed { code, at, end });
         self.open.push(code);
         self.at = end;
     }

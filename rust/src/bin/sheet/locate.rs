@@ -1,7 +1,7 @@
 //! Where a text is wrong.
 
 use crate::open::{Next, Open};
-use tezhukor::codes::{AND_AND, COMMA, EQUALS, NAME};
+use tezhukor::codes::{tokens, AND_AND, COMMA, EQUALS, NAME};
 use tezhukor::{Binding, Lean, Refusal, Tree};
 
 /// The token from which on there is no reading; behind the last one the text ends
@@ -32,7 +32,7 @@ fn begins_a_reading(codes: &[u16]) -> bool {
     let closing: Vec<u16> = Open::behind(codes).closing.into_iter().rev().collect();
     [&[][..], &[NAME]].iter().any(|name| {
         let list = [codes, name, &closing[..]].concat();
-        Tree::read(&list) != Err(Refusal::NoReading)
+        Tree::read(&tokens(&list)) != Err(Refusal::NoReading)
     })
 }
 

@@ -24,7 +24,7 @@ sheet: where a printed Rust expression needs parentheses
   sheet why [--names NAMES] FILE     a line for each added pair: who asks for it
   sheet rows FILE                    the row of each expression: node, pair,
                                      precedence, previous and next operator, flags
-  sheet tokens FILE                  the tokens of a plain tree
+  sheet tokens FILE                  the tokens of a plain tree: codes, symbols, words
   sheet check FILE                   accepted, or what is wrong and at which node
   sheet canonical FILE               the one file of its context and tree, whatever
                                      numbers the nodes have, on standard output
@@ -34,10 +34,11 @@ sheet: where a printed Rust expression needs parentheses
                                      context, a line each, with an empty line between
                                      trees; a folder stands for the files in it
 
-FILE is a tree file; - is standard input. Tree files hold no names and literals:
-`read --names OUT` writes them to OUT, a line each, in order of occurrence, and
-`--names NAMES` takes them from such a file. Without it they are called a, b, c ..
-(types A, B, C ..), literals 1, members 0; closed forms have `..` inside.
+FILE is a tree file; - is standard input. Tree files hold a symbol, a number, for
+each name and literal, equal ones for equal names. A names file is the table of
+symbols, line n for symbol n: `read --names OUT` writes it to OUT, and `--names NAMES`
+takes names from such a file. Without a line names are called a, b, c .. (types
+A, B, C ..), literals 1, members 0; closed forms have `..` inside.
 The first example:
 
   sheet read 'offset - (station - start)' > curve.tree

@@ -1,4 +1,8 @@
-//! Names and literals, which travel beside a tree in order of occurrence.
+//! Names and literals: what the symbols of a tree stand for.
+
+use std::collections::HashMap;
+use std::rc::Rc;
+use tezhukor::Tree;
 
 /// What is named.
 #[derive(Copy, Clone, PartialEq, Eq, Debug)]
@@ -9,41 +13,120 @@ pub enum Kind {
     Member,
 }
 
-/// The lines of a names file, taken one after the other; behind the last, and in
-/// place of an empty one, letters.
+/// The lines of a names file, line n for symbol n. A symbol that has none, or an empty one,
+/// has letters; a node without a symbol those that no symbol of the tree has, in order of
+/// occurrence.
 #[derive(Clone, Debug, Default)]
 pub struct Names {
-    lines: Vec<String>,
-    taken: usize,
+    lines: Rc<[String]>,
+    /// The symbols of the tree, in order, without 0.
+    symbols: Vec<u16>,
+    /// The letters that were tried for nodes without a symbol.
+    tried: u16,
 }
 
 impl Names {
     pub fn new(text: &str) -> Names {
         let clean = |line: &str| line.trim().chars().filter(|c| !c.is_control()).collect();
-        Names { lines: text.lines().map(clean).collect(), taken: 0 }
+        Names { lines: text.lines().map(clean).collect(), ..Names::default() }
     }
 
-    /// The next name or literal.
-    pub fn next(&mut self, kind: Kind) -> String {
-        let at = self.taken;
-        self.taken += 1;
+    /// The names for one tree.
+    pub fn of(self, tree: &Tree) -> Names {
+        let nodes = (1..=tree.count()).filter_map(|number| tree.node(number));
+        let mut symbols: Vec<u16> = nodes.map(|node| node.symbol).filter(|&n| n != 0).collect();
+        symbols.sort_unstable();
+        Names { symbols, tried: 0, ..self }
+    }
+
+    /// The name or literal of a symbol.
+    pub fn named(&mut self, symbol: u16, kind: Kind) -> String {
+        let Some(at) = usize::from(symbol).checked_sub(1) else {
+            return letters(kind, self.unused());
+        };
         match self.lines.get(at).filter(|line| !line.is_empty()) {
             Some(line) => line.clone(),
-            None => letters(kind, at),
+            None => letters(kind, symbol),
         }
+    }
+
+    /// The next symbol that the tree does not have.
+    fn unused(&mut self) -> u16 {
+        self.tried = self.tried.saturating_add(1);
+        while self.symbols.binary_search(&self.tried).is_ok() {
+            self.tried = self.tried.saturating_add(1);
+        }
+        self.tried
     }
 }
 
-fn letters(kind: Kind, at: usize) -> String {
+fn letters(kind: Kind, symbol: u16) -> String {
     let first = match kind {
         Kind::Literal => return "1".to_string(),
         Kind::Member => return "0".to_string(),
         Kind::Name => b'a',
         Kind::Type => b'A',
     };
+    let at = symbol - 1;
     let letter = char::from(first + (at % 26) as u8);
     match at / 26 {
         0 => letter.to_string(),
         round => format!("{letter}{round}"),
+    }
+}
+
+/// A table of symbols that grows: equal names have equal symbols, from 1 on.
+#[derive(Debug, Default)]
+pub struct Table {
+    symbols: HashMap<String, u16>,
+    lines: String,
+}
+
+impl Table {
+    /// The symbol of a name or literal, a new one if it has none yet.
+    pub fn symbol(&mut self, name: &str) -> u16 {
+        // A literal may hold a line break; in its line it is a blank.
+        let line = name.replace(['\n', '\r'], " ");
+        // A list has fewer tokens than there are symbols, or is refused.
+        let next = u16::try_from(self.symbols.len() + 1).unwrap_or(u16::MAX);
+        if let Some(&symbol) = self.symbols.get(&line) {
+            return symbol;
+        }
+        self.lines.push_str(&line);
+        self.lines.push('\n');
+        self.symbols.insert(line, next);
+        next
+    }
+
+    /// The names file.
+    pub fn lines(&self) -> &str {
+        &self.lines
+    }
+}
+
+#[cfg(test)]
+mod tests {
+    use super::*;
+
+    #[test]
+    fn equal_names_have_equal_symbols() {
+        let mut table = Table::default();
+        let symbols = ["b", "a", "b", "1", "a\nc", "a c"].map(|name| table.symbol(name));
+        assert_eq!(symbols, [1, 2, 1, 3, 4, 4]);
+        assert_eq!(table.lines(), "b\na\n1\na c\n");
+    }
+
+    #[test]
+    fn symbols_without_a_line_have_letters() {
+        // a + b, the one with symbol 2, the other without.
+        let file = [0, 3, 5, 0, 0, 2, 3, 0, 26, 0, 0, 0, 0, 2, 26, 0, 0, 0, 0, 0];
+        let tree = Tree::load(&file).expect("a tree");
+        let mut names = Names::new("one\n\nthree\n").of(&tree);
+        assert_eq!(names.named(1, Kind::Name), "one");
+        assert_eq!(names.named(2, Kind::Name), "b");
+        assert_eq!(names.named(3, Kind::Literal), "three");
+        assert_eq!(names.named(29, Kind::Type), "C1");
+        assert_eq!(names.named(4, Kind::Literal), "1");
+        assert_eq!([(); 3].map(|()| names.named(0, Kind::Name)), ["a", "c", "d"]);
     }
 }

@@ -37,10 +37,11 @@ impl Shown {
     }
 }
 
-/// Shows a tree with the names that travel beside it.
+/// Shows a tree with the names of its symbols.
 pub fn shown(tree: &Tree, names: Names) -> Shown {
     let spans = vec![0..0; tree.count().into()];
     let shown = Shown { text: String::new(), added: Vec::new(), spans };
+    let names = names.of(tree);
     let mut writer = Writer { tree, rows: tree.rows(), names, shown, number_end: 0 };
     writer.node(1);
     writer.shown
@@ -60,8 +61,8 @@ impl Writer<'_> {
         self.shown.text.push_str(text);
     }
 
-    fn name(&mut self, kind: Kind) {
-        let name = self.names.next(kind);
+    fn name(&mut self, node: Node, kind: Kind) {
+        let name = self.names.named(node.symbol, kind);
         self.put(&name);
         if kind == Kind::Literal && name.starts_with(|c: char| c.is_ascii_digit()) {
             self.number_end = self.shown.text.len();
@@ -100,8 +101,8 @@ impl Writer<'_> {
 
     fn expression(&mut self, node: Node) {
         match node.form {
-            PATH => self.name(Kind::Name),
-            LIT => self.name(Kind::Literal),
+            PATH => self.name(node, Kind::Name),
+            LIT => self.name(node, Kind::Literal),
             ASSIGN => self.infix(node, " = "),
             BINARY => self.infix(node, &format!(" {} ", SPELLED[usize::from(node.detail)])),
             CAST => self.infix(node, " as "),
@@ -162,10 +163,10 @@ impl Writer<'_> {
                 self.dot();
                 match (form, node.detail) {
                     (AWAIT, _) => self.put("await"),
-                    (FIELD, 1) => self.name(Kind::Member),
-                    (FIELD, _) => self.name(Kind::Name),
+                    (FIELD, 1) => self.name(node, Kind::Member),
+                    (FIELD, _) => self.name(node, Kind::Name),
                     _ => {
-                        self.name(Kind::Name);
+                        self.name(node, Kind::Name);
                         self.arguments("(", node.second, ")");
                     }
                 }
@@ -236,7 +237,7 @@ impl Writer<'_> {
     }
 
     fn path(&mut self, node: Node) {
-        self.name(Kind::Type);
+        self.name(node, Kind::Type);
         match node.detail {
             2 => self.arguments("<", node.second, ">"),
             3 => self.output("(..)", node),
@@ -271,12 +272,15 @@ impl Writer<'_> {
 mod tests {
     use super::*;
     use crate::lexer;
+    use model::generate::{Dice, Draft, Family, Order};
     use model::recorded::records;
-    use tezhukor::codes::{CLOSE, MINUS, NAME, OPEN};
+    use model::{table, NodeTable};
+    use tezhukor::codes::{tokens, CLOSE, MINUS, NAME, OPEN};
 
     #[test]
     fn added_pairs_are_coloured() {
-        let tree = Tree::read(&[NAME, MINUS, OPEN, NAME, MINUS, NAME, CLOSE]).expect("a tree");
+        let list = tokens(&[NAME, MINUS, OPEN, NAME, MINUS, NAME, CLOSE]);
+        let tree = Tree::read(&list).expect("a tree");
         let text = shown(&tree, Names::default()).text(true);
         assert_eq!(text, "a - \x1b[1;33m(\x1b[0mb - c\x1b[1;33m)\x1b[0m");
     }
@@ -295,9 +299,35 @@ mod tests {
             let text = shown(&tree, Names::default()).text(false);
             let read = lexer::tokens(&text).expect("tokens");
             let read: Vec<u16> = read.iter().map(|token| token.code).collect();
-            assert_eq!(read, tokens, "{text}");
+            let codes: Vec<u16> = tokens.iter().map(|token| token.code).collect();
+            assert_eq!(read, codes, "{text}");
             trees += 1;
         }
         assert!(trees > 3_000, "{trees} trees");
+    }
+
+    /// A tree shows the same text however its nodes are numbered, and once it is saved;
+    /// with names for its symbols, which stand where they stood, and without.
+    #[test]
+    fn numbering_changes_no_text() {
+        let lines: String = (1..=u16::MAX).map(|symbol| format!("n{symbol}\n")).collect();
+        let (names, mut others) = (Names::new(&lines), 0);
+        for index in 0..600 {
+            let dice = &mut Dice::new(41, index);
+            let table = Family::Mixed.tree(42, index);
+            let load = |table: &NodeTable| Tree::load(&table::write(table)).expect("a tree");
+            let tree = load(&table);
+            let text = |tree: &Tree, names: &Names| shown(tree, names.clone()).text(false);
+            for names in [&names, &Names::default()] {
+                let meant = text(&tree, names);
+                assert_eq!(text(&tree.canonical(), names), meant);
+                for _ in 0..4 {
+                    let other = Draft::of(&table).number(table.context, Order::any(dice), dice);
+                    others += u64::from(other != table);
+                    assert_eq!(text(&load(&other), names), meant);
+                }
+            }
+        }
+        assert!(others > 2_000, "{others} other numberings");
     }
 }
