@@ -80,6 +80,11 @@ pub fn node(cells: &[u16], number: u16) -> Node {
     }
 }
 
+/// Makes all symbols of a table 0.
+pub fn erase(cells: &mut [u16]) {
+    cells.iter_mut().skip(SYMBOL).step_by(NODE_CELLS).for_each(|symbol| *symbol = 0);
+}
+
 /// The class of a node of an accepted table.
 pub fn class(cells: &[u16], number: u16) -> Class {
     forms::class(node(cells, number).form).expect("a form of document 01")

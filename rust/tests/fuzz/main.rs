@@ -308,7 +308,7 @@ fn symbols() {
     for index in 0..times() {
         let dice = &mut Dice::new(31, index);
         let mut shape = Family::Mixed.tree(32, index);
-        shape.cells.iter_mut().skip(SYMBOL).step_by(NODE_CELLS).for_each(|symbol| *symbol = 0);
+        table::erase(&mut shape.cells);
         let mut named = shape.clone();
         generate::symbols(&mut named, dice);
         assert_eq!(tree(&named).rows(), tree(&shape).rows());

@@ -8,7 +8,7 @@ use model::commas;
 use model::forms;
 use model::generate::{self, Dice, Family, SYMBOLS};
 use model::sizes::{MOST_LEVELS, MOST_NODES, MOST_TOKENS, NODE_CELLS};
-use model::table::NodeTable;
+use model::table::{erase, NodeTable};
 use model::table::{ATTRIBUTES, DETAIL, FIRST, FORM, SECOND, SYMBOL};
 use model::verdict::{within_bounds, Verdict};
 use model::written::{last_links, without_parens};
@@ -289,13 +289,6 @@ fn naming_nodes(cells: &[u16]) -> Vec<usize> {
     found
 }
 
-/// A tree with all symbols 0.
-fn erased(tree: &NodeTable) -> NodeTable {
-    let mut tree = tree.clone();
-    tree.cells.iter_mut().skip(SYMBOL).step_by(NODE_CELLS).for_each(|symbol| *symbol = 0);
-    tree
-}
-
 /// A chain of so many nodes: each step puts tokens before and behind the operand.
 struct Nest {
     before: &'static [u16],
@@ -452,11 +445,11 @@ fn links(items: usize, item: &[u16]) -> Vec<u16> {
 /// A tree called with arguments that make it so many nodes. A `?` behind it mends
 /// an odd number.
 pub fn called(tree: &NodeTable, nodes: usize) -> Option<Constructed> {
-    let tree = erased(tree);
     let mut tokens = vec![OPEN];
-    tokens.extend(written(&tree).tokens.iter().map(|token| token.code));
+    tokens.extend(written(tree).tokens.iter().map(|token| token.code));
     tokens.push(CLOSE);
-    let mut table = without_parens(&tree);
+    let mut table = without_parens(tree);
+    erase(&mut table);
     let has = |table: &[u16]| table.len() / NODE_CELLS;
     if (nodes.checked_sub(has(&table) + 1)?) % 2 == 1 {
         tokens.push(QUESTION);

@@ -10,9 +10,9 @@ use model::codes::{text, Token};
 use model::commas;
 use model::generate::Dice;
 use model::rules::Rules;
-use model::sizes::{MOST_CELLS, MOST_FILE_BYTES, NODE_CELLS, TOKEN_CELLS_PER_NODE};
+use model::sizes::{MOST_CELLS, MOST_FILE_BYTES, TOKEN_CELLS_PER_NODE};
 use model::table::numbers;
-use model::table::{self, NodeTable, SYMBOL};
+use model::table::{self, NodeTable};
 use model::written::without_parens;
 use std::time::Instant;
 
@@ -100,7 +100,7 @@ impl Tally {
 /// A table with all symbols 0.
 fn erased(cells: &[u16]) -> Vec<u16> {
     let mut cells = cells.to_vec();
-    cells.iter_mut().skip(SYMBOL).step_by(NODE_CELLS).for_each(|symbol| *symbol = 0);
+    table::erase(&mut cells);
     cells
 }
 
