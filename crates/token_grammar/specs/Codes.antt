@@ -5,11 +5,11 @@ use Prim.Native.Nat.{ℕ, zero, suc}
 use lib.Dec.{eqb, leb}
 use lib.ListN.{getD}
 use Rattle.tree.specs.Sizes.{lastCode, listEnd}
-use Rattle.token_grammar.specs.Tokens.{Operator, allOperators, Token, operator, Bang, AndMut, As, Name, Literal, Dot, LeftParen, RightParen, LeftBracket, RightBracket, Comma, Question, StarConst, StarMut, Underscore, NumberedMember, Await, carries}
+use Rattle.token_grammar.specs.Tokens.{Operator, allOperators, Token, operator, Bang, AndMut, As, Name, Literal, Dot, LeftParen, RightParen, LeftBracket, RightBracket, Comma, Question, StarConst, StarMut, Underscore, NumberedMember, Await, Struct, carries}
 
 -- those that are no operators, in the order of their codes, with the symbol y where they have one
 abbrev pub others : ℕ → List Token
-others y = Bang ∷ AndMut ∷ As ∷ Name y ∷ Literal y ∷ Dot ∷ LeftParen ∷ RightParen ∷ LeftBracket ∷ RightBracket ∷ Comma ∷ Question ∷ StarConst ∷ StarMut ∷ Underscore ∷ NumberedMember y ∷ Await ∷ []
+others y = Bang ∷ AndMut ∷ As ∷ Name y ∷ Literal y ∷ Dot ∷ LeftParen ∷ RightParen ∷ LeftBracket ∷ RightBracket ∷ Comma ∷ Question ∷ StarConst ∷ StarMut ∷ Underscore ∷ NumberedMember y ∷ Await ∷ Struct ∷ []
 
 -- operators as tokens, and then the other tokens
 abbrev pub spelled : ℕ → List Operator → List Token
@@ -49,7 +49,7 @@ tokenCount [] = 0
 tokenCount (n ∷ []) = 0
 tokenCount (n ∷ y ∷ cells) = suc (tokenCount cells)
 
--- Whether cells are those of tokens. 14: "holds a code above 45"; document 02, Paper 4: "A symbol that is not 0 .. on another token", "a token list with an odd number of cells"
+-- Whether cells are those of tokens. 14: "holds a code above 45", which document 02, Paper 5, makes 46; Paper 4: "A symbol that is not 0 .. on another token", "a token list with an odd number of cells"
 abbrev pub isToken : ℕ → ℕ → Bool
 isToken n y = leb n lastCode && (carries n || eqb y 0)
 

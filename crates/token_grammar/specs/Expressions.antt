@@ -1,15 +1,17 @@
 -- The parse trees of plain expressions, and their tokens.
 -- "Plain: Path, Lit, Paren, Unary, Reference, Binary, Assign, Cast, Field, Index, Call, MethodCall, Try, Await, no attributes; .. and the links of their lists."
+-- Document 02, Paper 5: "Struct becomes plain, closed, with token 46 of its own"
 use mathlib.Core.Bool.{Bool, true, false}
 use mathlib.Core.List.{List, _∷_}
 use Prim.Native.Nat.{ℕ}
-use Rattle.token_grammar.specs.Tokens.{Operator, Sub, Mul, BitAnd, Token, operator, Bang, AndMut, As, Name, Literal, Dot, LeftParen, RightParen, LeftBracket, RightBracket, Comma, Question, NumberedMember, Await}
+use Rattle.token_grammar.specs.Tokens.{Operator, Sub, Mul, BitAnd, Token, operator, Bang, AndMut, As, Name, Literal, Dot, LeftParen, RightParen, LeftBracket, RightBracket, Comma, Question, NumberedMember, Await, Struct}
 use Rattle.token_grammar.specs.Levels.{Kind, casts, prefixes, postfixes, kind}
 use Rattle.token_grammar.specs.Types.{Sort, one, list, items, Ty, closing, writeType, typeEndsInName}
 
--- Path and Lit, each with its symbol
+-- Path and Lit, each with its symbol, and Struct
 pub data Atom : Type 0 where
   path literal : ℕ → Atom
+  structure : Atom
 
 -- Unary (Neg, Deref, Not), and Reference, shared or mutable
 pub data Prefix : Type 0 where
@@ -40,10 +42,11 @@ pub data Expr : Sort → Type 0 where
   lastArgument : Bool → Expr one → Expr items
   moreArguments : Expr one → Expr items → Expr items
 
--- "32 name, 33 literal"
+-- "32 name, 33 literal"; "token 46"
 abbrev pub atomToken : Atom → Token
 atomToken (path y) = Name y
 atomToken (literal y) = Literal y
+atomToken structure = Struct
 
 -- "Neg, Deref and shared reference use 1, 2 and 8."; "29 `!`, 30 `&mut`"
 abbrev pub prefixToken : Prefix → Token
@@ -116,3 +119,18 @@ endsInDotName (try a) = false
 endsInDotName (index a b) = false
 endsInDotName (call a l) = false
 endsInDotName (method y a l) = false
+
+-- whether it is a Struct
+abbrev pub isStruct : Expr one → Bool
+isStruct (atom (path y)) = false
+isStruct (atom (literal y)) = false
+isStruct (atom structure) = true
+isStruct (paren a) = false
+isStruct (prefix p a) = false
+isStruct (binary o a b) = false
+isStruct (cast a t) = false
+isStruct (member m a) = false
+isStruct (try a) = false
+isStruct (index a b) = false
+isStruct (call a l) = false
+isStruct (method y a l) = false

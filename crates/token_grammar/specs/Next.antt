@@ -1,6 +1,6 @@
 -- What a token makes that stands straight after an expression.
 use Prim.Native.Nat.{ℕ}
-use Rattle.token_grammar.specs.Tokens.{Operator, Token, operator, Bang, AndMut, As, Name, Literal, Dot, LeftParen, RightParen, LeftBracket, RightBracket, Comma, Question, StarConst, StarMut, Underscore, NumberedMember, Await}
+use Rattle.token_grammar.specs.Tokens.{Operator, Token, operator, Bang, AndMut, As, Name, Literal, Dot, LeftParen, RightParen, LeftBracket, RightBracket, Comma, Question, StarConst, StarMut, Underscore, NumberedMember, Await, Struct}
 use Rattle.token_grammar.specs.Levels.{casts, postfixes, kind, level}
 
 pub data Next : Type 0 where
@@ -27,6 +27,7 @@ nextOf StarMut = stops
 nextOf Underscore = stops
 nextOf (NumberedMember y) = stops
 nextOf Await = stops
+nextOf Struct = stops
 
 -- its level
 abbrev pub levelAt : Next → ℕ

@@ -5,13 +5,13 @@ use Prim.Native.Nat.{ℕ, zero, suc, _*_}
 use lib.Dec.{leb, eqb}
 use lib.ListN.{length}
 use Rattle.laws.specs.Choice.{Line, line, lookup}
-use Rattle.token_grammar.specs.Tokens.{Sub, Mul, BitAnd, Lt, Gt, number, Token, operator, code, symbolOf, Bang, AndMut, Name, Literal, LeftParen, RightParen, RightBracket, Comma, StarConst, StarMut, Underscore, NumberedMember, Await}
+use Rattle.token_grammar.specs.Tokens.{Sub, Mul, BitAnd, Lt, Gt, number, Token, operator, code, symbolOf, Bang, AndMut, Name, Literal, LeftParen, RightParen, RightBracket, Comma, StarConst, StarMut, Underscore, NumberedMember, Await, Struct}
 use Rattle.token_grammar.specs.Levels.{casts, prefixes, postfixes, kind, level, before, after}
 use Rattle.token_grammar.specs.Bounds.{loosest}
 use Rattle.token_grammar.specs.Next.{Next, stops, operates, castsTo, dots, calls, indexes, tries, nextOf, levelAt}
 use Rattle.token_grammar.specs.Types.{one, list, items, TypePrefix, constPtr, mutPtr, sharedRef, mutRef, TypeSign, infer, never, Ty, named, applied, pointing, sign, noTypes, types, lastType, moreTypes}
-use Rattle.token_grammar.specs.Expressions.{Atom, path, literal, Prefix, neg, deref, invert, ref, refMut, Member, byName, byNumber, awaited, Expr, atom, paren, prefix, binary, cast, member, try, index, call, method, noArguments, arguments, lastArgument, moreArguments, kindOf, endsInTypeName, endsInDotName}
-use Rattle.token_grammar.specs.Grammar.{Context, NONE, opensArguments}
+use Rattle.token_grammar.specs.Expressions.{Atom, path, literal, structure, Prefix, neg, deref, invert, ref, refMut, Member, byName, byNumber, awaited, Expr, atom, paren, prefix, binary, cast, member, try, index, call, method, noArguments, arguments, lastArgument, moreArguments, kindOf, endsInTypeName, endsInDotName}
+use Rattle.token_grammar.specs.Grammar.{Context, NONE, opensArguments, excluded}
 
 -- no answer, or one with the tokens that were not read
 pub data Out (A : Type 0) : Type 0 where
@@ -54,6 +54,7 @@ startLines y =
     line (code (Name y) ∷ []) (anAtom (path y)) ∷
     line (code (Literal y) ∷ []) (anAtom (literal y)) ∷
     line (code LeftParen ∷ []) aGroup ∷
+    line (code Struct ∷ []) (anAtom structure) ∷
     []
 
 abbrev pub startBy : ℕ → ℕ → Start
@@ -192,7 +193,7 @@ unfoldable mutual
   exprBy (suc f) c n ts =
       elim (start ts) [
         | noStart ↦ fail
-        | anAtom x ↦ onBy f c n (atom x) (tail ts)
+        | anAtom x ↦ elim (excluded c (atom x)) [ true ↦ fail | false ↦ onBy f c n (atom x) (tail ts) ]
         | aPrefix p ↦ then (exprBy f c (after prefixes) (tail ts)) (λ a r. onBy f c n (prefix p a) r)
         | aGroup ↦ then (exprBy f NONE loosest (tail ts)) (λ a r. elim (isFirst RightParen r) [ true ↦ onBy f c n (paren a) (tail r) | false ↦ fail ])
       ]

@@ -51,10 +51,10 @@ pub data Token : Type 0 where
   Name Literal : ℕ → Token
   Dot LeftParen RightParen LeftBracket RightBracket Comma Question StarConst StarMut Underscore : Token
   NumberedMember : ℕ → Token
-  Await : Token
+  Await Struct : Token
 
 -- "Codes 0 to 27 spell the operators; 28 `=`, 29 `!`, 30 `&mut`, 31 `as`, 32 name, 33 literal, 34 `.`, 35 to 38 `( ) [ ]`,
--- 39 comma, 40 `?`, 41 `*const`, 42 `*mut`, 43 `_`, 44 numbered member, 45 await."
+-- 39 comma, 40 `?`, 41 `*const`, 42 `*mut`, 43 `_`, 44 numbered member, 45 await." Document 02, Paper 5: "Struct becomes plain, closed, with token 46 of its own"
 abbrev pub code : Token → ℕ
 code (operator o) = number o
 code Bang = 29
@@ -74,6 +74,7 @@ code StarMut = 42
 code Underscore = 43
 code (NumberedMember y) = 44
 code Await = 45
+code Struct = 46
 
 -- "Symbols stand on tokens 32, 33 and 44"; on another it is 0
 abbrev pub symbolOf : Token → ℕ
@@ -95,6 +96,7 @@ symbolOf StarMut = 0
 symbolOf Underscore = 0
 symbolOf (NumberedMember y) = y
 symbolOf Await = 0
+symbolOf Struct = 0
 
 -- whether a token of this code may have a symbol that is not 0
 abbrev pub carries : ℕ → Bool

@@ -90,3 +90,5 @@ pub const UNDERSCORE: u16 = 43;
 pub const NUMBERED_MEMBER: u16 = 44;
 
 pub const AWAIT: u16 = 45;
+
+pub const STRUCT: u16 = 46;

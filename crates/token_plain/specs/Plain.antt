@@ -5,13 +5,14 @@ use Prim.Native.Nat.{ℕ}
 use lib.Dec.{eqb}
 use Rattle.laws.specs.Choice.{isOneOf}
 use Rattle.laws.specs.Each.{some}
-use Rattle.tree.specs.Forms.{ExprAssign, ExprAwait, ExprBinary, ExprCall, ExprCast, ExprField, ExprIndex, ExprLit, ExprMethodCall, ExprParen, ExprPath, ExprReference, ExprTry, ExprUnary, TypeInfer, TypeNever, TypePath, TypePtr, TypeReference, Link}
+use Rattle.tree.specs.Forms.{ExprAssign, ExprAwait, ExprBinary, ExprCall, ExprCast, ExprField, ExprIndex, ExprLit, ExprMethodCall, ExprParen, ExprPath, ExprReference, ExprStruct, ExprTry, ExprUnary, TypeInfer, TypeNever, TypePath, TypePtr, TypeReference, Link}
 use Rattle.tree.specs.Trees.{Label, labelAt}
 
+-- Document 02, Paper 5: "Struct becomes plain".
 -- "Plain: Path, Lit, Paren, Unary, Reference, Binary, Assign, Cast, Field, Index, Call, MethodCall, Try, Await, ..
 abbrev pub plainExpressions : List ℕ
 plainExpressions =
-    ExprPath ∷ ExprLit ∷ ExprParen ∷ ExprUnary ∷ ExprReference ∷ ExprBinary ∷ ExprAssign ∷ ExprCast ∷ ExprField ∷ ExprIndex ∷ ExprCall ∷ ExprMethodCall ∷ ExprTry ∷ ExprAwait ∷ []
+    ExprPath ∷ ExprLit ∷ ExprParen ∷ ExprUnary ∷ ExprReference ∷ ExprBinary ∷ ExprAssign ∷ ExprCast ∷ ExprField ∷ ExprIndex ∷ ExprCall ∷ ExprMethodCall ∷ ExprTry ∷ ExprAwait ∷ ExprStruct ∷ []
 
 -- .. types Path (1 or 2), Ptr, Reference, Infer, Never; and the links of their lists."
 abbrev pub plainTypes : List ℕ

@@ -2,11 +2,11 @@
 use Prim.Native.Nat.{ℕ}
 use lib.Dec.{eqb}
 use Rattle.laws.specs.Choice.{pick}
-use Rattle.tree.specs.Forms.{ExprAssign, ExprAwait, ExprBinary, ExprCall, ExprCast, ExprField, ExprIndex, ExprLit, ExprMethodCall, ExprParen, ExprPath, ExprReference, ExprTry, ExprUnary, TypeInfer, TypeNever, TypePath, TypePtr, TypeReference, Link}
+use Rattle.tree.specs.Forms.{ExprAssign, ExprAwait, ExprBinary, ExprCall, ExprCast, ExprField, ExprIndex, ExprLit, ExprMethodCall, ExprParen, ExprPath, ExprReference, ExprStruct, ExprTry, ExprUnary, TypeInfer, TypeNever, TypePath, TypePtr, TypeReference, Link}
 use Rattle.tree.specs.Trees.{Label, Tree, none, node}
 use Rattle.token_grammar.specs.Tokens.{Operator, Assign, number}
 use Rattle.token_grammar.specs.Types.{Sort, TypePrefix, constPtr, mutPtr, sharedRef, mutRef, TypeSign, infer, never, Ty, named, applied, pointing, sign, noTypes, types, lastType, moreTypes}
-use Rattle.token_grammar.specs.Expressions.{Atom, path, literal, Prefix, neg, deref, invert, ref, refMut, Member, byName, byNumber, awaited, Expr, atom, paren, prefix, binary, cast, member, try, index, call, method, noArguments, arguments, lastArgument, moreArguments}
+use Rattle.token_grammar.specs.Expressions.{Atom, path, literal, structure, Prefix, neg, deref, invert, ref, refMut, Member, byName, byNumber, awaited, Expr, atom, paren, prefix, binary, cast, member, try, index, call, method, noArguments, arguments, lastArgument, moreArguments}
 
 -- a form, its detail and its symbol, with no attributes
 abbrev pub labelWith : ℕ → ℕ → ℕ → Label
@@ -19,6 +19,7 @@ label form detail = labelWith form detail 0
 abbrev pub atomLabel : Atom → Label
 atomLabel (path y) = labelWith ExprPath 0 y
 atomLabel (literal y) = labelWith ExprLit 0 y
+atomLabel structure = label ExprStruct 0
 
 -- "Unary: Deref, Not, Neg as 0 to 2." ".. both References: 1 mutable."
 abbrev pub prefixLabel : Prefix → Label

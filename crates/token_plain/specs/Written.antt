@@ -7,11 +7,11 @@ use lib.Dec.{eqb}
 use lib.ListN.{getD}
 use Rattle.laws.specs.Choice.{Line, line, lookup, pick, isOneOf}
 use Rattle.tree.specs.Sizes.{rowCells}
-use Rattle.tree.specs.Forms.{ExprAssign, ExprAwait, ExprBinary, ExprCall, ExprCast, ExprField, ExprIndex, ExprLit, ExprMethodCall, ExprParen, ExprPath, ExprReference, ExprTry, ExprUnary, TypeInfer, TypeNever, TypePath, TypePtr, TypeReference, Link}
+use Rattle.tree.specs.Forms.{ExprAssign, ExprAwait, ExprBinary, ExprCall, ExprCast, ExprField, ExprIndex, ExprLit, ExprMethodCall, ExprParen, ExprPath, ExprReference, ExprStruct, ExprTry, ExprUnary, TypeInfer, TypeNever, TypePath, TypePtr, TypeReference, Link}
 use Rattle.tree.specs.Table.{firstColumn, secondColumn}
 use Rattle.tree.specs.Trees.{Label, Tree, none, node, operandAt}
 use Rattle.tree.specs.Walks.{isThere}
-use Rattle.token_grammar.specs.Tokens.{Token, operator, Sub, Mul, BitAnd, Lt, Gt, Assign, Bang, AndMut, As, Name, Literal, Dot, LeftParen, RightParen, LeftBracket, RightBracket, Comma, Question, StarConst, StarMut, Underscore, NumberedMember, Await, operatorOf}
+use Rattle.token_grammar.specs.Tokens.{Token, operator, Sub, Mul, BitAnd, Lt, Gt, Assign, Bang, AndMut, As, Name, Literal, Dot, LeftParen, RightParen, LeftBracket, RightBracket, Comma, Question, StarConst, StarMut, Underscore, NumberedMember, Await, Struct, operatorOf}
 
 -- A node's own tokens: before its first operand, between the two, and behind the second.
 pub record Signs : Type 0 where
@@ -56,6 +56,7 @@ signLines detail symbol second =
     line (TypeInfer ∷ []) (signs (Underscore ∷ []) [] []) ∷
     line (TypeNever ∷ []) (signs (Bang ∷ []) [] []) ∷
     line (Link ∷ []) (signs [] (comma second) []) ∷
+    line (ExprStruct ∷ []) (signs (Struct ∷ []) [] []) ∷
     []
 
 unfoldable pub signsOf : Label → Tree → Signs

@@ -41,10 +41,10 @@ mostLevels = 128
 abbrev pub mostFileBytes : ℕ
 mostFileBytes = 65536
 
--- 14: "or holds a code above 45"
+-- 14: "or holds a code above 45"; document 02, Paper 5: "Refusal 14 now begins at code 47"
 abbrev pub lastCode : ℕ
-lastCode = 45
+lastCode = 46
 
 -- what is read behind a token list's last code: the first number that is no code
 abbrev pub listEnd : ℕ
-listEnd = 46
+listEnd = 47

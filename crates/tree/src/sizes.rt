@@ -30,7 +30,7 @@ pub const MOST_LEVELS: u16 = 128;
 pub const MOST_FILE_BYTES: usize = 65_536;
 
 // The last code of a token.
-pub const LAST_CODE: u16 = 45;
+pub const LAST_CODE: u16 = 46;
 
 // What is read behind a token list's last code.
-pub const LIST_END: u16 = 46;
+pub const LIST_END: u16 = 47;
