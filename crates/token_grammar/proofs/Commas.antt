@@ -70,7 +70,7 @@ dot-name-same (method y a l) = refl
 -- ---- a parse tree fits with its commas exactly where it fits without them
 
 pub fits-without : {s : Sort} (c : Context) (e : Expr s) → fits c e → fits c (withoutCommas e)
-fits-without c (atom x) k = tt
+fits-without c (atom x) k = k
 fits-without c (paren a) k = fits-without NONE a k
 fits-without c (prefix p a) k = (rw (kind-same a) (k .0), fits-without c a (k .1))
 fits-without c (binary o a b) k = (rw (kind-same a) (k .0), rw (kind-same b) (k .1), rw (type-name-same a) (k .2), fits-without c a (k .3), fits-without c b (k .4))
@@ -86,7 +86,7 @@ fits-without c (lastArgument comma a) k = fits-without NONE a k
 fits-without c (moreArguments a l) k = (fits-without NONE a (k .0), fits-without c l (k .1))
 
 pub fits-with : {s : Sort} (c : Context) (e : Expr s) → fits c (withoutCommas e) → fits c e
-fits-with c (atom x) k = tt
+fits-with c (atom x) k = k
 fits-with c (paren a) k = fits-with NONE a k
 fits-with c (prefix p a) k = (rw (kind-same a) at k .0, fits-with c a (k .1))
 fits-with c (binary o a b) k = (rw (kind-same a) at k .0, rw (kind-same b) at k .1, rw (type-name-same a) at k .2, fits-with c a (k .3), fits-with c b (k .4))

@@ -10,8 +10,8 @@ use Rattle.token_grammar.specs.Tokens.{Lt, Token, operator, code, As, Na
 use Rattle.token_grammar.specs.Levels.{prefixes, kind, level, after}
 use Rattle.token_grammar.specs.Bounds.{loosest}
 use Rattle.token_grammar.specs.Types.{Sort, one, list, items, Ty, closing, writeType}
-use Rattle.token_grammar.specs.Expressions.{Atom, path, literal, Prefix, neg, deref, invert, ref, refMut, Member, byName, byNumber, awaited, Expr, atom, paren, prefix, binary, cast, member, try, index, call, method, noArguments, arguments, lastArgument, moreArguments, atomToken, prefixToken, memberToken, write, kindOf}
-use Rattle.token_grammar.specs.Grammar.{Context, NONE, opensArguments, fits}
+use Rattle.token_grammar.specs.Expressions.{Atom, path, literal, structure, Prefix, neg, deref, invert, ref, refMut, Member, byName, byNumber, awaited, Expr, atom, paren, prefix, binary, cast, member, try, index, call, method, noArguments, arguments, lastArgument, moreArguments, atomToken, prefixToken, memberToken, write, kindOf}
+use Rattle.token_grammar.specs.Grammar.{Context, NONE, opensArguments, excluded, fits}
 use Rattle.token_grammar.specs.Parser.{Out, fail, ok, then, tail, isFirst, startOf, anAtom, aPrefix, AfterDot, noMember, aMember, afterDotOf, afterDot, isByName, memberSymbol, next, AfterItem, closes, another, noItem, afterItem, behind, goesOn, typeBy, exprBy, onBy, argumentsBy, someArgumentsBy}
 use Rattle.token_grammar.specs.Next.{Next, stops, operates, castsTo, dots, calls, indexes, tries, levelAt}
 use Rattle.token_grammar.proofs.FirstTokens.{first-is, item-more, isStart, begins}
@@ -89,6 +89,7 @@ pub start-atom : (x : Atom) → startOf (atomToken x) ≡ anAtom x
 unfolding startOf lookup pick
 start-atom (path y) = refl
 start-atom (literal y) = refl
+start-atom structure = refl
 
 pub start-prefix : (p : Prefix) → startOf (prefixToken p) ≡ aPrefix p
 unfolding startOf lookup pick
@@ -124,9 +125,9 @@ items-first u k n (moreArguments a l) r = expr-first u k n a (Comma ∷ write l 
 
 -- ---- one step of a parser whose tests are answered
 
-by-atom : (f : ℕ) (c : Context) (n : ℕ) (x : Atom) (ts : List Token) → exprBy (suc f) c n (atomToken x ∷ ts) ≡ onBy f c n (atom x) ts
+by-atom : (f : ℕ) (c : Context) (n : ℕ) (x : Atom) (ts : List Token) → excluded c (atom x) ≡ false → exprBy (suc f) c n (atomToken x ∷ ts) ≡ onBy f c n (atom x) ts
 unfolding exprBy
-by-atom f c n x ts = rw (start-atom x, exprBy)
+by-atom f c n x ts h = rw (start-atom x, h, exprBy)
 
 by-prefix : (f : ℕ) (c : Context) (n : ℕ) (p : Prefix) (ts : List Token) → exprBy (suc f) c n (prefixToken p ∷ ts) ≡ then (exprBy f c (after prefixes) ts) (λ a r. onBy f c n (prefix p a) r)
 unfolding exprBy
@@ -238,7 +239,7 @@ reads-whole c e ih n f r h k p q =
 
 pub reads : (s : Sort) (c : Context) (e : Expr s) → fits c e → Reads s c e
 unfolding exprBy onBy argumentsBy someArgumentsBy afterItem startOf afterDotOf lookup pick
-reads s c (atom x) k = λ n f r h l p. by-atom f c n x r
+reads s c (atom x) k = λ n f r h l p. by-atom f c n x r k
 reads s c (paren a) k =
     λ n f r h l p. rw (reads-whole NONE a (reads one NONE a k) 1 f (RightParen ∷ r) h (low a) tt (omega arith))
 reads s c (prefix p a) k = λ n f r h l q.

@@ -1,12 +1,13 @@
 -- A parse tree with every symbol 0: its shape. Assumes nothing.
 use Prim.Native.Nat.{ℕ}
 use Rattle.token_grammar.specs.Types.{Sort, Ty, named, applied, pointing, sign, noTypes, types, lastType, moreTypes}
-use Rattle.token_grammar.specs.Expressions.{Atom, path, literal, Member, byName, byNumber, awaited, Expr, atom, paren, prefix, binary, cast, member, try, index, call, method, noArguments, arguments, lastArgument, moreArguments}
+use Rattle.token_grammar.specs.Expressions.{Atom, path, literal, structure, Member, byName, byNumber, awaited, Expr, atom, paren, prefix, binary, cast, member, try, index, call, method, noArguments, arguments, lastArgument, moreArguments}
 
 -- an atom and a member with another symbol
 abbrev pub atomWith : ℕ → Atom → Atom
 atomWith n (path y) = path n
 atomWith n (literal y) = literal n
+atomWith n structure = structure
 
 abbrev pub memberWith : ℕ → Member → Member
 memberWith n (byName y) = byName n

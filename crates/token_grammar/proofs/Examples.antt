@@ -1,4 +1,4 @@
--- Document 01's P2 to P7 on parse trees, and token lists with what the parser gives for them: one table, computed. Assumes nothing.
+-- Document 01's P2 to P7, and P9 on a Struct, on parse trees, and token lists with what the parser gives for them: one table, computed. Assumes nothing.
 use mathlib.Core.Path.{_≡_, refl}
 use mathlib.Core.Bool.{true, false}
 use mathlib.Core.List.{List, [], _∷_}
@@ -8,9 +8,9 @@ use Rattle.token_grammar.specs.Tokens.{Operator, Add, Sub, Mul, And, Or,
 use Rattle.token_grammar.specs.Codes.{tokenOf, tokensOf}
 use Rattle.token_grammar.specs.Levels.{kind}
 use Rattle.token_grammar.specs.Types.{one, named, applied, types, lastType, moreTypes}
-use Rattle.token_grammar.specs.Expressions.{path, literal, neg, byName, byNumber, Expr, atom, paren, prefix, binary, cast, member, try, call, method, noArguments, arguments, lastArgument, moreArguments}
-use Rattle.token_grammar.specs.Grammar.{NONE, opensArguments}
-use Rattle.token_grammar.proofs.Added.{strength, addPairs}
+use Rattle.token_grammar.specs.Expressions.{path, literal, structure, neg, byName, byNumber, Expr, atom, paren, prefix, binary, cast, member, try, index, call, method, noArguments, arguments, lastArgument, moreArguments}
+use Rattle.token_grammar.specs.Grammar.{NONE, CONDITION, opensArguments}
+use Rattle.token_grammar.proofs.Added.{strength, addAll}
 use Rattle.token_grammar.specs.Parser.{Out, fail, ok, startOf, typeStartOf, afterDotOf, afterItem, goesOn, typeBy, exprBy, parse}
 
 record Example : Type 0 where
@@ -19,7 +19,10 @@ record Example : Type 0 where
 
 -- a tree, and the same with the pairs that it needs
 abbrev pairs : Expr one → Expr one → Example
-pairs e with = record { given = ok (addPairs e false) []; expected = ok with [] }
+pairs e with = record { given = ok (addAll NONE e) []; expected = ok with [] }
+
+abbrev inCondition : Expr one → Expr one → Example
+inCondition e with = record { given = ok (addAll CONDITION e) []; expected = ok with [] }
 
 -- cells of tokens without symbols, from the codes
 abbrev unnamed : List ℕ → List ℕ
@@ -37,8 +40,14 @@ reads codes e = readsCells (unnamed codes) e
 abbrev stops : List ℕ → Out (Expr one) → Example
 stops codes out = record { given = parse NONE (tokensOf (unnamed codes)); expected = out }
 
+abbrev conditionReads : List ℕ → Out (Expr one) → Example
+conditionReads codes out = record { given = parse CONDITION (tokensOf (unnamed codes)); expected = out }
+
 abbrev a : Expr one
 a = atom (path 0)
+
+abbrev struct : Expr one
+struct = atom structure
 
 -- a o b o c without a pair: an operator that leans left
 abbrev leansLeft : Operator → Example
@@ -112,6 +121,23 @@ examples =
     readsCells (32 ∷ 1 ∷ 34 ∷ 0 ∷ 32 ∷ 2 ∷ 35 ∷ 0 ∷ 33 ∷ 3 ∷ 36 ∷ 0 ∷ []) (method 2 (atom (path 1)) (arguments (lastArgument false (atom (literal 3))))) ∷
     readsCells (32 ∷ 1 ∷ 34 ∷ 0 ∷ 32 ∷ 2 ∷ 34 ∷ 0 ∷ 44 ∷ 3 ∷ []) (member (byNumber 3) (member (byName 2) (atom (path 1)))) ∷
     readsCells (32 ∷ 1 ∷ 31 ∷ 0 ∷ 32 ∷ 2 ∷ 13 ∷ 0 ∷ 32 ∷ 3 ∷ 17 ∷ 0 ∷ []) (cast (atom (path 1)) (applied 2 (types (lastType false (named 3))))) ∷
+    -- P9 "context 3, Struct right of `==`: pair."; right of `=`, as root, as an index's base, under a member that is called
+    inCondition (binary Eq a struct) (binary Eq a (paren struct)) ∷
+    inCondition (binary Assign a struct) (binary Assign a (paren struct)) ∷
+    inCondition struct (paren struct) ∷
+    inCondition (index struct a) (index (paren struct) a) ∷
+    inCondition (call (member (byName 0) struct) noArguments) (call (paren (member (byName 0) struct)) noArguments) ∷
+    -- none in brackets, in an argument list, in a Paren
+    inCondition (index a struct) (index a struct) ∷
+    inCondition (call a (arguments (lastArgument false struct))) (call a (arguments (lastArgument false struct))) ∷
+    inCondition (binary Add a (paren struct)) (binary Add a (paren struct)) ∷
+    -- a == S in both contexts, a == ( S ), S [ a ], a [ S ], f ( S ) in context 3
+    reads (32 ∷ 12 ∷ 46 ∷ []) (binary Eq a struct) ∷
+    conditionReads (32 ∷ 12 ∷ 46 ∷ []) fail ∷
+    conditionReads (32 ∷ 12 ∷ 35 ∷ 46 ∷ 36 ∷ []) (ok (binary Eq a (paren struct)) []) ∷
+    conditionReads (46 ∷ 37 ∷ 32 ∷ 38 ∷ []) fail ∷
+    conditionReads (32 ∷ 37 ∷ 46 ∷ 38 ∷ []) (ok (index a struct) []) ∷
+    conditionReads (32 ∷ 35 ∷ 46 ∷ 36 ∷ []) (ok (call a (arguments (lastArgument false struct))) []) ∷
     -- "The empty token list gives 15."
     stops [] fail ∷
     []

@@ -7,7 +7,7 @@ use lib.Dec.{T, eqb, eqb→eq}
 use borrow.Author.Tests.{eqb-true}
 use Rattle.laws.specs.Choice.{pick, lookup}
 use Rattle.laws.proofs.Choice.{true-not-false, alike, alike-same}
-use Rattle.token_grammar.specs.Tokens.{Operator, Token, operator, code, Bang, AndMut, As, Name, Literal, Dot, LeftParen, RightParen, LeftBracket, RightBracket, Comma, Question, StarConst, StarMut, Underscore, NumberedMember, Await, number, symbolOf, carries}
+use Rattle.token_grammar.specs.Tokens.{Operator, Token, operator, code, Bang, AndMut, As, Name, Literal, Dot, LeftParen, RightParen, LeftBracket, RightBracket, Comma, Question, StarConst, StarMut, Underscore, NumberedMember, Await, Struct, number, symbolOf, carries}
 use Rattle.token_grammar.specs.Types.{typePrefixToken, typeSignToken, closing}
 use Rattle.token_grammar.specs.Expressions.{atomToken, prefixToken, memberToken}
 use Rattle.token_grammar.specs.Parser.{tail, isFirst, firstBy, Start, noStart, anAtom, aPrefix, aGroup, startOf, start, TypeStart, noType, aName, aTypePrefix, aSign, typeStartOf, typeStart, AfterDot, noMember, aMember, afterDotOf, afterDot, next, AfterItem, closes, another, noItem, afterItem, behind}
@@ -69,6 +69,7 @@ module _ {A : Type 0} (none : A) (by : Token → A) (token : A → List Token) (
   same Underscore = bare Underscore refl (token (by Underscore)) (agree Underscore)
   same (NumberedMember y) = keeps y .2
   same Await = bare Await refl (token (by Await)) (agree Await)
+  same Struct = bare Struct refl (token (by Struct)) (agree Struct)
 
   first-of : (ts : List Token) (x : A) → firstBy none by ts ≡ x → begun (token x) ts ≡ ts
   first-of [] x q = subst (λ y. begun (token y) [] ≡ []) q (ap (λ l. begun l []) past)

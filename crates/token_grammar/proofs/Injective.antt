@@ -9,9 +9,9 @@ use native.Mathlib.Omega.{arith}
 use lib.Dec.{eqb}
 use borrow.Author.Tests.{eq-eqb, ne-eqb}
 use Rattle.laws.proofs.Choice.{true-not-false}
-use Rattle.token_grammar.specs.Tokens.{Operator, Sub, Mul, BitAnd, Lt, Gt, number, Token, operator, code, Bang, AndMut, As, Name, Literal, Dot, LeftParen, RightParen, LeftBracket, RightBracket, Comma, Question, symbolOf}
+use Rattle.token_grammar.specs.Tokens.{Operator, Sub, Mul, BitAnd, Lt, Gt, number, Token, operator, code, Bang, AndMut, As, Name, Literal, Dot, LeftParen, RightParen, LeftBracket, RightBracket, Comma, Question, Struct, symbolOf}
 use Rattle.token_grammar.specs.Types.{Sort, one, list, items, Ty, named, applied, pointing, sign, noTypes, types, lastType, moreTypes, closing, writeType}
-use Rattle.token_grammar.specs.Expressions.{Atom, path, literal, Prefix, neg, deref, invert, ref, refMut, Member, byName, byNumber, awaited, Expr, atom, paren, prefix, binary, cast, member, try, index, call, method, noArguments, arguments, lastArgument, moreArguments, atomToken, prefixToken, memberToken, write}
+use Rattle.token_grammar.specs.Expressions.{Atom, path, literal, structure, Prefix, neg, deref, invert, ref, refMut, Member, byName, byNumber, awaited, Expr, atom, paren, prefix, binary, cast, member, try, index, call, method, noArguments, arguments, lastArgument, moreArguments, atomToken, prefixToken, memberToken, write}
 use Rattle.token_grammar.specs.Commas.{withoutTypeCommas, withoutCommas}
 use Rattle.token_grammar.specs.Bare.{bare}
 use Rattle.token_grammar.proofs.Tokens.{number-below}
@@ -141,6 +141,7 @@ Counted items l = (d : Counts (core l)) × (put (core l) d ≡ l)
 counted : (s : Sort) (e : Expr s) → Counted s e
 counted s (atom (path y)) = (0, y, refl)
 counted s (atom (literal y)) = (0, y, refl)
+counted s (atom structure) = (0, 0, refl)
 counted s (paren a) = let p = counted one a in (suc (p .0), p .1, ap paren (p .2))
 counted s (prefix x a) = let p = counted one a in (0, (p .0, p .1), ap (prefix x) (p .2))
 counted s (binary o a b) = let p = counted one a in let q = counted one b in (0, (p .0, p .1, q .0, q .1), ap₂ (binary o) (p .2) (q .2))
@@ -275,11 +276,13 @@ operator-open o = distinct (operator o) RightParen (ne-eqb (number o) 36 (λ e. 
 atom-closed : (x : Atom) → atomToken x ≡ LeftParen → ⊥
 atom-closed (path y) = distinct (Name y) LeftParen refl
 atom-closed (literal y) = distinct (Literal y) LeftParen refl
+atom-closed structure = distinct Struct LeftParen refl
 
 -- an atom's token, and a member's, say the symbol
 atom-same : (a : Atom) (x y : ℕ) → atomToken (atomWith x a) ≡ atomToken (atomWith y a) → atomWith x a ≡ atomWith y a
 atom-same (path n) x y e = ap (λ t. path (symbolOf t)) e
 atom-same (literal n) x y e = ap (λ t. literal (symbolOf t)) e
+atom-same structure x y e = refl
 
 member-same : (m : Member) (x y : ℕ) → memberToken (memberWith x m) ≡ memberToken (memberWith y m) → memberWith x m ≡ memberWith y m
 member-same (byName n) x y e = ap (λ t. byName (symbolOf t)) e

@@ -9,8 +9,8 @@ use Rattle.token_grammar.specs.Tokens.{Token, operator, As, Name, Dot, L
 use Rattle.token_grammar.specs.Levels.{prefixes, kind, after}
 use Rattle.token_grammar.specs.Bounds.{loosest}
 use Rattle.token_grammar.specs.Types.{Sort, one, list, items}
-use Rattle.token_grammar.specs.Expressions.{Member, byName, byNumber, awaited, Expr, atom, paren, prefix, binary, cast, member, try, index, call, method, noArguments, arguments, lastArgument, moreArguments, prefixToken, memberToken, write}
-use Rattle.token_grammar.specs.Grammar.{Context, NONE, AtLeast, fits}
+use Rattle.token_grammar.specs.Expressions.{Atom, Member, byName, byNumber, awaited, Expr, atom, paren, prefix, binary, cast, member, try, index, call, method, noArguments, arguments, lastArgument, moreArguments, prefixToken, memberToken, write}
+use Rattle.token_grammar.specs.Grammar.{Context, NONE, AtLeast, excluded, fits}
 use Rattle.token_grammar.specs.Parser.{Out, fail, ok, then, tail, isFirst, Start, noStart, anAtom, aPrefix, aGroup, start, AfterDot, noMember, aMember, afterDot, isByName, memberSymbol, next, AfterItem, closes, another, noItem, afterItem, behind, goesOn, typeBy, exprBy, onBy, argumentsBy, someArgumentsBy}
 use Rattle.token_grammar.specs.Next.{Next, stops, operates, castsTo, dots, calls, indexes, tries, levelAt}
 use Rattle.token_grammar.proofs.FirstTokens.{first-is, start-is, after-dot-is, next-is, after-item-is}
@@ -37,11 +37,14 @@ Sounds f =
 abbrev closeStep : ℕ → Context → ℕ → Expr one → List Token → Bool → Out (Expr one)
 closeStep f c n e r y = elim y [ true ↦ onBy f c n e (tail r) | false ↦ fail ]
 
+abbrev atomStep : ℕ → Context → ℕ → Atom → List Token → Bool → Out (Expr one)
+atomStep f c n a ts y = elim y [ true ↦ fail | false ↦ onBy f c n (atom a) (tail ts) ]
+
 abbrev exprStep : ℕ → Context → ℕ → List Token → Start → Out (Expr one)
 exprStep f c n ts x =
     elim x [
       | noStart ↦ fail
-      | anAtom a ↦ onBy f c n (atom a) (tail ts)
+      | anAtom a ↦ atomStep f c n a ts (excluded c (atom a))
       | aPrefix p ↦ then (exprBy f c (after prefixes) (tail ts)) (λ a r. onBy f c n (prefix p a) r)
       | aGroup ↦ then (exprBy f NONE loosest (tail ts)) (λ a r. closeStep f c n (paren a) r (isFirst RightParen r))
     ]
@@ -71,9 +74,13 @@ module _ (f : ℕ) (ih : Sounds f) (c : Context) where
     sound-group a r h q true e = let v = first-is RightParen r refl e in onward n ts (paren a) (tail r) (cc) (omega arith) h
     sound-group a r h q false e = tt
 
+    sound-atom : (x : Atom) → start ts ≡ anAtom x → (y : Bool) → excluded c (atom x) ≡ y → Good (Sound c n ts) (atomStep f c n x ts y)
+    sound-atom x e true z = tt
+    sound-atom x e false z = onward n ts (atom x) (tail ts) (start-is ts (anAtom x) e) (omega arith) z
+
     sound-expr : (x : Start) → start ts ≡ x → Good (Sound c n ts) (exprStep f c n ts x)
     sound-expr noStart e = tt
-    sound-expr (anAtom x) e = onward n ts (atom x) (tail ts) (start-is ts (anAtom x) e) (omega arith) tt
+    sound-expr (anAtom x) e = sound-atom x e (excluded c (atom x)) refl
     sound-expr (aPrefix p) e =
         let u : prefixToken p ∷ tail ts ≡ ts = start-is ts (aPrefix p) e in
         good-then (Sound c 14 (tail ts)) (Sound c n ts) (exprBy f c 14 (tail ts)) (λ a r. onBy f c n (prefix p a) r) (ih .0 c 14 (tail ts) (omega arith))

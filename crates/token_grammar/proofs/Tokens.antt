@@ -10,7 +10,7 @@ use borrow.Author.Tests.{eqb-true, eq-eqb, le-leb}
 use Rattle.laws.proofs.Choice.{true-not-false, true-of, of-true, and-true, or-here}
 use Rattle.laws.proofs.Each.{all-at}
 use Rattle.tree.specs.Sizes.{lastCode, listEnd}
-use Rattle.token_grammar.specs.Tokens.{Operator, Add, Sub, Mul, Div, Rem, And, Or, BitXor, BitAnd, BitOr, Shl, Shr, Eq, Lt, Le, Ne, Ge, Gt, AddAssign, SubAssign, MulAssign, DivAssign, RemAssign, BitXorAssign, BitAndAssign, BitOrAssign, ShlAssign, ShrAssign, Assign, number, Token, operator, code, Bang, AndMut, As, Name, Literal, Dot, LeftParen, RightParen, LeftBracket, RightBracket, Comma, Question, StarConst, StarMut, Underscore, NumberedMember, Await, allOperators, operatorOf, symbolOf, carries, cellsOf}
+use Rattle.token_grammar.specs.Tokens.{Operator, Add, Sub, Mul, Div, Rem, And, Or, BitXor, BitAnd, BitOr, Shl, Shr, Eq, Lt, Le, Ne, Ge, Gt, AddAssign, SubAssign, MulAssign, DivAssign, RemAssign, BitXorAssign, BitAndAssign, BitOrAssign, ShlAssign, ShrAssign, Assign, number, Token, operator, code, Bang, AndMut, As, Name, Literal, Dot, LeftParen, RightParen, LeftBracket, RightBracket, Comma, Question, StarConst, StarMut, Underscore, NumberedMember, Await, Struct, allOperators, operatorOf, symbolOf, carries, cellsOf}
 use Rattle.token_grammar.specs.Bounds.{pastOperators}
 use Rattle.token_grammar.specs.Codes.{spelled, tokenOf, signOf, tokensOf, isToken, areTokens}
 use Rattle.token_grammar.specs.Next.{Next, nextOf}
@@ -104,6 +104,7 @@ token-code StarMut = refl
 token-code Underscore = refl
 token-code (NumberedMember y) = refl
 token-code Await = refl
+token-code Struct = refl
 
 pub code-same : (t u : Token) → code t ≡ code u → symbolOf t ≡ symbolOf u → t ≡ u
 code-same t u e h = sym (token-code t) ∙ ap₂ tokenOf e h ∙ token-code u
@@ -128,6 +129,7 @@ sign-symbol StarMut h = refl
 sign-symbol Underscore h = refl
 sign-symbol (NumberedMember y) h = true-not-false h
 sign-symbol Await h = refl
+sign-symbol Struct h = refl
 
 pub sign-same : (t u : Token) → carries (code t) ≡ false → code t ≡ code u → t ≡ u
 sign-same t u h e = code-same t u e (sign-symbol t h ∙ sym (sign-symbol u (sym (ap carries e) ∙ h)))

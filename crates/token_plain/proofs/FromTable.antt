@@ -13,7 +13,7 @@ use Rattle.laws.specs.Each.{some}
 use Rattle.laws.proofs.Choice.{and-true, true-not-false, pick-false}
 use Rattle.laws.proofs.Each.{some-none}
 use Rattle.tree_places.specs.declared.place.Place.the-variants.{Nothing, Required, List as ListOf, Item, Next}
-use Rattle.tree.specs.Forms.{ExprAssign, ExprAwait, ExprBinary, ExprCall, ExprCast, ExprField, ExprIndex, ExprLit, ExprMethodCall, ExprParen, ExprPath, ExprReference, ExprTry, ExprUnary, TypeInfer, TypeNever, TypePath, TypePtr, TypeReference, Link, anExpression, aType, aLink, classOf, highestAttributes, details, highestDetail, symbols, highestSymbol, allowed}
+use Rattle.tree.specs.Forms.{ExprAssign, ExprAwait, ExprBinary, ExprCall, ExprCast, ExprField, ExprIndex, ExprLit, ExprMethodCall, ExprParen, ExprPath, ExprReference, ExprStruct, ExprTry, ExprUnary, TypeInfer, TypeNever, TypePath, TypePtr, TypeReference, Link, anExpression, aType, aLink, classOf, highestAttributes, details, highestDetail, symbols, highestSymbol, allowed}
 use Rattle.tree.specs.Table.{formAt, attributesAt, detailAt, firstAt, secondAt, symbolAt, classAt}
 use Rattle.tree.specs.Trees.{Label, Tree, none, node, labelAt, treeAt}
 use Rattle.tree_places.specs.Places.{firstPlaces, firstPlace, secondPlaces, secondPlace}
@@ -22,7 +22,7 @@ use Rattle.tree.proofs.Unfold.{tree-zero, unfolds}
 use Rattle.tree_rules.proofs.Accepted.{Within, Fits, count-bounds, root-expression, numbers-allowed, first-fits, second-fits, first-operand, second-operand}
 use Rattle.token_grammar.specs.Tokens.{Operator, number, Assign, operatorOf}
 use Rattle.token_grammar.specs.Types.{one, list, items, TypePrefix, constPtr, mutPtr, sharedRef, mutRef, TypeSign, infer, never, Ty, named, applied, pointing, sign, noTypes, types, lastType, moreTypes}
-use Rattle.token_grammar.specs.Expressions.{Atom, path, literal, Prefix, neg, deref, invert, ref, refMut, Member, byName, byNumber, awaited, Expr, atom, paren, prefix, binary, cast, member, try, index, call, method, noArguments, arguments, lastArgument, moreArguments}
+use Rattle.token_grammar.specs.Expressions.{Atom, path, literal, structure, Prefix, neg, deref, invert, ref, refMut, Member, byName, byNumber, awaited, Expr, atom, paren, prefix, binary, cast, member, try, index, call, method, noArguments, arguments, lastArgument, moreArguments}
 use Rattle.token_grammar.proofs.Tokens.{number-operator}
 use Rattle.token_plain.specs.Plain.{plainExpressions, plainTypes, isPlain, plainTable}
 use Rattle.token_plain.specs.Trees.{labelWith, label, operatorLabel, treeOf, treeOfType}
@@ -105,16 +105,20 @@ module _ (cells : List ℕ) (count : ℕ) where
 
       -- ---- expressions
 
-      closed : (x : Atom) (form : ℕ) → treeOf (atom x) ≡ node (labelWith form 0 s) none none → d ≤ 0 → p ≡ 0 → q ≡ 0 → AnExpr (here form)
-      closed x form e h u v = (atom x, e ∙ ap₂ (node (labelWith form 0 s)) (none-at p u) (none-at q v) ∙ same-node form 0 s (omega arith) refl)
+      closed : (x : Atom) (form y : ℕ) → treeOf (atom x) ≡ node (labelWith form 0 y) none none → d ≤ 0 → y ≡ s → p ≡ 0 → q ≡ 0 → AnExpr (here form)
+      closed x form y e h k u v = (atom x, e ∙ ap₂ (node (labelWith form 0 y)) (none-at p u) (none-at q v) ∙ same-node form 0 y (omega arith) k)
 
       is-path : Node AnExpr ExprPath
       unfolding highestDetail details highestSymbol symbols firstPlace firstPlaces secondPlace secondPlaces lookup pick
-      is-path h k u v = closed (path s) ExprPath refl h u v
+      is-path h k u v = closed (path s) ExprPath s refl h refl u v
 
       is-lit : Node AnExpr ExprLit
       unfolding highestDetail details highestSymbol symbols firstPlace firstPlaces secondPlace secondPlaces lookup pick
-      is-lit h k u v = closed (literal s) ExprLit refl h u v
+      is-lit h k u v = closed (literal s) ExprLit s refl h refl u v
+
+      is-struct : Node AnExpr ExprStruct
+      unfolding highestDetail details highestSymbol symbols firstPlace firstPlaces secondPlace secondPlaces lookup pick
+      is-struct h k u v = closed structure ExprStruct 0 refl h (omega arith) u v
 
       -- with one operand
       over : (wrap : Expr one → Expr one) (form m y : ℕ) → ((a : Expr one) → treeOf (wrap a) ≡ node (labelWith form m y) (treeOf a) none) → m ≡ d → y ≡ s
@@ -209,7 +213,7 @@ module _ (cells : List ℕ) (count : ℕ) where
       expression : (form : ℕ) → isOneOf plainExpressions form ≡ true → Node AnExpr form
       expression form e =
           one-of (Node AnExpr) plainExpressions form
-          (is-path, (is-lit, (is-paren, (is-unary, (is-reference, (is-binary, (is-assign, (is-cast, (is-field, (is-index, (is-call, (is-method, (is-try, (is-await, tt))))))))))))))
+          (is-path, (is-lit, (is-paren, (is-unary, (is-reference, (is-binary, (is-assign, (is-cast, (is-field, (is-index, (is-call, (is-method, (is-try, (is-await, (is-struct, tt)))))))))))))))
           e
 
       -- ---- types
@@ -288,7 +292,7 @@ expression-class : (form : ℕ) → isOneOf plainExpressions form ≡ true → c
 unfolding classOf pick
 expression-class form e =
     one-of (λ f. classOf f ≡ anExpression) plainExpressions form
-    (refl, (refl, (refl, (refl, (refl, (refl, (refl, (refl, (refl, (refl, (refl, (refl, (refl, (refl, tt))))))))))))))
+    (refl, (refl, (refl, (refl, (refl, (refl, (refl, (refl, (refl, (refl, (refl, (refl, (refl, (refl, (refl, tt)))))))))))))))
     e
 
 -- a type is one of the listed, or a path; a link is a link

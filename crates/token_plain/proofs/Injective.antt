@@ -6,11 +6,11 @@ use Prim.Native.Nat.{ℕ, _-_}
 use lib.Dec.{eqb}
 use borrow.Author.Tests.{eqb-true}
 use Rattle.laws.specs.Choice.{Line, line, lookup, pick}
-use Rattle.tree.specs.Forms.{ExprAssign, ExprAwait, ExprBinary, ExprCall, ExprCast, ExprField, ExprIndex, ExprLit, ExprMethodCall, ExprParen, ExprPath, ExprReference, ExprTry, ExprUnary, TypeInfer, TypeNever, TypePath, TypePtr, TypeReference}
+use Rattle.tree.specs.Forms.{ExprAssign, ExprAwait, ExprBinary, ExprCall, ExprCast, ExprField, ExprIndex, ExprLit, ExprMethodCall, ExprParen, ExprPath, ExprReference, ExprStruct, ExprTry, ExprUnary, TypeInfer, TypeNever, TypePath, TypePtr, TypeReference}
 use Rattle.tree.specs.Trees.{Label, Tree, none, node}
 use Rattle.token_grammar.specs.Tokens.{Operator, number, Assign, operatorOf}
 use Rattle.token_grammar.specs.Types.{Sort, one, list, items, TypePrefix, constPtr, mutPtr, sharedRef, mutRef, TypeSign, infer, never, Ty, named, applied, pointing, sign, noTypes, types, lastType, moreTypes}
-use Rattle.token_grammar.specs.Expressions.{Atom, path, literal, Prefix, neg, deref, invert, ref, refMut, Member, byName, byNumber, awaited, Expr, atom, paren, prefix, binary, cast, member, try, index, call, method, noArguments, arguments, lastArgument, moreArguments}
+use Rattle.token_grammar.specs.Expressions.{Atom, path, literal, structure, Prefix, neg, deref, invert, ref, refMut, Member, byName, byNumber, awaited, Expr, atom, paren, prefix, binary, cast, member, try, index, call, method, noArguments, arguments, lastArgument, moreArguments}
 use Rattle.token_grammar.specs.Commas.{withoutTypeCommas, withoutCommas}
 use Rattle.token_grammar.proofs.Tokens.{operator-number}
 use Rattle.token_plain.specs.Trees.{label, operatorLabel, treeOf, treeOfType}
@@ -33,6 +33,7 @@ exprBy : Label → Parts → Parts → Expr one
 exprBy l a b =
     lookup
     (line (ExprLit ∷ []) (atom (literal (l .symbol))) ∷
+    line (ExprStruct ∷ []) (atom structure) ∷
     line (ExprParen ∷ []) (paren (a .expr)) ∷
     line (ExprUnary ∷ []) (prefix (pick (eqb (l .detail) 0) deref (pick (eqb (l .detail) 1) invert neg)) (a .expr)) ∷
     line (ExprReference ∷ []) (prefix (pick (eqb (l .detail) 0) ref refMut) (a .expr)) ∷
@@ -111,6 +112,7 @@ back : (s : Sort) (e : Expr s) → Back s e
 unfolding partsOf exprBy lookup pick
 back s (atom (path y)) = refl
 back s (atom (literal y)) = refl
+back s (atom structure) = refl
 back s (paren a) = ap paren (back one a)
 back s (prefix neg a) = ap (prefix neg) (back one a)
 back s (prefix deref a) = ap (prefix deref) (back one a)

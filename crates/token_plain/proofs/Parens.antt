@@ -8,7 +8,7 @@ use Rattle.tree.specs.Forms.{ExprAssign, ExprBinary, ExprParen}
 use Rattle.tree.specs.Trees.{Label, Tree, none, node}
 use Rattle.token_grammar.specs.Tokens.{Operator, Assign, number}
 use Rattle.token_grammar.specs.Types.{Sort, TypePrefix, constPtr, mutPtr, sharedRef, mutRef, TypeSign, infer, never, Ty, named, applied, pointing, sign, noTypes, types, lastType, moreTypes}
-use Rattle.token_grammar.specs.Expressions.{Atom, path, literal, Prefix, neg, deref, invert, ref, refMut, Member, byName, byNumber, awaited, Expr, atom, paren, prefix, binary, cast, member, try, index, call, method, noArguments, arguments, lastArgument, moreArguments}
+use Rattle.token_grammar.specs.Expressions.{Atom, path, literal, structure, Prefix, neg, deref, invert, ref, refMut, Member, byName, byNumber, awaited, Expr, atom, paren, prefix, binary, cast, member, try, index, call, method, noArguments, arguments, lastArgument, moreArguments}
 use Rattle.token_grammar.specs.Bare.{bare}
 use Rattle.token_plain.specs.Trees.{label, atomLabel, prefixLabel, operatorLabel, memberLabel, typePrefixLabel, typeSignLabel, treeOf, treeOfType, withoutParens}
 
@@ -24,6 +24,7 @@ nothing = refl
 atom-keeps : (x : Atom) → eqb (atomLabel x .form) ExprParen ≡ false
 atom-keeps (path y) = refl
 atom-keeps (literal y) = refl
+atom-keeps structure = refl
 
 prefix-keeps : (p : Prefix) → eqb (prefixLabel p .form) ExprParen ≡ false
 prefix-keeps neg = refl

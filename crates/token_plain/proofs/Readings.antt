@@ -13,15 +13,15 @@ use Rattle.token_grammar.specs.Tokens.{Token, cellsOf}
 use Rattle.token_grammar.specs.Codes.{tokensOf, areTokens}
 use Rattle.token_grammar.specs.Types.{one}
 use Rattle.token_grammar.specs.Expressions.{Expr, write}
-use Rattle.token_grammar.specs.Grammar.{NONE, fits}
+use Rattle.token_grammar.specs.Grammar.{Context, fits}
 use Rattle.token_grammar.specs.Commas.{withoutCommas, ended}
 use Rattle.token_grammar.specs.Bare.{bare}
 use Rattle.token_grammar.specs.Parser.{Out, fail, ok, parse}
-use Rattle.token_grammar.proofs.Added.{addPairs, Pair, dropPair}
+use Rattle.token_grammar.proofs.Added.{addAll, AnyPair, dropAny}
 use Rattle.token_grammar.proofs.Tokens.{tokens-cells, cells-tokens, cells-are}
 use Rattle.token_grammar.proofs.Readings.{complete, correct, one-parse}
-use Rattle.token_grammar.proofs.Pairs.{bare-pairs, fits-pairs}
-use Rattle.token_grammar.proofs.Needed.{bare-drop, drop-unfit}
+use Rattle.token_grammar.proofs.Pairs.{bare-all, fits-all}
+use Rattle.token_grammar.proofs.Needed.{bare-drop-any, drop-unfit}
 use Rattle.token_grammar.proofs.Erased.{erased}
 use Rattle.token_grammar.proofs.Injective.{core, injective}
 use Rattle.token_grammar.proofs.Commas.{fits-without, fits-with, puts}
@@ -38,38 +38,38 @@ spelled-once : (ts us : List Token) → cellsOf ts ≡ cellsOf us → ts ≡ us
 spelled-once ts us e = sym (tokens-cells ts) ∙ ap tokensOf e ∙ tokens-cells us
 
 -- A token list has at most one reading.
-pub one-reading : {cells : List ℕ} {t u : Tree} → Reads cells t → Reads cells u → t ≡ u
-one-reading r s =
+pub one-reading : {c : Context} {cells : List ℕ} {t u : Tree} → Reads c cells t → Reads c cells u → t ≡ u
+one-reading {c} r s =
     sym (r .same)
-    ∙ ap (λ e. withoutParens (treeOf e)) (one-parse NONE (r .parsed) (s .parsed) (r .fit) (s .fit) (spelled-once _ _ (r .whole ∙ sym (s .whole))))
+    ∙ ap (λ e. withoutParens (treeOf e)) (one-parse c (r .parsed) (s .parsed) (r .fit) (s .fit) (spelled-once _ _ (r .whole ∙ sym (s .whole))))
     ∙ s .same
 
 -- The parser finds it exactly where there is one: what it gives for the whole list is a reading,
-pub found : (ts : List Token) (e : Expr one) → parse NONE ts ≡ ok e [] → Reads (cellsOf ts) (withoutParens (treeOf e))
-found ts e h = record { parsed = e; fit = correct NONE ts e h .0; whole = ap cellsOf (correct NONE ts e h .1); same = refl }
+pub found : (c : Context) (ts : List Token) (e : Expr one) → parse c ts ≡ ok e [] → Reads c (cellsOf ts) (withoutParens (treeOf e))
+found c ts e h = record { parsed = e; fit = correct c ts e h .0; whole = ap cellsOf (correct c ts e h .1); same = refl }
 
 -- and each reading is what it gives.
-pub finds : {cells : List ℕ} {t : Tree} (r : Reads cells t) → parse NONE (tokensOf cells) ≡ ok (r .parsed) []
-finds r = ap (parse NONE) (ap tokensOf (sym (r .whole)) ∙ tokens-cells (write (r .parsed) [])) ∙ complete NONE (r .parsed) (r .fit)
+pub finds : {c : Context} {cells : List ℕ} {t : Tree} (r : Reads c cells t) → parse c (tokensOf cells) ≡ ok (r .parsed) []
+finds {c} r = ap (parse c) (ap tokensOf (sym (r .whole)) ∙ tokens-cells (write (r .parsed) [])) ∙ complete c (r .parsed) (r .fit)
 
 -- A token list has a reading or has none.
-pub read-or-not : (cells : List ℕ) → ((t : Tree) × Reads cells t) ⊎ ((t : Tree) → Reads cells t → ⊥)
-read-or-not cells = go (areTokens cells) refl (parse NONE (tokensOf cells)) refl
+pub read-or-not : (c : Context) (cells : List ℕ) → ((t : Tree) × Reads c cells t) ⊎ ((t : Tree) → Reads c cells t → ⊥)
+read-or-not c cells = go (areTokens cells) refl (parse c (tokensOf cells)) refl
   where
-    go : (b : Bool) → areTokens cells ≡ b → (o : Out (Expr one)) → parse NONE (tokensOf cells) ≡ o → ((t : Tree) × Reads cells t) ⊎ ((t : Tree) → Reads cells t → ⊥)
+    go : (b : Bool) → areTokens cells ≡ b → (o : Out (Expr one)) → parse c (tokensOf cells) ≡ o → ((t : Tree) × Reads c cells t) ⊎ ((t : Tree) → Reads c cells t → ⊥)
     go false e o q = inr (λ t r. true-not-false (sym (true-of (subst (λ ns. T (areTokens ns)) (r .whole) (cells-are (write (r .parsed) [])))) ∙ e))
     go true e fail q = inr (λ t r. let k = finds r in let z : _≡_ {A = ℕ} 0 1 = cc in omega arith)
-    go true e (ok x []) q = inl (_, subst (λ ns. Reads ns (withoutParens (treeOf x))) (cells-tokens cells (of-true e)) (found (tokensOf cells) x q))
+    go true e (ok x []) q = inl (_, subst (λ ns. Reads c ns (withoutParens (treeOf x))) (cells-tokens cells (of-true e)) (found c (tokensOf cells) x q))
     go true e (ok x (y ∷ rest)) q = inr (λ t r. let k = finds r in let z : _≡_ {A = ℕ} 0 1 = cc in omega arith)
 
--- What is written with the pairs that levels ask for, and with no comma after a last item, reads as the tree without its own parentheses;
-pub reads-back : (e : Expr one) → Reads (cellsOf (write (withoutCommas (addPairs e false)) [])) (withoutParens (treeOf e))
-reads-back e =
+-- What is written with the pairs that levels and the context ask for, and with no comma after a last item, reads as the tree without its own parentheses;
+pub reads-back : (c : Context) (e : Expr one) → Reads c (cellsOf (write (withoutCommas (addAll c e)) [])) (withoutParens (treeOf e))
+reads-back c e =
     record {
-      parsed = withoutCommas (addPairs e false);
-      fit = fits-without NONE (addPairs e false) (fits-pairs e NONE false);
+      parsed = withoutCommas (addAll c e);
+      fit = fits-without c (addAll c e) (fits-all c e);
       whole = refl;
-      same = ap withoutParens (tree-without (addPairs e false)) ∙ without-bare (addPairs e false) ∙ ap treeOf (bare-pairs e false) ∙ sym (without-bare e);
+      same = ap withoutParens (tree-without (addAll c e)) ∙ without-bare (addAll c e) ∙ ap treeOf (bare-all c e) ∙ sym (without-bare e);
     }
 
 -- trees that have one shape without their own parentheses have one core
@@ -79,24 +79,24 @@ core-same d e q =
     (shape-tree (bare d) ∙ sym (ap erase (without-bare d)) ∙ q ∙ ap erase (without-bare e) ∙ sym (shape-tree (bare e)))
 
 -- without one of them it reads as a tree of another shape or not at all.
-pub needed : (e : Expr one) (q : Pair e false) (t : Tree) → Reads (cellsOf (write (withoutCommas (dropPair e false q)) [])) t → erase t ≡ erase (withoutParens (treeOf e)) → ⊥
-needed e q t r s =
-    let d = dropPair e false q in
-    let k = core-same (withoutCommas d) e (ap erase (ap withoutParens (tree-without d) ∙ without-bare d ∙ ap treeOf (bare-drop e false q) ∙ sym (without-bare e))) in
+pub needed : (c : Context) (e : Expr one) (q : AnyPair c e) (t : Tree) → Reads c (cellsOf (write (withoutCommas (dropAny c e q)) [])) t → erase t ≡ erase (withoutParens (treeOf e)) → ⊥
+needed c e q t r s =
+    let d = dropAny c e q in
+    let k = core-same (withoutCommas d) e (ap erase (ap withoutParens (tree-without d) ∙ without-bare d ∙ ap treeOf (bare-drop-any c e q) ∙ sym (without-bare e))) in
     let same = injective e (r .parsed) (withoutCommas d) (core-same (r .parsed) e (ap erase (r .same) ∙ s)) k (spelled-once _ _ (r .whole)) in
-    drop-unfit NONE e q (fits-with NONE d (subst (fits NONE) same (r .fit)))
+    drop-unfit c e q (fits-with c d (subst (fits c) same (r .fit)))
 
 -- ---- commas after last items
 
 pub same-readings : SameReadings
-same-readings d e h q t r =
+same-readings c d e h q t r =
     record {
       parsed = e;
-      fit = fits-with NONE e (subst (fits NONE) q (fits-without NONE d h));
+      fit = fits-with c e (subst (fits c) q (fits-without c d h));
       whole = refl;
       same =
           ap withoutParens (sym (tree-without e) ∙ ap treeOf (sym q) ∙ tree-without d)
-          ∙ ap (λ p. withoutParens (treeOf p)) (sym (one-parse NONE (r .parsed) d (r .fit) h (spelled-once _ _ (r .whole))))
+          ∙ ap (λ p. withoutParens (treeOf p)) (sym (one-parse c (r .parsed) d (r .fit) h (spelled-once _ _ (r .whole))))
           ∙ r .same;
     }
 

@@ -8,7 +8,7 @@ use Rattle.tree.specs.Trees.{Label, Tree, none, node}
 use Rattle.tree.specs.Erase.{unnamed, erase}
 use Rattle.token_grammar.specs.Tokens.{Operator, Assign, number}
 use Rattle.token_grammar.specs.Types.{Sort, TypePrefix, constPtr, mutPtr, sharedRef, mutRef, TypeSign, infer, never, Ty, named, applied, pointing, sign, noTypes, types, lastType, moreTypes}
-use Rattle.token_grammar.specs.Expressions.{Atom, path, literal, Prefix, neg, deref, invert, ref, refMut, Member, byName, byNumber, awaited, Expr, atom, paren, prefix, binary, cast, member, try, index, call, method, noArguments, arguments, lastArgument, moreArguments}
+use Rattle.token_grammar.specs.Expressions.{Atom, path, literal, structure, Prefix, neg, deref, invert, ref, refMut, Member, byName, byNumber, awaited, Expr, atom, paren, prefix, binary, cast, member, try, index, call, method, noArguments, arguments, lastArgument, moreArguments}
 use Rattle.token_grammar.proofs.Erased.{atomWith, memberWith, erasedType, erased}
 use Rattle.token_plain.specs.Trees.{label, atomLabel, prefixLabel, operatorLabel, memberLabel, typePrefixLabel, typeSignLabel, treeOf, treeOfType}
 
@@ -19,6 +19,7 @@ over l m e p q = rw (e, p, q)
 atom-shape : (x : Atom) → atomLabel (atomWith 0 x) ≡ unnamed (atomLabel x)
 atom-shape (path y) = refl
 atom-shape (literal y) = refl
+atom-shape structure = refl
 
 prefix-shape : (p : Prefix) → prefixLabel p ≡ unnamed (prefixLabel p)
 prefix-shape neg = refl
