@@ -1,4 +1,4 @@
--- With the pair of one row left out, a plain tree in context 0 writes what the grammar's pairs without one of them do. Assumes nothing.
+-- With the pair of one row left out, a plain tree in context 0 or 3 writes what the grammar's pairs without one of them do. Assumes nothing.
 use mathlib.Core.Path.{_≡_, refl, sym, subst, ap, ap₂, _∙_}
 use mathlib.Core.Bool.{Bool, true, false}
 use mathlib.Core.List.{List, [], _∷_, _++_}
@@ -19,14 +19,16 @@ use Rattle.row_walk.specs.Paths.{Branch, first, second, treeBy, handedBy}
 use Rattle.token_grammar.specs.Tokens.{Operator, Token, operator, As, Name, Dot, LeftParen, RightParen, LeftBracket, RightBracket, Comma, Question}
 use Rattle.token_grammar.specs.Types.{Sort, one, list, items, TypePrefix, constPtr, mutPtr, sharedRef, mutRef, TypeSign, infer, never, Ty, named, applied, pointing, sign, noTypes, types, lastType, moreTypes}
 use Rattle.token_grammar.specs.Expressions.{Atom, Prefix, Member, Expr, atom, paren, prefix, binary, cast, member, try, index, call, method, noArguments, arguments, lastArgument, moreArguments, atomToken, prefixToken, memberToken, write}
+use Rattle.token_grammar.specs.Grammar.{Context}
+use Rattle.token_grammar.specs.Grammar as grammar
 use Rattle.token_grammar.specs.Commas.{withoutCommas}
-use Rattle.token_grammar.proofs.Added.{withPair, addPairs, PairAt, Pair, dropAt, dropPair}
+use Rattle.token_grammar.proofs.Added.{withPair, addPairs, PairAt, Pair, dropAt, dropPair, AnyPair, dropAny}
 use Rattle.token_plain.specs.Trees.{label, typePrefixLabel, typeSignLabel, treeOf, treeOfType}
 use Rattle.token_plain.specs.Written.{Signs, signs, signLines, signsOf, within}
-use Rattle.token_rows.proofs.Contexts.{Calm, calm-none}
+use Rattle.token_rows.proofs.Contexts.{begun, Calm, calm-none}
 use Rattle.token_rows.proofs.Nodes.{facts}
 use Rattle.token_rows.proofs.Operands.{Settled}
-use Rattle.token_rows.proofs.Handed.{Operand, alone, prefix-first, binary-first, binary-second, cast-first, member-first, try-first, index-first, call-first, method-first, paren-first, index-second, link-first}
+use Rattle.token_rows.proofs.Handed.{Operand, root, alone, prefix-first, binary-first, binary-second, cast-first, member-first, try-first, index-first, call-first, method-first, paren-first, index-second, link-first}
 use Rattle.token_rows.proofs.Tokens.{marked, inside, tokensFor, insideFor, marked-other, marked-expression, own-expression, prefix-signs, operator-signs, member-signs, link-signs, types-are, InsideIs, operand-is, is}
 
 -- ---- the tokens without the pair of the node at a path
@@ -108,30 +110,30 @@ module _ (x : FixupContext) (l : Label) (a b : Tree) (s : Signs) (e : signsOf l 
 
 -- ---- an operand: its own pair is left out, or one inside it
 
-abbrev DropsAt : Expr one → FixupContext → Branch → Type 0
-DropsAt e x s =
+abbrev DropsAt : Expr one → Context → FixupContext → Branch → Type 0
+DropsAt e k x s =
     (p : List Branch) → markedBelow s p x (treeOf e) ≡ true
-    → (q : Pair e (x .«next_operator_can_begin_generics»))
-    × ((end : List Token) → insideBut s (tokensBut p) x (treeOf e) end ≡ write (withoutCommas (dropPair e (x .«next_operator_can_begin_generics») q)) end)
+    → (q : Pair e k (x .«next_operator_can_begin_generics»))
+    × ((end : List Token) → insideBut s (tokensBut p) x (treeOf e) end ≡ write (withoutCommas (dropPair e k (x .«next_operator_can_begin_generics») q)) end)
 
 abbrev DropsInside : Expr one → Type 0
-DropsInside e = (x : FixupContext) → Calm x → Settled x → (s : Branch) → DropsAt e x s
+DropsInside e = (k : Context) (x : FixupContext) → Calm k x → Settled x → (s : Branch) → DropsAt e k x s
 
-abbrev DropsOperand : Handed → Expr one → Bool → Bool → List Branch → Type 0
-DropsOperand h a p g path =
-    (q : PairAt p g (Pair a)) × ((rest : List Token) → tokensBut path h (treeOf a) rest ≡ write (withoutCommas (dropAt p g (addPairs a) (Pair a) (dropPair a) q)) rest)
+abbrev DropsOperand : Context → Handed → Expr one → Bool → Bool → List Branch → Type 0
+DropsOperand k h a p g path =
+    (q : PairAt p k g (Pair a)) × ((rest : List Token) → tokensBut path h (treeOf a) rest ≡ write (withoutCommas (dropAt p k g (addPairs a) (Pair a) (dropPair a) q)) rest)
 
-module _ (h : Handed) (a : Expr one) (g : Bool) (is-a : InsideIs a) (drops-a : DropsInside a) where
-  own : (p : Bool) → Operand h a p g → ownContext h (treeOf a) ≡ pick p NONE (h .fixup)
+module _ (k : Context) (h : Handed) (a : Expr one) (g : Bool) (is-a : InsideIs a) (drops-a : DropsInside a) where
+  own : (p : Bool) → Operand k h a p g → ownContext h (treeOf a) ≡ pick p NONE (h .fixup)
   own p o = own-expression h (treeOf a) (facts a .expression) ∙ ap (λ b. pick b NONE (h .fixup)) (o .pair)
 
-  row : (p : Bool) → Operand h a p g → marked h (treeOf a) ≡ p
+  row : (p : Bool) → Operand k h a p g → marked h (treeOf a) ≡ p
   row p o = marked-expression h (treeOf a) (facts a .expression) ∙ o .pair
 
-  drop-own : (p : Bool) → Operand h a p g → marked h (treeOf a) ≡ true → DropsOperand h a p g []
+  drop-own : (p : Bool) → Operand k h a p g → marked h (treeOf a) ≡ true → DropsOperand k h a p g []
   unfolding tokensBut
   drop-own true o m =
-      (inl tt, λ rest. ap (λ x. insideFor x (treeOf a) rest) (own true o ∙ pick-true NONE (h .fixup) refl) ∙ is-a NONE calm-none (λ e. true-not-false (sym e)) rest)
+      (inl tt, λ rest. ap (λ x. insideFor x (treeOf a) rest) (own true o ∙ pick-true NONE (h .fixup) refl) ∙ is-a grammar.NONE NONE calm-none (λ e. true-not-false (sym e)) rest)
   drop-own false o m = true-not-false (sym m ∙ row false o)
 
   but-at : (b : Bool) (y : FixupContext) (s : Branch) (path : List Branch) (rest : List Token) → marked h (treeOf a) ≡ b → ownContext h (treeOf a) ≡ y
@@ -139,35 +141,35 @@ module _ (h : Handed) (a : Expr one) (g : Bool) (is-a : InsideIs a) (drops-a : D
   unfolding tokensBut
   but-at b y s path rest m e = ap₂ (λ c z. within c (insideBut s (tokensBut path) z (treeOf a)) rest) m e
 
-  drop-below : (p : Bool) → Operand h a p g → (s : Branch) (path : List Branch) → markedBelow s path (ownContext h (treeOf a)) (treeOf a) ≡ true → DropsOperand h a p g (s ∷ path)
+  drop-below : (p : Bool) → Operand k h a p g → (s : Branch) (path : List Branch) → markedBelow s path (ownContext h (treeOf a)) (treeOf a) ≡ true → DropsOperand k h a p g (s ∷ path)
   drop-below true o s path m =
       let e = own true o ∙ pick-true NONE (h .fixup) refl in
-      let d = drops-a NONE calm-none (λ e. true-not-false (sym e)) s path (subst (λ y. markedBelow s path y (treeOf a) ≡ true) e m) in
+      let d = drops-a grammar.NONE NONE calm-none (λ e. true-not-false (sym e)) s path (subst (λ y. markedBelow s path y (treeOf a) ≡ true) e m) in
       (inr (d .0), λ rest. but-at true NONE s path rest (row true o) e ∙ ap (λ r. LeftParen ∷ r) (d .1 (RightParen ∷ rest)))
   drop-below false o s path m =
       let e = own false o ∙ pick-false NONE (h .fixup) refl in
-      let d = drops-a (h .fixup) (o .calm) (o .settled) s path (subst (λ y. markedBelow s path y (treeOf a) ≡ true) e m) in
-      subst (λ f. (q : Pair a f) × ((rest : List Token) → tokensBut (s ∷ path) h (treeOf a) rest ≡ write (withoutCommas (dropPair a f q)) rest)) (o .flag)
+      let d = drops-a k (h .fixup) (o .calm) (o .settled) s path (subst (λ y. markedBelow s path y (treeOf a) ≡ true) e m) in
+      subst (λ f. (q : Pair a k f) × ((rest : List Token) → tokensBut (s ∷ path) h (treeOf a) rest ≡ write (withoutCommas (dropPair a k f q)) rest)) (o .flag)
       (d .0, λ rest. but-at false (h .fixup) s path rest (row false o) e ∙ d .1 rest)
 
-  drop-operand : (p : Bool) → Operand h a p g → (path : List Branch) → markedAt h (treeOf a) path ≡ true → DropsOperand h a p g path
+  drop-operand : (p : Bool) → Operand k h a p g → (path : List Branch) → markedAt h (treeOf a) path ≡ true → DropsOperand k h a p g path
   drop-operand p o [] m = drop-own p o (sym (here-marked h (treeOf a)) ∙ m)
   drop-operand p o (s ∷ path) m = drop-below p o s path (sym (below-marked h (treeOf a) s path) ∙ m)
 
-operand-drops : {h : Handed} {a : Expr one} {p g : Bool} → Operand h a p g → DropsInside a → (path : List Branch) → markedAt h (treeOf a) path ≡ true → DropsOperand h a p g path
-operand-drops {h} {a} {p} {g} o drops-a path m = drop-operand h a g (is one a) drops-a p o path m
+operand-drops : {k : Context} {h : Handed} {a : Expr one} {p g : Bool} → Operand k h a p g → DropsInside a → (path : List Branch) → markedAt h (treeOf a) path ≡ true → DropsOperand k h a p g path
+operand-drops {k} {h} {a} {p} {g} o drops-a path m = drop-operand k h a g (is one a) drops-a p o path m
 
 -- ---- owner by owner
 
-abbrev DropsList : {s : Sort} → Expr s → Handed → List Branch → Type 0
-DropsList l h p =
+abbrev DropsList : {s : Sort} → Expr s → Context → Handed → List Branch → Type 0
+DropsList l j h p =
     markedAt h (treeOf l) p ≡ true
-    → (q : Pair l false) × ((end : List Token) → tokensBut p h (treeOf l) (RightParen ∷ end) ≡ write (withoutCommas (dropPair l false q)) end)
+    → (q : Pair l j false) × ((end : List Token) → tokensBut p h (treeOf l) (RightParen ∷ end) ≡ write (withoutCommas (dropPair l j false q)) end)
 
 abbrev Drops : (s : Sort) → Expr s → Type 0
 Drops one e = DropsInside e
-Drops list l = (h : Handed) (p : List Branch) → DropsList l h p
-Drops items l = (h : Handed) (p : List Branch) → DropsList l h p
+Drops list l = (j : Context) (h : Handed) (p : List Branch) → DropsList l j h p
+Drops items l = (j : Context) (h : Handed) (p : List Branch) → DropsList l j h p
 
 -- no pair where nothing stands
 nothing : {A : Type 0} (h : Handed) (p : List Branch) → markedAt h none p ≡ true → A
@@ -200,10 +202,10 @@ link-below h a b s p rest = ap (λ c. within c (insideBut s (tokensBut p) (ownCo
 
 drops : (s : Sort) (e : Expr s) → Drops s e
 unfolding markedBelow tokensFor signsOf signLines lookup pick
-drops s (atom y) = λ x c w.
-    split (DropsAt (atom y) x) (λ p m. nothing (handsFirst x (treeOf (atom y))) p m) (λ p m. nothing (handsSecond x (treeOf (atom y))) p m)
-drops s (paren a) = λ x c w.
-    split (DropsAt (paren a) x)
+drops s (atom y) = λ k x c w.
+    split (DropsAt (atom y) k x) (λ p m. nothing (handsFirst x (treeOf (atom y))) p m) (λ p m. nothing (handsSecond x (treeOf (atom y))) p m)
+drops s (paren a) = λ k x c w.
+    split (DropsAt (paren a) k x)
     (λ p m.
     let d = operand-drops (alone a) (drops one a) p (subst (λ h. markedAt h (treeOf a) p ≡ true) (paren-first x a) m) in (
       d .0,
@@ -213,34 +215,34 @@ drops s (paren a) = λ x c w.
           ∙ ap (λ r. LeftParen ∷ r) (d .1 (RightParen ∷ end)),
     ))
     (λ p m. nothing (handsSecond x (treeOf (paren a))) p m)
-drops s (prefix y a) = λ x c w.
-    split (DropsAt (prefix y a) x)
+drops s (prefix y a) = λ k x c w.
+    split (DropsAt (prefix y a) k x)
     (λ p m.
-    let d = operand-drops (prefix-first x c w y a) (drops one a) p m in
+    let d = operand-drops (prefix-first k x c w y a) (drops one a) p m in
     (d .0, λ end. but-first x _ _ _ (signs (prefixToken y ∷ []) [] []) (prefix-signs y) (tokensBut p) end ∙ ap (λ r. prefixToken y ∷ r) (d .1 end)))
     (λ p m. nothing (handsSecond x (treeOf (prefix y a))) p m)
-drops s (binary o a b) = λ x c w.
-    split (DropsAt (binary o a b) x)
+drops s (binary o a b) = λ k x c w.
+    split (DropsAt (binary o a b) k x)
     (λ p m.
-    let d = operand-drops (binary-first x c w o a b) (drops one a) p m in (
+    let d = operand-drops (binary-first k x c w o a b) (drops one a) p m in (
       inl (d .0),
       λ end.
           but-first x _ _ _ (signs [] (operator o ∷ []) []) (operator-signs o (treeOf b)) (tokensBut p) end
-          ∙ ap (λ r. tokensBut p (handsFirst x (treeOf (binary o a b))) (treeOf a) (operator o ∷ r)) (operand-is (binary-second x c w o a b) (is one b) end)
+          ∙ ap (λ r. tokensBut p (handsFirst x (treeOf (binary o a b))) (treeOf a) (operator o ∷ r)) (operand-is (binary-second k x c w o a b) (is one b) end)
           ∙ d .1 _,
     ))
     (λ p m.
-    let d = operand-drops (binary-second x c w o a b) (drops one b) p m in (
+    let d = operand-drops (binary-second k x c w o a b) (drops one b) p m in (
       inr (d .0),
       λ end.
           but-second x _ _ _ (signs [] (operator o ∷ []) []) (operator-signs o (treeOf b)) (tokensBut p) end
           ∙ ap (λ r. tokensFor (handsFirst x (treeOf (binary o a b))) (treeOf a) (operator o ∷ r)) (d .1 end)
-          ∙ operand-is (binary-first x c w o a b) (is one a) _,
+          ∙ operand-is (binary-first k x c w o a b) (is one a) _,
     ))
-drops s (cast a t) = λ x c w.
-    split (DropsAt (cast a t) x)
+drops s (cast a t) = λ k x c w.
+    split (DropsAt (cast a t) k x)
     (λ p m.
-    let d = operand-drops (cast-first x c w a t) (drops one a) p m in (
+    let d = operand-drops (cast-first k x c w a t) (drops one a) p m in (
       d .0,
       λ end.
           but-first x _ _ _ (signs [] (As ∷ []) []) refl (tokensBut p) end
@@ -248,22 +250,22 @@ drops s (cast a t) = λ x c w.
           ∙ d .1 _,
     ))
     (λ p m. true-not-false (sym m ∙ unmarked t (handsSecond x (treeOf (cast a t))) p))
-drops s (member y a) = λ x c w.
-    split (DropsAt (member y a) x)
+drops s (member y a) = λ k x c w.
+    split (DropsAt (member y a) k x)
     (λ p m.
-    let d = operand-drops (member-first x c w y a) (drops one a) p m in
+    let d = operand-drops (member-first k x c w y a) (drops one a) p m in
     (d .0, λ end. but-first x _ _ _ (signs [] (Dot ∷ memberToken y ∷ []) []) (member-signs y) (tokensBut p) end ∙ d .1 _))
     (λ p m. nothing (handsSecond x (treeOf (member y a))) p m)
-drops s (try a) = λ x c w.
-    split (DropsAt (try a) x)
+drops s (try a) = λ k x c w.
+    split (DropsAt (try a) k x)
     (λ p m.
-    let d = operand-drops (try-first x c w a) (drops one a) p m in
+    let d = operand-drops (try-first k x c w a) (drops one a) p m in
     (d .0, λ end. but-first x _ _ _ (signs [] (Question ∷ []) []) refl (tokensBut p) end ∙ d .1 _))
     (λ p m. nothing (handsSecond x (treeOf (try a))) p m)
-drops s (index a b) = λ x c w.
-    split (DropsAt (index a b) x)
+drops s (index a b) = λ k x c w.
+    split (DropsAt (index a b) k x)
     (λ p m.
-    let d = operand-drops (index-first x c w a b) (drops one a) p m in (
+    let d = operand-drops (index-first k x c w a b) (drops one a) p m in (
       inl (d .0),
       λ end.
           but-first x _ _ _ (signs [] (LeftBracket ∷ []) (RightBracket ∷ [])) refl (tokensBut p) end
@@ -278,49 +280,49 @@ drops s (index a b) = λ x c w.
           but-second x _ _ _ (signs [] (LeftBracket ∷ []) (RightBracket ∷ [])) refl (tokensBut p) end
           ∙ ap (λ h. tokensFor (handsFirst x (treeOf (index a b))) (treeOf a) (LeftBracket ∷ tokensBut p h (treeOf b) (RightBracket ∷ end))) (index-second x a b)
           ∙ ap (λ r. tokensFor (handsFirst x (treeOf (index a b))) (treeOf a) (LeftBracket ∷ r)) (d .1 (RightBracket ∷ end))
-          ∙ operand-is (index-first x c w a b) (is one a) _,
+          ∙ operand-is (index-first k x c w a b) (is one a) _,
     ))
-drops s (call a l) = λ x c w.
-    split (DropsAt (call a l) x)
+drops s (call a l) = λ k x c w.
+    split (DropsAt (call a l) k x)
     (λ p m.
-    let d = operand-drops (call-first x c w a l) (drops one a) p m in (
+    let d = operand-drops (call-first k x c w a l) (drops one a) p m in (
       inl (d .0),
       λ end.
           but-first x _ _ _ (signs [] (LeftParen ∷ []) (RightParen ∷ [])) refl (tokensBut p) end
-          ∙ ap (λ r. tokensBut p (handsFirst x (treeOf (call a l))) (treeOf a) (LeftParen ∷ r)) (is list l (handsSecond x (treeOf (call a l))) end)
+          ∙ ap (λ r. tokensBut p (handsFirst x (treeOf (call a l))) (treeOf a) (LeftParen ∷ r)) (is list l k (handsSecond x (treeOf (call a l))) end)
           ∙ d .1 _,
     ))
     (λ p m.
-    let d = drops list l (handsSecond x (treeOf (call a l))) p m in (
+    let d = drops list l k (handsSecond x (treeOf (call a l))) p m in (
       inr (d .0),
       λ end.
           but-second x _ _ _ (signs [] (LeftParen ∷ []) (RightParen ∷ [])) refl (tokensBut p) end
           ∙ ap (λ r. tokensFor (handsFirst x (treeOf (call a l))) (treeOf a) (LeftParen ∷ r)) (d .1 end)
-          ∙ operand-is (call-first x c w a l) (is one a) _,
+          ∙ operand-is (call-first k x c w a l) (is one a) _,
     ))
-drops s (method y a l) = λ x c w.
-    split (DropsAt (method y a l) x)
+drops s (method y a l) = λ k x c w.
+    split (DropsAt (method y a l) k x)
     (λ p m.
-    let d = operand-drops (method-first x c w y a l) (drops one a) p m in (
+    let d = operand-drops (method-first k x c w y a l) (drops one a) p m in (
       inl (d .0),
       λ end.
           but-first x _ _ _ (signs [] (Dot ∷ Name y ∷ LeftParen ∷ []) (RightParen ∷ [])) refl (tokensBut p) end
-          ∙ ap (λ r. tokensBut p (handsFirst x (treeOf (method y a l))) (treeOf a) (Dot ∷ Name y ∷ LeftParen ∷ r)) (is list l (handsSecond x (treeOf (method y a l))) end)
+          ∙ ap (λ r. tokensBut p (handsFirst x (treeOf (method y a l))) (treeOf a) (Dot ∷ Name y ∷ LeftParen ∷ r)) (is list l k (handsSecond x (treeOf (method y a l))) end)
           ∙ d .1 _,
     ))
     (λ p m.
-    let d = drops list l (handsSecond x (treeOf (method y a l))) p m in (
+    let d = drops list l k (handsSecond x (treeOf (method y a l))) p m in (
       inr (d .0),
       λ end.
           but-second x _ _ _ (signs [] (Dot ∷ Name y ∷ LeftParen ∷ []) (RightParen ∷ [])) refl (tokensBut p) end
           ∙ ap (λ r. tokensFor (handsFirst x (treeOf (method y a l))) (treeOf a) (Dot ∷ Name y ∷ LeftParen ∷ r)) (d .1 end)
-          ∙ operand-is (method-first x c w y a l) (is one a) _,
+          ∙ operand-is (method-first k x c w y a l) (is one a) _,
     ))
-drops s noArguments = λ h p m. nothing h p m
-drops s (arguments l) = λ h p m. drops items l h p m
-drops s (lastArgument comma a) = λ h.
+drops s noArguments = λ j h p m. nothing h p m
+drops s (arguments l) = λ j h p m. drops items l j h p m
+drops s (lastArgument comma a) = λ j h.
     let x = ownContext h (treeOf (lastArgument comma a)) in
-    by-path (DropsList (lastArgument comma a) h) (λ m. link-here h (treeOf a) none m)
+    by-path (DropsList (lastArgument comma a) j h) (λ m. link-here h (treeOf a) none m)
     (λ p m.
     let d = operand-drops (alone a) (drops one a) p (subst (λ k. markedAt k (treeOf a) p ≡ true) (link-first x (treeOf a) none) (sym (below-marked h (linked (treeOf a) none) first p) ∙ m)) in (
       d .0,
@@ -331,10 +333,10 @@ drops s (lastArgument comma a) = λ h.
           ∙ d .1 (RightParen ∷ end),
     ))
     (λ p m. nothing (handsSecond x (treeOf (lastArgument comma a))) p (sym (below-marked h (linked (treeOf a) none) second p) ∙ m))
-drops s (moreArguments a l) = λ h.
+drops s (moreArguments a l) = λ j h.
     let t = treeOf (moreArguments a l) in
     let x = ownContext h t in
-    by-path (DropsList (moreArguments a l) h) (λ m. link-here h (treeOf a) (treeOf l) m)
+    by-path (DropsList (moreArguments a l) j h) (λ m. link-here h (treeOf a) (treeOf l) m)
     (λ p m.
     let d = operand-drops (alone a) (drops one a) p (subst (λ k. markedAt k (treeOf a) p ≡ true) (link-first x (treeOf a) (treeOf l)) (sym (below-marked h t first p) ∙ m)) in (
       inl (d .0),
@@ -342,11 +344,11 @@ drops s (moreArguments a l) = λ h.
           link-below h (treeOf a) (treeOf l) first p (RightParen ∷ end)
           ∙ but-first x _ _ _ (signs [] (Comma ∷ []) []) (link-signs l) (tokensBut p) (RightParen ∷ end)
           ∙ ap (λ k. tokensBut p k (treeOf a) (Comma ∷ tokensFor (handsSecond x t) (treeOf l) (RightParen ∷ end))) (link-first x (treeOf a) (treeOf l))
-          ∙ ap (λ r. tokensBut p (neither NONE (treeOf a)) (treeOf a) (Comma ∷ r)) (is items l (handsSecond x t) end)
+          ∙ ap (λ r. tokensBut p (neither NONE (treeOf a)) (treeOf a) (Comma ∷ r)) (is items l j (handsSecond x t) end)
           ∙ d .1 _,
     ))
     (λ p m.
-    let d = drops items l (handsSecond x t) p (sym (below-marked h t second p) ∙ m) in (
+    let d = drops items l j (handsSecond x t) p (sym (below-marked h t second p) ∙ m) in (
       inr (d .0),
       λ end.
           link-below h (treeOf a) (treeOf l) second p (RightParen ∷ end)
@@ -356,7 +358,7 @@ drops s (moreArguments a l) = λ h.
           ∙ operand-is (alone a) (is one a) _,
     ))
 
--- With a pair of the root's rows in context 0 left out.
-pub tokens-without : (e : Expr one) (p : List Branch) → markedAt (neither NONE (treeOf e)) (treeOf e) p ≡ true
-    → (q : Pair e false) × ((rest : List Token) → tokensBut p (neither NONE (treeOf e)) (treeOf e) rest ≡ write (withoutCommas (dropPair e false q)) rest)
-tokens-without e p m = operand-drops (alone e) (drops one e) p m
+-- With a pair of the root's rows left out.
+pub tokens-without : (k : Context) (e : Expr one) (p : List Branch) → markedAt (neither (begun k) (treeOf e)) (treeOf e) p ≡ true
+    → (q : AnyPair k e) × ((rest : List Token) → tokensBut p (neither (begun k) (treeOf e)) (treeOf e) rest ≡ write (withoutCommas (dropAny k e q)) rest)
+tokens-without k e p m = operand-drops (root k e) (drops one e) p m

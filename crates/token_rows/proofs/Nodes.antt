@@ -17,13 +17,13 @@ use Rattle.precedence.specs.declared.Precedence.the-variants as rank
 use Rattle.precedence.specs.Precedences.{rankOf, ofBinop, ofLines, closedBy, prefixAttrs, precedenceOf}
 use Rattle.classify.specs.Classify.{lastTypeInPath, pathLines, trailingPath}
 use Rattle.fixup.specs.declared.context.FixupContext.{FixupContext}
-use Rattle.fixup_look.specs.Looks.{isBareJump, isOpenAhead, isCastToPath}
+use Rattle.fixup_look.specs.Looks.{isStruct as isStructTree, isBareReturn, isBareJump, isOpenAhead, isCastToPath}
 use Rattle.fixup.specs.Fixup.{effective, scanLeftLines, scanLeft, leftOfBinary}
 use Rattle.token_grammar.specs.Tokens.{Operator, number, operatorOf}
 use Rattle.token_grammar.specs.Tokens as token
 use Rattle.token_grammar.specs.Levels.{kind, level}
 use Rattle.token_grammar.specs.Types.{Sort, one, list, items, TypePrefix, constPtr, mutPtr, sharedRef, mutRef, TypeSign, infer, never, Ty, named, applied, pointing, sign, noTypes, types, lastType, moreTypes, typeEndsInName}
-use Rattle.token_grammar.specs.Expressions.{Atom, path, literal, Prefix, neg, deref, invert, ref, refMut, Member, byName, byNumber, awaited, Expr, atom, paren, prefix, binary, cast, member, try, index, call, method, kindOf}
+use Rattle.token_grammar.specs.Expressions.{Atom, path, literal, structure, Prefix, neg, deref, invert, ref, refMut, Member, byName, byNumber, awaited, Expr, atom, paren, prefix, binary, cast, member, try, index, call, method, kindOf, isStruct}
 use Rattle.token_grammar.proofs.Added.{isCastToName, strength}
 use Rattle.token_grammar.proofs.Tokens.{operator-number, number-below}
 use Rattle.token_grammar.proofs.Levels.{binop-level}
@@ -62,34 +62,37 @@ path-ends (sign never) = refl
 pub record Facts (e : Expr one) : Type 0 where
   pub precedence : rankOf (precedenceOf (treeOf e)) ≡ level (kindOf e)
   pub cast-to-path : isCastToPath (treeOf e) ≡ isCastToName e
+  pub struct : isStructTree (treeOf e) ≡ isStruct e
+  pub no-return : isBareReturn (treeOf e) ≡ false
   pub no-jump : isBareJump (treeOf e) ≡ false
   pub not-ahead : isOpenAhead (treeOf e) ≡ false
   pub expression : isExpression (treeOf e) ≡ true
   pub there : isThere (treeOf e) ≡ true
 
 pub facts : (e : Expr one) → Facts e
-unfolding precedenceOf walk follow ofLines closedBy prefixAttrs isCastToPath isBareJump isOpenAhead atRoot lookup pick classOf operatorLabel ofBinop kind
-facts (atom (path y)) = record { precedence = refl; cast-to-path = refl; no-jump = refl; not-ahead = refl; expression = refl; there = refl }
-facts (atom (literal y)) = record { precedence = refl; cast-to-path = refl; no-jump = refl; not-ahead = refl; expression = refl; there = refl }
-facts (paren a) = record { precedence = refl; cast-to-path = refl; no-jump = refl; not-ahead = refl; expression = refl; there = refl }
-facts (prefix neg a) = record { precedence = refl; cast-to-path = refl; no-jump = refl; not-ahead = refl; expression = refl; there = refl }
-facts (prefix deref a) = record { precedence = refl; cast-to-path = refl; no-jump = refl; not-ahead = refl; expression = refl; there = refl }
-facts (prefix invert a) = record { precedence = refl; cast-to-path = refl; no-jump = refl; not-ahead = refl; expression = refl; there = refl }
-facts (prefix ref a) = record { precedence = refl; cast-to-path = refl; no-jump = refl; not-ahead = refl; expression = refl; there = refl }
-facts (prefix refMut a) = record { precedence = refl; cast-to-path = refl; no-jump = refl; not-ahead = refl; expression = refl; there = refl }
+unfolding precedenceOf walk follow ofLines closedBy prefixAttrs isCastToPath isStructTree isBareReturn isBareJump isOpenAhead atRoot lookup pick classOf operatorLabel ofBinop kind
+facts (atom (path y)) = record { precedence = refl; cast-to-path = refl; struct = refl; no-return = refl; no-jump = refl; not-ahead = refl; expression = refl; there = refl }
+facts (atom (literal y)) = record { precedence = refl; cast-to-path = refl; struct = refl; no-return = refl; no-jump = refl; not-ahead = refl; expression = refl; there = refl }
+facts (atom structure) = record { precedence = refl; cast-to-path = refl; struct = refl; no-return = refl; no-jump = refl; not-ahead = refl; expression = refl; there = refl }
+facts (paren a) = record { precedence = refl; cast-to-path = refl; struct = refl; no-return = refl; no-jump = refl; not-ahead = refl; expression = refl; there = refl }
+facts (prefix neg a) = record { precedence = refl; cast-to-path = refl; struct = refl; no-return = refl; no-jump = refl; not-ahead = refl; expression = refl; there = refl }
+facts (prefix deref a) = record { precedence = refl; cast-to-path = refl; struct = refl; no-return = refl; no-jump = refl; not-ahead = refl; expression = refl; there = refl }
+facts (prefix invert a) = record { precedence = refl; cast-to-path = refl; struct = refl; no-return = refl; no-jump = refl; not-ahead = refl; expression = refl; there = refl }
+facts (prefix ref a) = record { precedence = refl; cast-to-path = refl; struct = refl; no-return = refl; no-jump = refl; not-ahead = refl; expression = refl; there = refl }
+facts (prefix refMut a) = record { precedence = refl; cast-to-path = refl; struct = refl; no-return = refl; no-jump = refl; not-ahead = refl; expression = refl; there = refl }
 facts (binary o a b) = go (operated o)
   where
     go : Operating o → Facts (binary o a b)
-    go (assigning e) = rw e (record { precedence = refl; cast-to-path = refl; no-jump = refl; not-ahead = refl; expression = refl; there = refl })
-    go (operating h e) = record { precedence = rw e (binop-level o h); cast-to-path = rw e; no-jump = rw e; not-ahead = rw e; expression = rw e; there = refl }
-facts (cast a t) = record { precedence = refl; cast-to-path = path-ends t; no-jump = refl; not-ahead = refl; expression = refl; there = refl }
-facts (member (byName y) a) = record { precedence = refl; cast-to-path = refl; no-jump = refl; not-ahead = refl; expression = refl; there = refl }
-facts (member (byNumber y) a) = record { precedence = refl; cast-to-path = refl; no-jump = refl; not-ahead = refl; expression = refl; there = refl }
-facts (member awaited a) = record { precedence = refl; cast-to-path = refl; no-jump = refl; not-ahead = refl; expression = refl; there = refl }
-facts (try a) = record { precedence = refl; cast-to-path = refl; no-jump = refl; not-ahead = refl; expression = refl; there = refl }
-facts (index a b) = record { precedence = refl; cast-to-path = refl; no-jump = refl; not-ahead = refl; expression = refl; there = refl }
-facts (call a l) = record { precedence = refl; cast-to-path = refl; no-jump = refl; not-ahead = refl; expression = refl; there = refl }
-facts (method y a l) = record { precedence = refl; cast-to-path = refl; no-jump = refl; not-ahead = refl; expression = refl; there = refl }
+    go (assigning e) = rw e (record { precedence = refl; cast-to-path = refl; struct = refl; no-return = refl; no-jump = refl; not-ahead = refl; expression = refl; there = refl })
+    go (operating h e) = record { precedence = rw e (binop-level o h); cast-to-path = rw e; struct = rw e; no-return = rw e; no-jump = rw e; not-ahead = rw e; expression = rw e; there = refl }
+facts (cast a t) = record { precedence = refl; cast-to-path = path-ends t; struct = refl; no-return = refl; no-jump = refl; not-ahead = refl; expression = refl; there = refl }
+facts (member (byName y) a) = record { precedence = refl; cast-to-path = refl; struct = refl; no-return = refl; no-jump = refl; not-ahead = refl; expression = refl; there = refl }
+facts (member (byNumber y) a) = record { precedence = refl; cast-to-path = refl; struct = refl; no-return = refl; no-jump = refl; not-ahead = refl; expression = refl; there = refl }
+facts (member awaited a) = record { precedence = refl; cast-to-path = refl; struct = refl; no-return = refl; no-jump = refl; not-ahead = refl; expression = refl; there = refl }
+facts (try a) = record { precedence = refl; cast-to-path = refl; struct = refl; no-return = refl; no-jump = refl; not-ahead = refl; expression = refl; there = refl }
+facts (index a b) = record { precedence = refl; cast-to-path = refl; struct = refl; no-return = refl; no-jump = refl; not-ahead = refl; expression = refl; there = refl }
+facts (call a l) = record { precedence = refl; cast-to-path = refl; struct = refl; no-return = refl; no-jump = refl; not-ahead = refl; expression = refl; there = refl }
+facts (method y a l) = record { precedence = refl; cast-to-path = refl; struct = refl; no-return = refl; no-jump = refl; not-ahead = refl; expression = refl; there = refl }
 
 -- the effective precedence is the strength
 pub effective-is : (x : FixupContext) (e : Expr one) → rankOf (effective x (treeOf e)) ≡ strength (x .«next_operator_can_begin_generics») e

@@ -15,7 +15,6 @@ use Rattle.tree.specs.Trees.{Label, Tree, none, node, operandAt, treeAt}
 use Rattle.tree.specs.Walks.{isThere}
 use Rattle.tree_rules.specs.Refusals.{Accepted}
 use Rattle.tree_rules.proofs.Accepted.{count-bounds}
-use Rattle.fixup.specs.Contexts.{NONE}
 use Rattle.expr.specs.declared.Handed.{Handed}
 use Rattle.expr.specs.Handed.{neither}
 use Rattle.expr.specs.Expr.{handsFirst, handsSecond}
@@ -24,7 +23,10 @@ use Rattle.row_walk.specs.Walk.{contexts, contextNumbered, rootHanded, placed}
 use Rattle.row_walk.specs.Paths.{Branch, first, second, numberAt, treeBy, handedBy, rowIn}
 use Rattle.row_walk.proofs.Paths.{there-at, row-at, one-path}
 use Rattle.token_grammar.specs.Tokens.{Token, LeftParen, RightParen}
+use Rattle.token_grammar.specs.Grammar.{Context, CONDITION, contextNumber}
+use Rattle.token_grammar.specs.Grammar as grammar
 use Rattle.token_plain.specs.Written.{Signs, signsOf, within, tokensAt, hasPair, butAt}
+use Rattle.token_rows.proofs.Contexts.{begun}
 use Rattle.token_rows.proofs.Tokens.{marked, inside, tokensFor, insideFor}
 use Rattle.token_rows.proofs.LeftOut.{insideBut, tokensBut, markedAt}
 
@@ -106,32 +108,38 @@ module _ (cells : List ℕ) (count : ℕ) (pair : ℕ → Bool) where
 
 -- ---- the rows in a buffer
 
-module _ (count : ℕ) (cells : List ℕ) (ok : Accepted 0 count cells) (into : List ℕ) (room : rowCells * count ≤ length into) where
+begun-at : (k : Context) (t : Tree) → rootHanded (contextNumber k) t ≡ neither (begun k) t
+unfolding contextNumbered contexts lookup pick
+begun-at grammar.NONE t = refl
+begun-at CONDITION t = refl
+
+module _ (k : Context) (count : ℕ) (cells : List ℕ) (ok : Accepted (contextNumber k) count cells) (into : List ℕ) (room : rowCells * count ≤ length into) where
   abbrev root : Tree
   root = treeAt cells count 1
 
-  -- the rows in context 0
+  -- the rows in the context
   abbrev rows : List ℕ
-  rows = placed cells count 1 (rowsOf (rootHanded 0 root) root) into
+  rows = placed cells count 1 (rowsOf (rootHanded (contextNumber k) root) root) into
 
-  pub pair-at : (p : List Branch) → isThere (treeBy root p) ≡ true → hasPair rows (numberAt cells count 1 p) ≡ markedAt (neither NONE root) root p
-  unfolding hasPair markedAt marked contextNumbered contexts lookup pick
+  pub pair-at : (p : List Branch) → isThere (treeBy root p) ≡ true → hasPair rows (numberAt cells count 1 p) ≡ markedAt (neither (begun k) root) root p
+  unfolding hasPair markedAt marked
   pair-at p e =
-      let k = count-bounds 0 count cells ok in
-      ap (λ r. isOneOf (1 ∷ 3 ∷ []) (r .pair)) (row-at cells count 0 ok 1 p (rootHanded 0 root) into (omega arith) (k .0) room (there-at cells count 1 p e))
+      let b = count-bounds (contextNumber k) count cells ok in
+      ap (λ r. isOneOf (1 ∷ 3 ∷ []) (r .pair)) (row-at cells count (contextNumber k) ok 1 p (rootHanded (contextNumber k) root) into (omega arith) (b .0) room (there-at cells count 1 p e))
+      ∙ ap (λ h. marked (handedBy h root p) (treeBy root p)) (begun-at k root)
 
   -- The tokens of the table are those by what is handed down.
-  pub tokens-from : (rest : List Token) → tokensAt cells count (hasPair rows) 1 root rest ≡ tokensFor (neither NONE root) root rest
-  tokens-from rest = tokens-agree cells count (hasPair rows) root 1 (neither NONE root) pair-at rest
+  pub tokens-from : (rest : List Token) → tokensAt cells count (hasPair rows) 1 root rest ≡ tokensFor (neither (begun k) root) root rest
+  tokens-from rest = tokens-agree cells count (hasPair rows) root 1 (neither (begun k) root) pair-at rest
 
   -- So without the pair of the node at a path.
   pub tokens-leaving : (p : List Branch) → isThere (treeBy root p) ≡ true → (rest : List Token)
-      → tokensAt cells count (butAt (numberAt cells count 1 p) (hasPair rows)) 1 root rest ≡ tokensBut p (neither NONE root) root rest
+      → tokensAt cells count (butAt (numberAt cells count 1 p) (hasPair rows)) 1 root rest ≡ tokensBut p (neither (begun k) root) root rest
   unfolding butAt
   tokens-leaving p e rest =
-      tokens-but cells count (butAt (numberAt cells count 1 p) (hasPair rows)) p root 1 (neither NONE root) e
+      tokens-but cells count (butAt (numberAt cells count 1 p) (hasPair rows)) p root 1 (neither (begun k) root) e
       ((λ q there n. rw (ne-eqb (numberAt cells count 1 q) (numberAt cells count 1 p) (λ z. n (one q there z))) (pair-at q there)), rw (eq-eqb (numberAt cells count 1 p) (numberAt cells count 1 p) refl))
       rest
     where
       one : (q : List Branch) → isThere (treeBy root q) ≡ true → numberAt cells count 1 q ≡ numberAt cells count 1 p → q ≡ p
-      one q there z = one-path cells count 0 ok 1 q p (omega arith) (count-bounds 0 count cells ok .0) (there-at cells count 1 q there) z
+      one q there z = one-path cells count (contextNumber k) ok 1 q p (omega arith) (count-bounds (contextNumber k) count cells ok .0) (there-at cells count 1 q there) z

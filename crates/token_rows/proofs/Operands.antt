@@ -1,4 +1,4 @@
--- Left and right operands of plain owners in context 0: the scans change no precedence. Assumes nothing.
+-- Left and right operands of plain owners in contexts 0 and 3: the scans change no precedence. Assumes nothing.
 use mathlib.Core.Path.{_≡_, refl, sym, ap, _∙_}
 use mathlib.Core.Bool.{Bool, true, false, not, _&&_, _||_}
 use mathlib.Core.List.{List, [], _∷_}
@@ -20,6 +20,7 @@ use Rattle.token_grammar.specs.Tokens.{Operator, number}
 use Rattle.token_grammar.specs.Levels.{kind, level}
 use Rattle.token_grammar.specs.Types.{one}
 use Rattle.token_grammar.specs.Expressions.{Atom, path, literal, Prefix, neg, deref, invert, ref, refMut, Member, byName, byNumber, awaited, Expr, atom, paren, prefix, binary, cast, member, try, index, call, method, kindOf}
+use Rattle.token_grammar.specs.Grammar.{Context}
 use Rattle.token_grammar.proofs.Added.{isCastToName, strength}
 use Rattle.token_grammar.proofs.Levels.{binop-level}
 use Rattle.token_plain.specs.Trees.{operatorLabel, treeOf}
@@ -29,9 +30,9 @@ use Rattle.token_rows.proofs.Scans.{consumes-left}
 
 -- ---- left operands: scan_right consumes
 
-pub left-is : (e : Expr one) (x : FixupContext) → Calm x → 1 ≤ rankOf (x .«next_operator») → leftmostPrecedence (treeOf e) x ≡ effective x (treeOf e)
+pub left-is : (k : Context) (e : Expr one) (x : FixupContext) → Calm k x → 1 ≤ rankOf (x .«next_operator») → leftmostPrecedence (treeOf e) x ≡ effective x (treeOf e)
 unfolding leftmostPrecedence bailsOut
-left-is e x c h = rw (consumes-left e x c h) (off (not (x .«next_operator_can_begin_expr») || same (x .«next_operator») rank.Range))
+left-is k e x c h = rw (consumes-left k e x c h) (off (not (x .«next_operator_can_begin_expr») || same (x .«next_operator») rank.Range))
   where
     off : (b : Bool) → pick (b && false) rank.Unambiguous (effective x (treeOf e)) ≡ effective x (treeOf e)
     off true = pick-false _ _ refl

@@ -1,4 +1,4 @@
--- The owners' grouping tests on plain operands in context 0: an operand gets a pair where it is weaker than its place allows. Assumes nothing.
+-- The owners' grouping tests on plain operands in contexts 0 and 3: an operand gets a pair where the context excludes it or it is weaker than its place allows. Assumes nothing.
 use mathlib.Core.Path.{_≡_, refl, sym, ap, ap₂, _∙_}
 use mathlib.Core.Bool.{Bool, true, false, not, _&&_, _||_}
 use mathlib.Core.List.{List, [], _∷_}
@@ -17,7 +17,7 @@ use Rattle.precedence.specs.declared.Lean.{Lean}
 use Rattle.precedence.specs.declared.Lean.the-variants.{Left, Right, Neither}
 use Rattle.precedence.specs.Precedences.{rankOf, atMost, operators, binopBinding, ofBinop}
 use Rattle.fixup.specs.declared.context.FixupContext.{FixupContext}
-use Rattle.fixup.specs.Contexts.{NONE, withOperator, withDot, rightmost}
+use Rattle.fixup.specs.Contexts.{withOperator, withDot, rightmost}
 use Rattle.fixup.specs.Fixup.{parenthesize, effective}
 use Rattle.fixup_scan.specs.Scans.{scanned}
 use Rattle.fixup_subexpression.specs.Subexpressions.{operand, leftmostWithOperator, leftmostWithDot, rightmostOperand}
@@ -28,14 +28,14 @@ use Rattle.token_grammar.specs.Tokens.{Operator, number}
 use Rattle.token_grammar.specs.Tokens as token
 use Rattle.token_grammar.specs.Levels.{kind, level, leansRight, before, postfixes}
 use Rattle.token_grammar.specs.Types.{one}
-use Rattle.token_grammar.specs.Expressions.{Atom, path, literal, Prefix, neg, deref, invert, ref, refMut, Member, byName, byNumber, awaited, Expr, atom, paren, prefix, binary, cast, member, try, index, call, method, kindOf, endsInDotName}
-use Rattle.token_grammar.specs.Grammar.{opensArguments}
-use Rattle.token_grammar.proofs.Added.{isCastToName, strength, tooWeak, lowestRight, tooWeakBefore, tooWeakAfter, tooWeakToCall}
+use Rattle.token_grammar.specs.Expressions.{Atom, path, literal, structure, Prefix, neg, deref, invert, ref, refMut, Member, byName, byNumber, awaited, Expr, atom, paren, prefix, binary, cast, member, try, index, call, method, kindOf, endsInDotName}
+use Rattle.token_grammar.specs.Grammar.{Context, opensArguments, excluded}
+use Rattle.token_grammar.proofs.Added.{isCastToName, strength}
 use Rattle.token_grammar.proofs.Tokens.{ofOperators, each-operator}
 use Rattle.token_grammar.proofs.Levels.{no-range, operator-high}
-use Rattle.token_grammar.proofs.Pairs.{strength-no-range}
+use Rattle.token_grammar.proofs.Pairs.{strength-no-range, rightLowest}
 use Rattle.token_plain.specs.Trees.{operatorLabel, treeOf}
-use Rattle.token_rows.proofs.Contexts.{Calm, calm-none, calm-parenthesize, calm-operator, calm-dot, calm-rightmost}
+use Rattle.token_rows.proofs.Contexts.{begun, Calm, calm-begun, calm-parenthesize, calm-operator, calm-dot, calm-rightmost}
 use Rattle.token_rows.proofs.Nodes.{Operating, assigning, operating, operated, effective-is}
 use Rattle.token_rows.proofs.Operands.{left-is, Settled, right-is}
 
@@ -45,34 +45,37 @@ use Rattle.token_rows.proofs.Operands.{left-is, Settled, right-is}
 abbrev pub Groups : (Precedence → Bool) → Bool → Expr one → Bool → Type 0
 Groups group g e v = (p : Precedence) → rankOf p ≡ strength g e → group p ≡ v
 
-off : (b : Bool) → b || false ≡ b
-off true = refl
-off false = refl
+swap : (a b : Bool) → a || b ≡ b || a
+swap true true = refl
+swap true false = refl
+swap false true = refl
+swap false false = refl
 
 -- an operand whose precedence is the effective one, in a calm context
-by-strength : (x : FixupContext) (q : Precedence) (group : Precedence → Bool) (e : Expr one) (v : Bool) → Calm x → q ≡ effective x (treeOf e) → Groups group (x .«next_operator_can_begin_generics») e v
-    → outerPair (groupedBy (operand q x) group) (treeOf e) ≡ v
+by-strength : (k : Context) (x : FixupContext) (q : Precedence) (group : Precedence → Bool) (e : Expr one) (v : Bool) → Calm k x → q ≡ effective x (treeOf e) → Groups group (x .«next_operator_can_begin_generics») e v
+    → outerPair (groupedBy (operand q x) group) (treeOf e) ≡ excluded k e || v
 unfolding outerPair groupedBy
-by-strength x q group e v c k h = rw (calm-parenthesize x (treeOf e) c) (off (group q) ∙ h q (ap rankOf k ∙ effective-is x e))
+by-strength k x q group e v c w h = rw (calm-parenthesize k x e c) (swap (group q) (excluded k e) ∙ ap (λ b. excluded k e || b) (h q (ap rankOf w ∙ effective-is x e)))
 
-module _ (x : FixupContext) (c : Calm x) (e : Expr one) (group : Precedence → Bool) (v : Bool) where
+module _ (k : Context) (x : FixupContext) (c : Calm k x) (e : Expr one) (group : Precedence → Bool) (v : Bool) where
   pub operator-pair : (begins generics : Bool) (next : Precedence) → 1 ≤ rankOf next → Groups group generics e v
-      → outerPair (groupedBy (leftmostWithOperator x (treeOf e) begins generics next) group) (treeOf e) ≡ v
-  operator-pair begins generics next h k =
-      let y = calm-operator x c begins generics next in
-      by-strength (withOperator x begins generics next) _ group e v y (left-is e (withOperator x begins generics next) y h) k
+      → outerPair (groupedBy (leftmostWithOperator x (treeOf e) begins generics next) group) (treeOf e) ≡ excluded k e || v
+  operator-pair begins generics next h w =
+      let y = calm-operator k x c begins generics next in
+      by-strength k (withOperator x begins generics next) _ group e v y (left-is k e (withOperator x begins generics next) y h) w
 
-  pub dot-pair : Groups group false e v → outerPair (groupedBy (leftmostWithDot x (treeOf e)) group) (treeOf e) ≡ v
-  dot-pair k = by-strength (withDot x) _ group e v (calm-dot x c) (left-is e (withDot x) (calm-dot x c) (omega arith)) k
+  pub dot-pair : Groups group false e v → outerPair (groupedBy (leftmostWithDot x (treeOf e)) group) (treeOf e) ≡ excluded k e || v
+  dot-pair w = by-strength k (withDot x) _ group e v (calm-dot k x c) (left-is k e (withDot x) (calm-dot k x c) (omega arith)) w
 
   pub end-pair : (previous : Precedence) → Settled x → rankOf previous ≤ 14 → Groups group (x .«next_operator_can_begin_generics») e v
-      → outerPair (groupedBy (rightmostOperand x (treeOf e) previous) group) (treeOf e) ≡ v
+      → outerPair (groupedBy (rightmostOperand x (treeOf e) previous) group) (treeOf e) ≡ excluded k e || v
   unfolding scanned
-  end-pair previous s h k = by-strength (rightmost x false false previous) _ group e v (calm-rightmost x c false false previous) (right-is e (rightmost x false false previous) s h) k
+  end-pair previous s h w = by-strength k (rightmost x false false previous) _ group e v (calm-rightmost k x c previous) (right-is e (rightmost x false false previous) s h) w
 
-pub no-pair : (e : Expr one) → outerPair (neither NONE (treeOf e)) (treeOf e) ≡ false
+-- where no owner tests, the context alone asks for a pair
+pub root-pair : (k : Context) (e : Expr one) → outerPair (neither (begun k) (treeOf e)) (treeOf e) ≡ excluded k e
 unfolding outerPair neither ungrouped
-no-pair e = calm-parenthesize NONE (treeOf e) calm-none
+root-pair k e = calm-parenthesize k (begun k) e (calm-begun k)
 
 -- ---- operators
 
@@ -151,7 +154,7 @@ testLeft o = leftRank (binopBinding (number o) .lean) (ofBinop (number o))
 abbrev testRight : Operator → ℕ
 testRight o = rightRank (binopBinding (number o) .lean) (ofBinop (number o))
 
-pub assign-left : (a : Expr one) → Groups (leftNeedsGroup Right rank.Assign) false a (tooWeakBefore token.Assign a)
+pub assign-left : (a : Expr one) → Groups (leftNeedsGroup Right rank.Assign) false a (ltb (strength false a) (before (kind token.Assign)))
 unfolding kind opensArguments lookup pick
 assign-left a p e = left-rank Right rank.Assign p ∙ ap (λ n. ltb n 3) e ∙ assign-test false a
 
@@ -169,21 +172,25 @@ left-test o h g a p s = left-rank (binopBinding (number o) .lean) (ofBinop (numb
         ap (ltb (strength g a))
         (equal-unless (eqb (level (kind o)) 1) (testLeft o) (before (kind o)) e (but-assign (λ q. eqb (level (kind q)) 1 || eqb (testLeft q) (before (kind q))) tt o h))
 
-pub right-test : (o : Operator) → number o < 28 → (g : Bool) (b : Expr one) → Groups (rightNeedsGroup (binopBinding (number o) .lean) (ofBinop (number o))) g b (tooWeakAfter o g b)
+pub right-test : (o : Operator) → number o < 28 → (g : Bool) (b : Expr one) → Groups (rightNeedsGroup (binopBinding (number o) .lean) (ofBinop (number o))) g b (ltb (strength g b) (rightLowest (kind o)))
 unfolding ofBinop operators lookup pick kind
 right-test o h g b p s =
     right-rank (binopBinding (number o) .lean) (ofBinop (number o)) p
-    ∙ ap₂ ltb s (eqb→eq (testRight o) (lowestRight (leansRight (kind o)) (level (kind o))) (but-assign (λ q. eqb (testRight q) (lowestRight (leansRight (kind q)) (level (kind q)))) tt o h))
+    ∙ ap₂ ltb s (eqb→eq (testRight o) (rightLowest (kind o)) (but-assign (λ q. eqb (testRight q) (rightLowest (kind q))) tt o h))
 
 -- ---- what is called: a Field by its member alone, anything else by its strength
 
-weak-call : (a : Expr one) → strength false a < 15 → ltb (strength false a) 15 ≡ tooWeakToCall a
+abbrev pub weakOrDotName : Expr one → Bool
+weakOrDotName a = ltb (strength false a) (before postfixes) || endsInDotName a
+
+weak-call : (a : Expr one) → strength false a < 15 → ltb (strength false a) 15 ≡ weakOrDotName a
 weak-call a h = rw (lt-ltb (strength false a) 15 h)
 
-pub call-test : (a : Expr one) → Groups (callNeedsGroup (treeOf a)) false a (tooWeakToCall a)
+pub call-test : (a : Expr one) → Groups (callNeedsGroup (treeOf a)) false a (weakOrDotName a)
 unfolding callNeedsGroup atRoot lookup pick strength operatorLabel kind
 call-test (atom (path y)) p s = rw s
 call-test (atom (literal y)) p s = rw s
+call-test (atom structure) p s = rw s
 call-test (paren a) p s = rw s
 call-test (prefix neg a) p s = rw s
 call-test (prefix deref a) p s = rw s
@@ -192,7 +199,7 @@ call-test (prefix ref a) p s = rw s
 call-test (prefix refMut a) p s = rw s
 call-test (binary o a b) p s = go (operated o) s
   where
-    go : Operating o → rankOf p ≡ strength false (binary o a b) → callNeedsGroup (treeOf (binary o a b)) p ≡ tooWeakToCall (binary o a b)
+    go : Operating o → rankOf p ≡ strength false (binary o a b) → callNeedsGroup (treeOf (binary o a b)) p ≡ weakOrDotName (binary o a b)
     go (assigning e) s = rw e (lt-ltb (rankOf p) 15 (rw (s, e) (omega arith)))
     go (operating h e) s = rw e (ap (λ n. ltb n 15) s ∙ weak-call (binary o a b) (omega (arith, operator-high o)))
 call-test (cast a t) p s = rw s

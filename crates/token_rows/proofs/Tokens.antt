@@ -1,4 +1,4 @@
--- What the rows of a plain tree in context 0 write is the tree with the pairs that it needs. Assumes nothing.
+-- What the rows of a plain tree in context 0 or 3 write is the tree with the pairs that it needs. Assumes nothing.
 use mathlib.Core.Path.{_≡_, refl, sym, ap, _∙_}
 use mathlib.Core.Bool.{Bool, true, false, _||_}
 use mathlib.Core.List.{List, [], _∷_, _++_}
@@ -22,16 +22,18 @@ use Rattle.token_grammar.specs.Tokens.{Operator, number, Token, operator, Lt, G
 use Rattle.token_grammar.specs.Tokens as token
 use Rattle.token_grammar.specs.Levels.{kind, level}
 use Rattle.token_grammar.specs.Types.{Sort, one, list, items, TypePrefix, constPtr, mutPtr, sharedRef, mutRef, TypeSign, infer, never, Ty, named, applied, pointing, sign, noTypes, types, lastType, moreTypes, typePrefixToken, typeSignToken, writeType}
-use Rattle.token_grammar.specs.Expressions.{Atom, path, literal, Prefix, neg, deref, invert, ref, refMut, Member, byName, byNumber, awaited, Expr, atom, paren, prefix, binary, cast, member, try, index, call, method, noArguments, arguments, lastArgument, moreArguments, atomToken, prefixToken, memberToken, write}
+use Rattle.token_grammar.specs.Expressions.{Atom, path, literal, structure, Prefix, neg, deref, invert, ref, refMut, Member, byName, byNumber, awaited, Expr, atom, paren, prefix, binary, cast, member, try, index, call, method, noArguments, arguments, lastArgument, moreArguments, atomToken, prefixToken, memberToken, write}
+use Rattle.token_grammar.specs.Grammar.{Context}
+use Rattle.token_grammar.specs.Grammar as grammar
 use Rattle.token_grammar.specs.Commas.{withoutTypeCommas, withoutCommas}
-use Rattle.token_grammar.proofs.Added.{withPair, addPairs}
+use Rattle.token_grammar.proofs.Added.{withPair, addPairs, addAll}
 use Rattle.token_grammar.proofs.Tokens.{operator-number}
 use Rattle.token_plain.specs.Trees.{label, atomLabel, prefixLabel, operatorLabel, memberLabel, typePrefixLabel, typeSignLabel, treeOf, treeOfType}
 use Rattle.token_plain.specs.Written.{Signs, signs, signLines, signsOf, within}
-use Rattle.token_rows.proofs.Contexts.{Calm, calm-none, calm-operator, calm-dot, calm-rightmost}
+use Rattle.token_rows.proofs.Contexts.{begun, Calm, calm-none}
 use Rattle.token_rows.proofs.Nodes.{Operating, assigning, operating, operated, facts}
 use Rattle.token_rows.proofs.Operands.{Settled}
-use Rattle.token_rows.proofs.Handed.{Operand, alone, prefix-first, binary-first, binary-second, cast-first, member-first, try-first, index-first, call-first, method-first, paren-first, index-second, link-first}
+use Rattle.token_rows.proofs.Handed.{Operand, root, alone, prefix-first, binary-first, binary-second, cast-first, member-first, try-first, index-first, call-first, method-first, paren-first, index-second, link-first}
 
 -- ---- tokens by what is handed down, from the root on
 
@@ -88,6 +90,7 @@ atom-signs : (x : Atom) → signsOf (atomLabel x) none ≡ signs (atomToken x �
 unfolding signsOf signLines lookup pick
 atom-signs (path y) = refl
 atom-signs (literal y) = refl
+atom-signs structure = refl
 
 pub prefix-signs : (p : Prefix) → signsOf (prefixLabel p) none ≡ signs (prefixToken p ∷ []) [] []
 unfolding signsOf signLines lookup pick
@@ -178,69 +181,69 @@ types-are (moreTypes t l) h rest =
 -- ---- expressions, operand by operand
 
 abbrev pub InsideIs : Expr one → Type 0
-InsideIs e = (x : FixupContext) → Calm x → Settled x → (end : List Token) → insideFor x (treeOf e) end ≡ write (withoutCommas (addPairs e (x .«next_operator_can_begin_generics»))) end
+InsideIs e = (k : Context) (x : FixupContext) → Calm k x → Settled x → (end : List Token) → insideFor x (treeOf e) end ≡ write (withoutCommas (addPairs e k (x .«next_operator_can_begin_generics»))) end
 
-pub operand-is : {h : Handed} {a : Expr one} {p g : Bool} → Operand h a p g → InsideIs a → (rest : List Token) → tokensFor h (treeOf a) rest ≡ write (withoutCommas (withPair p g (addPairs a))) rest
-operand-is {h} {a} {p} {g} o is rest =
+pub operand-is : {k : Context} {h : Handed} {a : Expr one} {p g : Bool} → Operand k h a p g → InsideIs a → (rest : List Token) → tokensFor h (treeOf a) rest ≡ write (withoutCommas (withPair p k g (addPairs a))) rest
+operand-is {k} {h} {a} {p} {g} o is rest =
     tokens-by h (treeOf a) rest
     ∙ rw (marked-expression h (treeOf a) (facts a .expression) ∙ o .pair, own-expression h (treeOf a) (facts a .expression) ∙ ap (λ b. pick b NONE (h .fixup)) (o .pair)) (by p)
   where
-    by : (p : Bool) → within p (insideFor (pick p NONE (h .fixup)) (treeOf a)) rest ≡ write (withoutCommas (withPair p g (addPairs a))) rest
-    by true = rw (pick-true NONE (h .fixup) refl) (ap (λ r. LeftParen ∷ r) (is NONE calm-none (λ e. true-not-false (sym e)) (RightParen ∷ rest)))
-    by false = rw (pick-false NONE (h .fixup) refl) (is (h .fixup) (o .calm) (o .settled) rest ∙ ap (λ f. write (withoutCommas (addPairs a f)) rest) (o .flag))
+    by : (p : Bool) → within p (insideFor (pick p NONE (h .fixup)) (treeOf a)) rest ≡ write (withoutCommas (withPair p k g (addPairs a))) rest
+    by true = rw (pick-true NONE (h .fixup) refl) (ap (λ r. LeftParen ∷ r) (is grammar.NONE NONE calm-none (λ e. true-not-false (sym e)) (RightParen ∷ rest)))
+    by false = rw (pick-false NONE (h .fixup) refl) (is k (h .fixup) (o .calm) (o .settled) rest ∙ ap (λ f. write (withoutCommas (addPairs a k f)) rest) (o .flag))
 
 abbrev pub Is : (s : Sort) → Expr s → Type 0
 Is one e = InsideIs e
-Is list l = (h : Handed) (end : List Token) → tokensFor h (treeOf l) (RightParen ∷ end) ≡ write (withoutCommas (addPairs l false)) end
-Is items l = (h : Handed) (end : List Token) → tokensFor h (treeOf l) (RightParen ∷ end) ≡ write (withoutCommas (addPairs l false)) end
+Is list l = (k : Context) (h : Handed) (end : List Token) → tokensFor h (treeOf l) (RightParen ∷ end) ≡ write (withoutCommas (addPairs l k false)) end
+Is items l = (k : Context) (h : Handed) (end : List Token) → tokensFor h (treeOf l) (RightParen ∷ end) ≡ write (withoutCommas (addPairs l k false)) end
 
 pub is : (s : Sort) (e : Expr s) → Is s e
 unfolding tokensFor signsOf signLines lookup pick classOf
-is s (atom y) = λ x c w end. inside-at x _ _ _ (signs (atomToken y ∷ []) [] []) (atom-signs y) end
-is s (paren a) = λ x c w end.
+is s (atom y) = λ k x c w end. inside-at x _ _ _ (signs (atomToken y ∷ []) [] []) (atom-signs y) end
+is s (paren a) = λ k x c w end.
     inside-at x _ _ _ (signs (LeftParen ∷ []) (RightParen ∷ []) []) refl end
     ∙ ap (λ h. LeftParen ∷ tokensFor h (treeOf a) (RightParen ∷ end)) (paren-first x a)
     ∙ ap (λ r. LeftParen ∷ r) (operand-is (alone a) (is one a) (RightParen ∷ end))
-is s (prefix p a) = λ x c w end.
-    inside-at x _ _ _ (signs (prefixToken p ∷ []) [] []) (prefix-signs p) end ∙ ap (λ r. prefixToken p ∷ r) (operand-is (prefix-first x c w p a) (is one a) end)
-is s (binary o a b) = λ x c w end.
+is s (prefix p a) = λ k x c w end.
+    inside-at x _ _ _ (signs (prefixToken p ∷ []) [] []) (prefix-signs p) end ∙ ap (λ r. prefixToken p ∷ r) (operand-is (prefix-first k x c w p a) (is one a) end)
+is s (binary o a b) = λ k x c w end.
     inside-at x _ _ _ (signs [] (operator o ∷ []) []) (operator-signs o (treeOf b)) end
-    ∙ ap (λ r. tokensFor (handsFirst x (treeOf (binary o a b))) (treeOf a) (operator o ∷ r)) (operand-is (binary-second x c w o a b) (is one b) end)
-    ∙ operand-is (binary-first x c w o a b) (is one a) _
-is s (cast a t) = λ x c w end.
+    ∙ ap (λ r. tokensFor (handsFirst x (treeOf (binary o a b))) (treeOf a) (operator o ∷ r)) (operand-is (binary-second k x c w o a b) (is one b) end)
+    ∙ operand-is (binary-first k x c w o a b) (is one a) _
+is s (cast a t) = λ k x c w end.
     inside-at x _ _ _ (signs [] (As ∷ []) []) refl end
     ∙ ap (λ r. tokensFor (handsFirst x (treeOf (cast a t))) (treeOf a) (As ∷ r)) (types-are t (handsSecond x (treeOf (cast a t))) end)
-    ∙ operand-is (cast-first x c w a t) (is one a) _
-is s (member m a) = λ x c w end.
-    inside-at x _ _ _ (signs [] (Dot ∷ memberToken m ∷ []) []) (member-signs m) end ∙ operand-is (member-first x c w m a) (is one a) _
-is s (try a) = λ x c w end. inside-at x _ _ _ (signs [] (Question ∷ []) []) refl end ∙ operand-is (try-first x c w a) (is one a) _
-is s (index a b) = λ x c w end.
+    ∙ operand-is (cast-first k x c w a t) (is one a) _
+is s (member m a) = λ k x c w end.
+    inside-at x _ _ _ (signs [] (Dot ∷ memberToken m ∷ []) []) (member-signs m) end ∙ operand-is (member-first k x c w m a) (is one a) _
+is s (try a) = λ k x c w end. inside-at x _ _ _ (signs [] (Question ∷ []) []) refl end ∙ operand-is (try-first k x c w a) (is one a) _
+is s (index a b) = λ k x c w end.
     inside-at x _ _ _ (signs [] (LeftBracket ∷ []) (RightBracket ∷ [])) refl end
     ∙ ap (λ h. tokensFor (handsFirst x (treeOf (index a b))) (treeOf a) (LeftBracket ∷ tokensFor h (treeOf b) (RightBracket ∷ end))) (index-second x a b)
     ∙ ap (λ r. tokensFor (handsFirst x (treeOf (index a b))) (treeOf a) (LeftBracket ∷ r)) (operand-is (alone b) (is one b) (RightBracket ∷ end))
-    ∙ operand-is (index-first x c w a b) (is one a) _
-is s (call a l) = λ x c w end.
+    ∙ operand-is (index-first k x c w a b) (is one a) _
+is s (call a l) = λ k x c w end.
     inside-at x _ _ _ (signs [] (LeftParen ∷ []) (RightParen ∷ [])) refl end
-    ∙ ap (λ r. tokensFor (handsFirst x (treeOf (call a l))) (treeOf a) (LeftParen ∷ r)) (is list l (handsSecond x (treeOf (call a l))) end)
-    ∙ operand-is (call-first x c w a l) (is one a) _
-is s (method y a l) = λ x c w end.
+    ∙ ap (λ r. tokensFor (handsFirst x (treeOf (call a l))) (treeOf a) (LeftParen ∷ r)) (is list l k (handsSecond x (treeOf (call a l))) end)
+    ∙ operand-is (call-first k x c w a l) (is one a) _
+is s (method y a l) = λ k x c w end.
     inside-at x _ _ _ (signs [] (Dot ∷ Name y ∷ LeftParen ∷ []) (RightParen ∷ [])) refl end
-    ∙ ap (λ r. tokensFor (handsFirst x (treeOf (method y a l))) (treeOf a) (Dot ∷ Name y ∷ LeftParen ∷ r)) (is list l (handsSecond x (treeOf (method y a l))) end)
-    ∙ operand-is (method-first x c w y a l) (is one a) _
-is s noArguments = λ h end. refl
-is s (arguments l) = λ h end. is items l h end
-is s (lastArgument comma a) = λ h end.
+    ∙ ap (λ r. tokensFor (handsFirst x (treeOf (method y a l))) (treeOf a) (Dot ∷ Name y ∷ LeftParen ∷ r)) (is list l k (handsSecond x (treeOf (method y a l))) end)
+    ∙ operand-is (method-first k x c w y a l) (is one a) _
+is s noArguments = λ d h end. refl
+is s (arguments l) = λ d h end. is items l d h end
+is s (lastArgument comma a) = λ d h end.
     tokens-other h _ _ _ _ refl (signs [] [] []) refl
     ∙ ap (λ k. tokensFor k (treeOf a) (RightParen ∷ end)) (link-first (ownContext h (treeOf (lastArgument comma a))) (treeOf a) none)
     ∙ operand-is (alone a) (is one a) _
-is s (moreArguments a l) = λ h end.
+is s (moreArguments a l) = λ d h end.
     let x = ownContext h (treeOf (moreArguments a l)) in
     let k = handsSecond x (treeOf (moreArguments a l)) in
     tokens-other h _ _ _ _ refl (signs [] (Comma ∷ []) []) (link-signs l)
     ∙ ap (λ k′. tokensFor k′ (treeOf a) (Comma ∷ tokensFor k (treeOf l) (RightParen ∷ end))) (link-first x (treeOf a) (treeOf l))
-    ∙ ap (λ r. tokensFor (neither NONE (treeOf a)) (treeOf a) (Comma ∷ r)) (is items l k end)
+    ∙ ap (λ r. tokensFor (neither NONE (treeOf a)) (treeOf a) (Comma ∷ r)) (is items l d k end)
     ∙ operand-is (alone a) (is one a) _
 
--- What is written for the root in context 0: the pairs that it needs, and no comma after a last item.
-pub tokens-are : (e : Expr one) (rest : List Token) → tokensFor (neither NONE (treeOf e)) (treeOf e) rest ≡ write (withoutCommas (addPairs e false)) rest
-tokens-are e rest = operand-is (alone e) (is one e) rest
+-- What is written for the root: the pairs that it needs, and no comma after a last item.
+pub tokens-are : (k : Context) (e : Expr one) (rest : List Token) → tokensFor (neither (begun k) (treeOf e)) (treeOf e) rest ≡ write (withoutCommas (addAll k e)) rest
+tokens-are k e rest = operand-is (root k e) (is one e) rest
