@@ -4,7 +4,7 @@ use mathlib.Core.Bool.{true, false}
 use mathlib.Core.List.{List, [], _∷_}
 use Prim.Native.Nat.{ℕ}
 use Rattle.laws.specs.Choice.{pick, lookup}
-use Rattle.token_grammar.specs.Tokens.{Operator, Add, Sub, Mul, And, Or, BitXor, BitAnd, BitOr, Shl, Eq, Lt, Le, Assign}
+use Rattle.token_grammar.specs.Tokens.{Operator, Add, Sub, Mul, And, Or, BitXor, BitAnd, BitOr, Shl, Eq, Lt, Le, Assign, Struct, code}
 use Rattle.token_grammar.specs.Codes.{tokenOf, tokensOf}
 use Rattle.token_grammar.specs.Levels.{kind}
 use Rattle.token_grammar.specs.Types.{one, named, applied, types, lastType, moreTypes}
@@ -132,12 +132,12 @@ examples =
     inCondition (call a (arguments (lastArgument false struct))) (call a (arguments (lastArgument false struct))) ∷
     inCondition (binary Add a (paren struct)) (binary Add a (paren struct)) ∷
     -- a == S in both contexts, a == ( S ), S [ a ], a [ S ], f ( S ) in context 3
-    reads (32 ∷ 12 ∷ 46 ∷ []) (binary Eq a struct) ∷
-    conditionReads (32 ∷ 12 ∷ 46 ∷ []) fail ∷
-    conditionReads (32 ∷ 12 ∷ 35 ∷ 46 ∷ 36 ∷ []) (ok (binary Eq a (paren struct)) []) ∷
-    conditionReads (46 ∷ 37 ∷ 32 ∷ 38 ∷ []) fail ∷
-    conditionReads (32 ∷ 37 ∷ 46 ∷ 38 ∷ []) (ok (index a struct) []) ∷
-    conditionReads (32 ∷ 35 ∷ 46 ∷ 36 ∷ []) (ok (call a (arguments (lastArgument false struct))) []) ∷
+    reads (32 ∷ 12 ∷ code Struct ∷ []) (binary Eq a struct) ∷
+    conditionReads (32 ∷ 12 ∷ code Struct ∷ []) fail ∷
+    conditionReads (32 ∷ 12 ∷ 35 ∷ code Struct ∷ 36 ∷ []) (ok (binary Eq a (paren struct)) []) ∷
+    conditionReads (code Struct ∷ 37 ∷ 32 ∷ 38 ∷ []) fail ∷
+    conditionReads (32 ∷ 37 ∷ code Struct ∷ 38 ∷ []) (ok (index a struct) []) ∷
+    conditionReads (32 ∷ 35 ∷ code Struct ∷ 36 ∷ []) (ok (call a (arguments (lastArgument false struct))) []) ∷
     -- "The empty token list gives 15."
     stops [] fail ∷
     []

@@ -7,6 +7,7 @@ pub mod Needed
 pub mod Erased
 pub mod Injective
 pub mod Commas
+pub mod Contexts
 pub mod Appended
 pub mod Ends
 pub mod Follows

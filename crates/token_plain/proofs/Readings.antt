@@ -9,8 +9,8 @@ use lib.Dec.{T}
 use Rattle.laws.proofs.Choice.{true-not-false, true-of, of-true}
 use Rattle.tree.specs.Trees.{Tree}
 use Rattle.tree.specs.Erase.{erase}
-use Rattle.token_grammar.specs.Tokens.{Token, cellsOf}
-use Rattle.token_grammar.specs.Codes.{tokensOf, areTokens}
+use Rattle.token_grammar.specs.Tokens.{Token, Struct, code, cellsOf}
+use Rattle.token_grammar.specs.Codes.{tokensOf, areTokens, codeAt}
 use Rattle.token_grammar.specs.Types.{one}
 use Rattle.token_grammar.specs.Expressions.{Expr, write}
 use Rattle.token_grammar.specs.Grammar.{Context, fits}
@@ -25,9 +25,11 @@ use Rattle.token_grammar.proofs.Needed.{bare-drop-any, drop-unfit}
 use Rattle.token_grammar.proofs.Erased.{erased}
 use Rattle.token_grammar.proofs.Injective.{core, injective}
 use Rattle.token_grammar.proofs.Commas.{fits-without, fits-with, puts}
+use Rattle.token_grammar.proofs.Contexts.{wider, any-context, clean}
 use Rattle.token_plain.specs.Trees.{treeOf, withoutParens}
 use Rattle.token_plain.specs.Reads.{Reads}
 use Rattle.token_plain.specs.Commas.{SameReadings, OnlyCommas}
+use Rattle.token_plain.specs.Contexts.{Wider, AnyContext}
 use Rattle.token_plain.proofs.Parens.{without-bare}
 use Rattle.token_plain.proofs.Injective.{tree-same}
 use Rattle.token_plain.proofs.Shapes.{shape-tree}
@@ -102,3 +104,13 @@ same-readings c d e h q t r =
 
 pub only-commas : OnlyCommas
 only-commas e = puts e [] [] ended
+
+-- ---- contexts
+
+pub wider-reading : Wider
+wider-reading c cells t r = record { parsed = r .parsed; fit = wider c (r .parsed) (r .fit); whole = r .whole; same = r .same }
+
+pub any-reading : AnyContext
+any-reading c d cells h t r =
+    let free = clean (r .parsed) [] (record { none = subst (λ ns. (i : ℕ) → codeAt ns i ≡ code Struct → ⊥) (sym (r .whole)) h }) .0 in
+    record { parsed = r .parsed; fit = any-context c d (r .parsed) free (r .fit); whole = r .whole; same = r .same }

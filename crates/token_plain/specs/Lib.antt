@@ -3,3 +3,4 @@ pub mod Trees
 pub mod Written
 pub mod Reads
 pub mod Commas
+pub mod Contexts
