@@ -48,7 +48,7 @@ four : (l : Label) (b : Tree) → few (signsOf l b) ≤ 4
 unfolding signsOf signLines few
 four l b =
     in-table (λ (s : Signs). few s ≤ 4) (signLines (l .detail) (l .symbol) (isThere b)) (signs [] [] []) (l .form)
-    (omega arith, (omega arith, (omega arith, (omega arith, (omega arith, (omega arith, (omega arith, (omega arith, (omega arith, (omega arith, (omega arith, (omega arith, (omega arith, (omega arith, (by-test (λ (s : Signs). few s ≤ 4) _ _ _ (omega arith) (omega arith), (omega arith, (omega arith, (omega arith, (link (isThere b), tt)))))))))))))))))))
+    (omega arith, (omega arith, (omega arith, (omega arith, (omega arith, (omega arith, (omega arith, (omega arith, (omega arith, (omega arith, (omega arith, (omega arith, (omega arith, (omega arith, (by-test (λ (s : Signs). few s ≤ 4) _ _ _ (omega arith) (omega arith), (omega arith, (omega arith, (omega arith, (link (isThere b), (omega arith, tt))))))))))))))))))))
     (omega arith)
   where
     link : (b : Bool) → few (signs [] (comma b) []) ≤ 4
@@ -81,16 +81,16 @@ accepted-first context count cells lent e = go (eqb (refusal context count cells
     go true p n q = eqb-true _ 0 p
     go false p n q = q
 
-written-most : (count : ℕ) (cells : List ℕ) → size (treeAt cells count 1) ≤ count → length (written count cells) ≤ tokensPerNode * count
+written-most : (context count : ℕ) (cells : List ℕ) → size (treeAt cells count 1) ≤ count → length (written context count cells) ≤ tokensPerNode * count
 unfolding written
-written-most count cells h =
-    let most = six-a-node cells count (hasPair (rowsFor count cells)) 1 (treeAt cells count 1) in
+written-most context count cells h =
+    let most = six-a-node cells count (hasPair (rowsFor context count cells)) 1 (treeAt cells count 1) in
     omega arith
 
 -- "Tokens written never pass 24,576.": six for each of at most 4,096 nodes
-pub tokens-bound : (context count : ℕ) (cells : List ℕ) → Accepted context count cells → (length (written count cells) ≤ tokensPerNode * count) × (length (written count cells) ≤ mostTokens)
+pub tokens-bound : (context count : ℕ) (cells : List ℕ) → Accepted context count cells → (length (written context count cells) ≤ tokensPerNode * count) × (length (written context count cells) ≤ mostTokens)
 tokens-bound context count cells ok =
     let nodes = size-accepted context count cells ok in
     let bounds = count-bounds context count cells ok in
-    let most = written-most count cells (omega arith) in
+    let most = written-most context count cells (omega arith) in
     (most, omega arith)

@@ -19,16 +19,16 @@ use Rattle.token_plain.specs.Plain.{plainTable}
 use Rattle.token_writer.specs.declared.Written.{Written}
 use Rattle.token_writer.specs.declared.Written.the-variants.{Refused, Tokens}
 use Rattle.token_writer.specs.Puts.{cellsAt}
-use Rattle.token_writer.specs.Writes.{rowsFor, written, writeRefusal12, refusal13, writeRefusal, answered, tokensAfter}
+use Rattle.token_writer.specs.Writes.{takesContext, rowsFor, written, writeRefusal12, refusal13, writeRefusal, answered, tokensAfter}
 use Rattle.token_writer.proofs.Tokens.{length-cells}
 
 -- ---- the rows
 
 -- in a buffer of just the length that they need, and the tokens with them
-pub cells-written : (count : ℕ) (cells rows scratch after : List ℕ) → rows ≡ replicate (rowCells * count) 0 → scratch ≡ replicate (scratchCells * count) 0
-    → after ≡ rowsAfter 0 count cells rows scratch → cellsAt cells count after 1 ≡ cellsOf (written count cells)
+pub cells-written : (context count : ℕ) (cells rows scratch after : List ℕ) → rows ≡ replicate (rowCells * count) 0 → scratch ≡ replicate (scratchCells * count) 0
+    → after ≡ rowsAfter context count cells rows scratch → cellsAt cells count after 1 ≡ cellsOf (written context count cells)
 unfolding cellsAt written rowsFor
-cells-written count cells rows scratch after r s e = rw (e, r, s)
+cells-written context count cells rows scratch after r s e = rw (e, r, s)
 
 -- zeros at the start of more zeros
 pub take-zeros : (n m : ℕ) → n ≤ m → take {A = ℕ} n (replicate m 0) ≡ replicate n 0
@@ -71,14 +71,14 @@ module _ (context count : ℕ) (cells tokens : List ℕ) where
       unfolding writeRefusal12
       behind12 = after ∙ pick-false _ _ (le-ltb _ _ fits)
 
-      pub in-context : (context ≡ 0 → ⊥) → Answers (Refused 13) tokens
+      pub in-context : takesContext context ≡ false → Answers (Refused 13) tokens
       unfolding refusal13
-      in-context h = refuses 13 (sym (behind12 ∙ pick-true 13 0 (or-here _ (ap not (ne-eqb context 0 h))))) (λ z. omega arith)
+      in-context h = refuses 13 (sym (behind12 ∙ pick-true 13 0 (or-here _ (ap not h)))) (λ z. omega arith)
 
-      module _ (none : context ≡ 0) where
+      module _ (taken : takesContext context ≡ true) where
         is13 : refusal13 context count cells ≡ not (plainTable count cells)
         unfolding refusal13
-        is13 = or-next _ (ap not (eq-eqb context 0 none))
+        is13 = or-next _ (ap not taken)
 
         pub not-plain : plainTable count cells ≡ false → Answers (Refused 13) tokens
         not-plain h = refuses 13 (sym (behind12 ∙ pick-true 13 0 (is13 ∙ ap not h))) (λ z. omega arith)
@@ -87,10 +87,10 @@ module _ (context count : ℕ) (cells tokens : List ℕ) where
           pub not-refused : writeRefusal context count cells (length tokens) ≡ 0
           not-refused = behind12 ∙ pick-false 13 0 (is13 ∙ ap not plain)
 
-          pub done : (last : List ℕ) (next : ℕ) → tokenCells * length (written count cells) ≤ length tokens → Put tokens 0 (cellsOf (written count cells)) last next → Answers (Tokens (next / tokenCells)) last
+          pub done : (last : List ℕ) (next : ℕ) → tokenCells * length (written context count cells) ≤ length tokens → Put tokens 0 (cellsOf (written context count cells)) last next → Answers (Tokens (next / tokenCells)) last
           unfolding answered tokensAfter
           done last next room p =
               let e = eq-eqb _ 0 not-refused in
-              let l = length-cells (written count cells) in
-              let n : next / tokenCells ≡ length (written count cells) = omega (arith, p .ends) in
+              let l = length-cells (written context count cells) in
+              let n : next / tokenCells ≡ length (written context count cells) = omega (arith, p .ends) in
               (ap Tokens n ∙ sym (pick-true _ _ e), put-over p (omega arith) ∙ sym (pick-true _ _ e))

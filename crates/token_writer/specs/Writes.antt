@@ -4,33 +4,38 @@ use mathlib.Core.List.{List, [], _∷_}
 use Prim.Native.Nat.{ℕ, _*_}
 use lib.Dec.{eqb, ltb}
 use lib.ListN.{length, replicate}
-use Rattle.laws.specs.Choice.{pick}
+use Rattle.laws.specs.Choice.{pick, isOneOf}
 use Rattle.laws.specs.Lists.{over}
 use Rattle.tree.specs.Sizes.{rowCells, scratchCells, tokenCells, tokensPerNode}
 use Rattle.tree.specs.Trees.{treeAt}
 use Rattle.tree_rules.specs.Refusals.{refusal, refuse, firstOf}
 use Rattle.row_walk.specs.Walk.{rowsAfter}
 use Rattle.token_grammar.specs.Tokens.{Token, cellsOf}
+use Rattle.token_grammar.specs.Grammar.{NONE, CONDITION, contextNumber}
 use Rattle.token_plain.specs.Plain.{plainTable}
 use Rattle.token_plain.specs.Written.{tokensAt, hasPair}
 use Rattle.token_writer.specs.declared.Written.{Written}
 use Rattle.token_writer.specs.declared.Written.the-variants.{Refused, Tokens}
 
--- the rows of a table in context 0, in a buffer of just the length that they need
-unfoldable pub rowsFor : ℕ → List ℕ → List ℕ
-rowsFor count cells = rowsAfter 0 count cells (replicate (rowCells * count) 0) (replicate (scratchCells * count) 0)
+-- the rows of a table in a context, in a buffer of just the length that they need
+unfoldable pub rowsFor : ℕ → ℕ → List ℕ → List ℕ
+rowsFor context count cells = rowsAfter context count cells (replicate (rowCells * count) 0) (replicate (scratchCells * count) 0)
 
 -- "Written for a plain tree are its nodes' tokens in the grammar's order"
-unfoldable pub written : ℕ → List ℕ → List Token
-written count cells = tokensAt cells count (hasPair (rowsFor count cells)) 1 (treeAt cells count 1) []
+unfoldable pub written : ℕ → ℕ → List ℕ → List Token
+written context count cells = tokensAt cells count (hasPair (rowsFor context count cells)) 1 (treeAt cells count 1) []
 
 -- 12. "A lent buffer is too short: .. six for the writer's tokens"; document 02, Paper 4: "so the writer's buffer needs twelve cells a node". `lent` is the buffer's length
 unfoldable pub writeRefusal12 : ℕ → ℕ → Bool
 writeRefusal12 count lent = ltb lent (tokenCells * tokensPerNode * count)
 
--- 13. "The writer is given a tree that is not plain or a context that is not 0."
+-- document 02, Paper 5: "writer and reader take context 3 as well as 0"
+unfoldable pub takesContext : ℕ → Bool
+takesContext context = isOneOf (contextNumber NONE ∷ contextNumber CONDITION ∷ []) context
+
+-- 13. "The writer is given a tree that is not plain or a context that is not 0", nor 3
 unfoldable pub refusal13 : ℕ → ℕ → List ℕ → Bool
-refusal13 context count cells = not (eqb context 0) || not (plainTable count cells)
+refusal13 context count cells = not (takesContext context) || not (plainTable count cells)
 
 -- the first that applies: the table's refusals, then 12, then 13; or 0
 unfoldable pub writeRefusal : ℕ → ℕ → List ℕ → ℕ → ℕ
@@ -45,13 +50,13 @@ unfoldable pub answered : ℕ → ℕ → List ℕ → ℕ → Written
 answered context count cells lent =
     pick
     (eqb (writeRefusal context count cells lent) 0)
-    (Tokens (length (written count cells)))
+    (Tokens (length (written context count cells)))
     (Refused (writeRefusal context count cells lent))
 
 -- the buffer afterwards: on a refusal as it was; else the tokens' cells over its start
 unfoldable pub tokensAfter : ℕ → ℕ → List ℕ → List ℕ → List ℕ
 tokensAfter context count cells tokens =
-    pick (eqb (writeRefusal context count cells (length tokens)) 0) (over (cellsOf (written count cells)) tokens) tokens
+    pick (eqb (writeRefusal context count cells (length tokens)) 0) (over (cellsOf (written context count cells)) tokens) tokens
 
 -- "When an answer is an enum, a definition gives this paper's number and values for each of its cases." The reply number, 0 for done, and behind it the value
 abbrev pub writtenInNumbers : Written → List ℕ

@@ -22,10 +22,15 @@ ghost use Rattle.tree_rules.specs.Refusals.{refusal};
 ghost use Rattle.token_plain.specs.Written.{hasPair};
 ghost use Rattle.token_grammar.specs.Tokens.{cellsOf};
 ghost use Rattle.token_writer.specs.Puts.{spelled, symbolOn, cellsWith, cellsAt};
-ghost use Rattle.token_writer.specs.Writes.{written, answered, tokensAfter};
+ghost use Rattle.token_writer.specs.Writes.{takesContext, written, answered, tokensAfter};
 
 // The cells of the tokens that the writer asks room for, a node.
 const NODE_TOKENS: usize = sizes::TOKEN_CELLS * sizes::TOKENS_PER_NODE;
+
+// The contexts whose trees have tokens.
+const NONE: u16 = 0;
+
+const CONDITION: u16 = 3;
 
 // What writing answers.
 pub enum Written {
@@ -147,17 +152,31 @@ fn write_from(
 
 // The tokens of an accepted plain table, with the rows made in buffers of just the length that they need.
 fn write_plain(
+    context: u16,
     count: u16,
     table: &[u16],
     rows: &mut [u16],
     scratch: &mut [u16],
     tokens: &mut [u16],
 ) -> usize
-    requires { ⌜ (now rows ≡ replicate (rowCells * count) 0) × (now scratch ≡ replicate (scratchCells * count) 0) × (tokenCells * length (written count (now table)) ≤ length (now tokens)) ⌝ }
-    ensures { λ r. ⌜ Put (now (tokens .entry)) 0 (cellsOf (written count (now (table .entry)))) (now (tokens .exit)) r ⌝ }
+    requires { ⌜ (now rows ≡ replicate (rowCells * count) 0) × (now scratch ≡ replicate (scratchCells * count) 0) × (tokenCells * length (written context count (now table)) ≤ length (now tokens)) ⌝ }
+    ensures { λ r. ⌜ Put (now (tokens .entry)) 0 (cellsOf (written context count (now (table .entry)))) (now (tokens .exit)) r ⌝ }
 {
-    row_walk::decide(0, count, table, rows, scratch);
+    row_walk::decide(context, count, table, rows, scratch);
     write_from(table, count, rows, 1, tokens, 0)
+}
+
+// Whether the tokens of a tree in this context are written.
+fn takes(context: u16) -> bool
+    ensures { λ r. ⌜ r ≡ takesContext context ⌝ }
+{
+    if context == NONE {
+        return true;
+    }
+    if context == CONDITION {
+        return true;
+    }
+    false
 }
 
 // The tokens of a plain table into `tokens`: how many there are, or the first refusal that applies.
@@ -173,7 +192,7 @@ pub fn write(context: u16, count: u16, table: &[u16], tokens: &mut [u16]) -> Wri
     if tokens.len() < NODE_TOKENS * nodes {
         return Written::Refused(12);
     }
-    if context != 0 {
+    if !takes(context) {
         return Written::Refused(13);
     }
     if !is_plain_table(count, table) {
@@ -184,6 +203,7 @@ pub fn write(context: u16, count: u16, table: &[u16], tokens: &mut [u16]) -> Wri
     let row_cells = sizes::ROW_CELLS * nodes;
     let scratch_cells = sizes::SCRATCH_CELLS * nodes;
     let end = write_plain(
+        context,
         count,
         table,
         &mut rows[..row_cells],

@@ -26,7 +26,7 @@ fn is_plain(table: &[u16], node: u16) -> bool
         | forms::EXPR_FIELD
         | forms::EXPR_INDEX
         | forms::EXPR_TRY => true,
-        forms::EXPR_PAREN | forms::EXPR_CALL | forms::EXPR_AWAIT => true,
+        forms::EXPR_PAREN | forms::EXPR_CALL | forms::EXPR_AWAIT | forms::EXPR_STRUCT => true,
         forms::TYPE_PTR | forms::TYPE_INFER | forms::TYPE_NEVER | forms::LINK => true,
         forms::TYPE_REFERENCE => true,
         forms::TYPE_PATH => is_plain_path(cell(table, node, columns::DETAIL)),

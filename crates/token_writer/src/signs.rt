@@ -150,6 +150,7 @@ fn signs_of(form: u16, detail: u16, more: bool) -> Signs
         forms::TYPE_INFER => ahead(Few::One(codes::UNDERSCORE)),
         forms::TYPE_NEVER => ahead(Few::One(codes::BANG)),
         forms::LINK => amid(one_if(more, codes::COMMA)),
+        forms::EXPR_STRUCT => ahead(Few::One(codes::STRUCT)),
         _ => ahead(Few::Nothing),
     }
 }

@@ -33,67 +33,67 @@ returns-2 c =
 
 returns-3 : tie.Need-returns-3
 returns-3 c =
-    let a = c .before .before .before .before .before .before .args in
-    in-context (a .context) (a .count) (a .table .now) (a .tokens .now) (sym (c .before .before .before .check .ensures) ∙ c .before .before .if1 .left) (c .before .if2 .left) (c .if3 .taken)
+    let a = c .before .before .before .before .before .before .before .args in
+    in-context (a .context) (a .count) (a .table .now) (a .tokens .now) (sym (c .before .before .before .before .check .ensures) ∙ c .before .before .before .if1 .left) (c .before .before .if2 .left) (not-true _ (ap not (sym (c .before .takes .ensures)) ∙ c .if3 .taken))
 
 returns-4 : tie.Need-returns-4
 returns-4 c =
-    let a = c .before .before .before .before .before .before .before .before .args in
-    not-plain (a .context) (a .count) (a .table .now) (a .tokens .now) (sym (c .before .before .before .before .before .check .ensures) ∙ c .before .before .before .before .if1 .left) (c .before .before .before .if2 .left) (c .before .before .if3 .left) (not-true _ (ap not (sym (c .before .is-plain-table .ensures)) ∙ c .if4 .taken))
+    let a = c .before .before .before .before .before .before .before .before .before .args in
+    not-plain (a .context) (a .count) (a .table .now) (a .tokens .now) (sym (c .before .before .before .before .before .before .check .ensures) ∙ c .before .before .before .before .before .if1 .left) (c .before .before .before .before .if2 .left) (not-false _ (ap not (sym (c .before .before .before .takes .ensures)) ∙ c .before .before .if3 .left)) (not-true _ (ap not (sym (c .before .is-plain-table .ensures)) ∙ c .if4 .taken))
 
 array-borrow-prefix-rows : tie.Need-array-borrow-prefix-rows
 array-borrow-prefix-rows c =
-    let a = c .before .before .before .before .before .before .before .before .args in
-    let bounds = count-bounds (a .context) (a .count) (a .table .now) (sym (c .before .before .before .before .before .check .ensures) ∙ c .before .before .before .before .if1 .left) in
+    let a = c .before .before .before .before .before .before .before .before .before .args in
+    let bounds = count-bounds (a .context) (a .count) (a .table .now) (sym (c .before .before .before .before .before .before .check .ensures) ∙ c .before .before .before .before .before .if1 .left) in
     times rowCells (a .count) (bounds .1)
 
 slice-aggregate-write-plain : tie.Need-slice-aggregate-write-plain
 slice-aggregate-write-plain c =
-    let a = c .before .before .before .before .before .before .before .before .before .args in
-    let bounds = count-bounds (a .context) (a .count) (a .table .now) (sym (c .before .before .before .before .before .before .check .ensures) ∙ c .before .before .before .before .before .if1 .left) in
+    let a = c .before .before .before .before .before .before .before .before .before .before .args in
+    let bounds = count-bounds (a .context) (a .count) (a .table .now) (sym (c .before .before .before .before .before .before .before .check .ensures) ∙ c .before .before .before .before .before .before .if1 .left) in
     length-zeros (rowCells * a .count) (rowCells * mostNodes) (times rowCells (a .count) (bounds .1))
 
 array-borrow-prefix-scratch : tie.Need-array-borrow-prefix-scratch
 array-borrow-prefix-scratch c =
-    let a = c .before .before .before .before .before .before .before .before .before .args in
-    let bounds = count-bounds (a .context) (a .count) (a .table .now) (sym (c .before .before .before .before .before .before .check .ensures) ∙ c .before .before .before .before .before .if1 .left) in
+    let a = c .before .before .before .before .before .before .before .before .before .before .args in
+    let bounds = count-bounds (a .context) (a .count) (a .table .now) (sym (c .before .before .before .before .before .before .before .check .ensures) ∙ c .before .before .before .before .before .before .if1 .left) in
     times scratchCells (a .count) (bounds .1)
 
 slice-aggregate-write-plain-2 : tie.Need-slice-aggregate-write-plain-2
 slice-aggregate-write-plain-2 c =
-    let a = c .before .before .before .before .before .before .before .before .before .before .args in
-    let bounds = count-bounds (a .context) (a .count) (a .table .now) (sym (c .before .before .before .before .before .before .before .check .ensures) ∙ c .before .before .before .before .before .before .if1 .left) in
+    let a = c .before .before .before .before .before .before .before .before .before .before .before .args in
+    let bounds = count-bounds (a .context) (a .count) (a .table .now) (sym (c .before .before .before .before .before .before .before .before .check .ensures) ∙ c .before .before .before .before .before .before .before .if1 .left) in
     length-zeros (scratchCells * a .count) (scratchCells * mostNodes) (times scratchCells (a .count) (bounds .1))
 
 write-plain-requires : tie.Need-write-plain-requires
 write-plain-requires c κs =
-    let a = c .before .before .before .before .before .before .before .before .before .before .before .args in
-    let ok = sym (c .before .before .before .before .before .before .before .before .check .ensures) ∙ c .before .before .before .before .before .before .before .if1 .left in
-    let fits = c .before .before .before .before .before .before .if2 .left in
+    let a = c .before .before .before .before .before .before .before .before .before .before .before .before .args in
+    let ok = sym (c .before .before .before .before .before .before .before .before .before .check .ensures) ∙ c .before .before .before .before .before .before .before .before .if1 .left in
+    let fits = c .before .before .before .before .before .before .before .if2 .left in
     let most = tokens-bound (a .context) (a .count) (a .table .now) ok in
     let bounds = count-bounds (a .context) (a .count) (a .table .now) ok in
     (take-zeros (rowCells * a .count) (rowCells * mostNodes) (times rowCells (a .count) (bounds .1)), take-zeros (scratchCells * a .count) (scratchCells * mostNodes) (times scratchCells (a .count) (bounds .1)), omega (arith, most .0))
 
 cast-t22 : tie.Need-cast-t22
 cast-t22 c =
-    let a = c .before .before .before .before .before .before .before .before .before .before .before .before .before .before .before .before .args in
-    let ok = sym (c .before .before .before .before .before .before .before .before .before .before .before .before .before .check .ensures) ∙ c .before .before .before .before .before .before .before .before .before .before .before .before .if1 .left in
+    let a = c .before .before .before .before .before .before .before .before .before .before .before .before .before .before .before .before .before .args in
+    let ok = sym (c .before .before .before .before .before .before .before .before .before .before .before .before .before .before .check .ensures) ∙ c .before .before .before .before .before .before .before .before .before .before .before .before .before .if1 .left in
     let most = tokens-bound (a .context) (a .count) (a .table .now) ok in
-    let l = length-cells (written (a .count) (a .table .now)) in
+    let l = length-cells (written (a .context) (a .count) (a .table .now)) in
     omega (arith, c .before .before .before .before .write-plain .ensures .ends)
 
 returns-5 : tie.Need-returns-5
 returns-5 c =
-    let a = c .before .before .before .before .before .before .before .before .before .before .before .before .before .before .before .before .args in
-    let ok = sym (c .before .before .before .before .before .before .before .before .before .before .before .before .before .check .ensures) ∙ c .before .before .before .before .before .before .before .before .before .before .before .before .if1 .left in
-    let fits = c .before .before .before .before .before .before .before .before .before .before .before .if2 .left in
-    let none = c .before .before .before .before .before .before .before .before .before .before .if3 .left in
+    let a = c .before .before .before .before .before .before .before .before .before .before .before .before .before .before .before .before .before .args in
+    let ok = sym (c .before .before .before .before .before .before .before .before .before .before .before .before .before .before .check .ensures) ∙ c .before .before .before .before .before .before .before .before .before .before .before .before .before .if1 .left in
+    let fits = c .before .before .before .before .before .before .before .before .before .before .before .before .if2 .left in
+    let taken = not-false _ (ap not (sym (c .before .before .before .before .before .before .before .before .before .before .before .takes .ensures)) ∙ c .before .before .before .before .before .before .before .before .before .before .if3 .left) in
     let plain = not-false _ (ap not (sym (c .before .before .before .before .before .before .before .before .before .is-plain-table .ensures)) ∙ c .before .before .before .before .before .before .before .before .if4 .left) in
     let most = tokens-bound (a .context) (a .count) (a .table .now) ok in
-    done (a .context) (a .count) (a .table .now) (a .tokens .now) ok fits none plain _ _ (omega (arith, most .0)) (c .before .before .before .before .write-plain .ensures)
+    done (a .context) (a .count) (a .table .now) (a .tokens .now) ok fits taken plain _ _ (omega (arith, most .0)) (c .before .before .before .before .write-plain .ensures)
 
 pub write-spec : {M : Type 1} → statement M
 write-spec =
-    tie.close (tie.spec free returns (λ c. search needs) returns-2 returns-3 free returns-4 (λ c. search needs)
+    tie.close (tie.spec free returns (λ c. search needs) returns-2 free returns-3 free returns-4 (λ c. search needs)
     (λ c. search needs) array-borrow-prefix-rows slice-aggregate-write-plain array-borrow-prefix-scratch
     slice-aggregate-write-plain-2 write-plain-requires cast-t22 (λ c. search needs) returns-5)

@@ -11,8 +11,8 @@ write-from-requires : tie.Need-write-from-requires
 write-from-requires c κs =
     let s = c .before .before .before .before .before .before .before .before .before .before .before .before .before in
     let a = s .args in
-    let e = cells-written (a .count) (a .table .now) _ _ _ (s .pre .0) (s .pre .1) (c .before .before .before .before .before .before .decide .ensures .1 .0) in
-    let l = length-cells (written (a .count) (a .table .now)) in
+    let e = cells-written (a .context) (a .count) (a .table .now) _ _ _ (s .pre .0) (s .pre .1) (c .before .before .before .before .before .before .decide .ensures .1 .0) in
+    let l = length-cells (written (a .context) (a .count) (a .table .now)) in
     let r = s .pre .2 in
     rw e (omega arith)
 
@@ -20,7 +20,7 @@ returns : tie.Need-returns
 returns c =
     let s = c .before .before .before .before .before .before .before .before .before .before .before .before .before .before .before .before in
     let a = s .args in
-    let e = cells-written (a .count) (a .table .now) _ _ _ (s .pre .0) (s .pre .1) (c .before .before .before .before .before .before .before .before .before .decide .ensures .1 .0) in
+    let e = cells-written (a .context) (a .count) (a .table .now) _ _ _ (s .pre .0) (s .pre .1) (c .before .before .before .before .before .before .before .before .before .decide .ensures .1 .0) in
     rw e at (c .before .before .write-from .ensures)
 
 pub write-plain-spec : {M : Type 1} → statement M

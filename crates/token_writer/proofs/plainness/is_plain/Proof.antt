@@ -3,7 +3,7 @@ use mathlib.Core.Path.{sym, _∙_}
 use mathlib.Core.List.{List, [], _∷_}
 use Prim.Native.Nat.{ℕ}
 use Rattle.laws.proofs.Calls.{free}
-use Rattle.tree.specs.Forms.{ExprAssign, ExprAwait, ExprBinary, ExprCall, ExprCast, ExprField, ExprIndex, ExprLit, ExprMethodCall, ExprParen, ExprPath, ExprReference, ExprTry, ExprUnary, TypeInfer, TypeNever, TypePtr, TypeReference, Link}
+use Rattle.tree.specs.Forms.{ExprAssign, ExprAwait, ExprBinary, ExprCall, ExprCast, ExprField, ExprIndex, ExprLit, ExprMethodCall, ExprParen, ExprPath, ExprReference, ExprStruct, ExprTry, ExprUnary, TypeInfer, TypeNever, TypePtr, TypeReference, Link}
 use Rattle.tree.specs.Trees.{labelAt}
 use Rattle.token_writer.proofs.Plains.{with-attributes, plain-expression, plain-type, plain-path, not-plain}
 use Rattle.token_writer.proofs.plainness.is_plain.Statement.{statement}
@@ -14,7 +14,7 @@ abbrev expressions : List ℕ
 expressions = ExprAssign ∷ ExprBinary ∷ ExprCast ∷ ExprField ∷ ExprIndex ∷ ExprLit ∷ ExprMethodCall ∷ ExprPath ∷ ExprReference ∷ ExprTry ∷ ExprUnary ∷ []
 
 abbrev moreExpressions : List ℕ
-moreExpressions = ExprAwait ∷ ExprCall ∷ ExprParen ∷ []
+moreExpressions = ExprAwait ∷ ExprCall ∷ ExprParen ∷ ExprStruct ∷ []
 
 abbrev types : List ℕ
 types = TypeInfer ∷ TypeNever ∷ TypePtr ∷ Link ∷ []

@@ -5,7 +5,7 @@ use Prim.Native.Nat.{ℕ, _-_}
 use lib.Dec.{eqb}
 use Rattle.laws.specs.Choice.{pick, lookup}
 use Rattle.laws.proofs.Calls.{free}
-use Rattle.token_grammar.specs.Tokens.{operator, Sub, Mul, BitAnd, Assign, Bang, AndMut, As, Name, Literal, Dot, LeftParen, RightParen, LeftBracket, RightBracket, Comma, Question, StarConst, StarMut, Underscore, NumberedMember, Await, code, operatorOf}
+use Rattle.token_grammar.specs.Tokens.{operator, Sub, Mul, BitAnd, Assign, Bang, AndMut, As, Name, Literal, Dot, LeftParen, RightParen, LeftBracket, RightBracket, Comma, Question, StarConst, StarMut, Underscore, NumberedMember, Await, Struct, code, operatorOf}
 use Rattle.token_plain.specs.Written.{byDetail, unary, comma, signLines}
 use Rattle.token_writer.specs.Puts.{spelled, symbolLines, symbolOn, cellsWith}
 use Rattle.token_writer.proofs.Spelling.{code-pick, beside-pick, beside-operator, one-token, one-if, spells-arm, spells-rest, before-only, between-only, round-second, path-signs}
@@ -16,7 +16,7 @@ pub signs-of-spec : {M : Type 1} → statement M
 unfolding signLines symbolOn symbolLines lookup pick
 signs-of-spec =
     tie.close (tie.spec free free free free free free free free free free free free free free free free free free free
-    free free free free free free
+    free free free free free free free
     (λ c. let a = c .before .before .args in λ y. spells-arm y (a .detail) (a .form) (a .more) _ 0 tt (c .before .match .keys1) (before-only y _ _ (Name y ∷ []) (c .ahead .ensures) refl))
     (λ c. let a = c .before .before .args in λ y. spells-arm y (a .detail) (a .form) (a .more) _ 1 tt (c .before .match .keys2) (before-only y _ _ (Literal y ∷ []) (c .ahead2 .ensures) refl))
     (λ c. let a = c .before .args in λ y. spells-arm y (a .detail) (a .form) (a .more) _ 2 tt (c .match .keys3) (record { before = refl; between = refl; behind = refl }))
@@ -36,4 +36,5 @@ signs-of-spec =
     (λ c. let a = c .before .before .args in λ y. spells-arm y (a .detail) (a .form) (a .more) _ 16 tt (c .before .match .keys17) (before-only y _ _ (Underscore ∷ []) (c .ahead6 .ensures) refl))
     (λ c. let a = c .before .before .args in λ y. spells-arm y (a .detail) (a .form) (a .more) _ 17 tt (c .before .match .keys18) (before-only y _ _ (Bang ∷ []) (c .ahead7 .ensures) refl))
     (λ c. let a = c .before .before .before .args in λ y. spells-arm y (a .detail) (a .form) (a .more) _ 18 tt (c .before .before .match .keys19) (between-only y _ _ (comma (a .more)) (c .amid7 .ensures) (ap (λ f. cellsWith y (spelled f)) (c .before .one-if .ensures) ∙ one-if y (a .more) Comma refl)))
-    (λ c. let a = c .before .before .args in λ y. spells-rest y (a .detail) (a .form) (a .more) _ (c .before .match .rest) (before-only y _ _ [] (c .ahead8 .ensures) refl)))
+    (λ c. let a = c .before .before .args in λ y. spells-arm y (a .detail) (a .form) (a .more) _ 19 tt (c .before .match .keys20) (before-only y _ _ (Struct ∷ []) (c .ahead8 .ensures) refl))
+    (λ c. let a = c .before .before .args in λ y. spells-rest y (a .detail) (a .form) (a .more) _ (c .before .match .rest) (before-only y _ _ [] (c .ahead9 .ensures) refl)))
