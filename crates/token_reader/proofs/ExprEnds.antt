@@ -7,24 +7,25 @@ use native.Mathlib.Omega.{arith}
 use native.Mathlib.Decide.{decLe}
 use Rattle.laws.specs.Choice.{isOneOf}
 use Rattle.tree.specs.Sizes.{listEnd}
-use Rattle.tree.specs.Forms.{ExprAwait, ExprCall, ExprCast, ExprIndex, ExprMethodCall, ExprTry, Link}
+use Rattle.tree.specs.Forms.{ExprAwait, ExprCall, ExprCast, ExprIndex, ExprMethodCall, ExprStruct, ExprTry, Link}
 use Rattle.tree.specs.Trees.{Tree, none, node}
 use Rattle.token_grammar.specs.Tokens.{Token, As, Dot, LeftParen, RightParen, LeftBracket, RightBracket, Comma, Question, Await, code, operatorOf, carries}
 use Rattle.token_grammar.specs.Codes.{tokenOf, signOf, codeAt, tokenSymbolAt, areTokens}
 use Rattle.token_grammar.specs.Levels.{casts, prefixes, postfixes, kind, level, after}
 use Rattle.token_grammar.specs.Bounds.{pastOperators, loosest}
 use Rattle.token_grammar.specs.Types.{one, list, items}
-use Rattle.token_grammar.specs.Expressions.{Atom, Prefix, Member, byName, byNumber, awaited, Expr, atom, paren, prefix, binary, cast, member, try, index, call, method, noArguments, arguments, lastArgument, moreArguments, kindOf, endsInTypeName, endsInDotName}
-use Rattle.token_grammar.specs.Grammar.{NONE}
+use Rattle.token_grammar.specs.Expressions.{Atom, structure, Prefix, Member, byName, byNumber, awaited, Expr, atom, paren, prefix, binary, cast, member, try, index, call, method, noArguments, arguments, lastArgument, moreArguments, kindOf, endsInTypeName, endsInDotName, isStruct}
+use Rattle.token_grammar.specs.Grammar.{Context, NONE, CONDITION, excluded}
 use Rattle.token_grammar.specs.Bare.{bare}
 use Rattle.token_grammar.specs.Parser.{Out, fail, ok, then, tail, isFirst, Start, noStart, anAtom, aPrefix, aGroup, start, startBy, AfterDot, noMember, aMember, afterDot, afterDotBy, isByName, next, AfterItem, closes, another, noItem, afterItem, behind, goesOn, typeBy, exprBy, onBy, argumentsBy, someArgumentsBy}
 use Rattle.token_grammar.specs.Next.{Next, stops, operates, castsTo, dots, calls, indexes, tries, nextOf}
 use Rattle.token_grammar.proofs.Complete.{on-stop}
+use Rattle.token_grammar.proofs.Pairs.{no-struct}
 use Rattle.token_plain.specs.Trees.{labelWith, label, treeOf, treeOfType, atomLabel, prefixLabel, operatorLabel, memberLabel}
 use Rattle.token_reader.specs.declared.piece.Piece.{Piece}
 use Rattle.token_reader.specs.declared.piece.Parsed.{Parsed}
 use Rattle.token_reader.specs.Tables.{pastComma, levelOf, afterOf, goesOnWith, operatorForm, operatorDetail}
-use Rattle.token_reader.specs.Pieces.{many, Placed, Stored, Ready, Grew, Tells, from, Enough, IsType, TypeAt, IsExpr, IsArguments, Postfix, ExprAt, ArgumentsAt, AtomAt, PrefixedAt, closeBy, GroupAt, operandBy, OperandAt, callBy, memberBy, dotBy, stepBy, StepAt, BinaryAt, CastAt, IndexAt, TryAt, MemberAt, DotAt, NamedAt, Called, CallAt}
+use Rattle.token_reader.specs.Pieces.{many, Placed, Stored, Ready, Grew, Tells, from, Enough, IsType, TypeAt, IsExpr, IsArguments, Postfix, ExprAt, ArgumentsAt, AtomAt, PrefixedAt, closeBy, GroupAt, atomBy, StructAt, operandBy, OperandAt, callBy, memberBy, dotBy, stepBy, StepAt, BinaryAt, CastAt, IndexAt, TryAt, MemberAt, DotAt, NamedAt, Called, CallAt}
 use Rattle.token_reader.proofs.First.{there, past-tokens, code-most, no-symbol, tail-from, tail-from-next, first-there, first-other, start-at, after-dot-at, next-at}
 use Rattle.token_reader.proofs.Lists.{comma-there, closed-past, closed-at, more-at, none-at}
 use Rattle.token_reader.proofs.Nodes.{carried, lower, placed, grew-none, grew-wider, grew-on, grew-node}
@@ -33,9 +34,9 @@ use Rattle.token_reader.proofs.Tells.{tells-none, tells-some, tells-the
 use Rattle.token_reader.proofs.Steps.{expr-step, on-by}
 
 -- what is answered where an expression goes on; `left` is what was read of it
-pub record OnAt (tokens own now : List ℕ) (left : Parsed) (least : ℕ) (r : Parsed) : Type 0 where
+pub record OnAt (c : Context) (tokens own now : List ℕ) (left : Parsed) (least : ℕ) (r : Parsed) : Type 0 where
   pub grew : r .at ≤ many tokens → Grew own now (left .at) (left .free) (r .at) (r .free)
-  pub tells : (e : Expr one) → IsExpr own left e → (f : ℕ) → Enough tokens (left .at) 1 f → Tells (IsExpr now r) tokens (r .at) (onBy f NONE least e (from tokens (left .at)))
+  pub tells : (e : Expr one) → IsExpr own left e → (f : ℕ) → Enough tokens (left .at) 1 f → Tells (IsExpr now r) tokens (r .at) (onBy f c least e (from tokens (left .at)))
 
 -- ---- what binds most strongly
 
@@ -67,7 +68,7 @@ closed-by close whole a r e = rw (e, closeBy)
 closed-not : (close : Token) (whole : Expr one → Expr one) (a : Expr one) (r : List Token) → isFirst close r ≡ false → closeBy close whole a r ≡ fail
 closed-not close whole a r e = rw (e, closeBy)
 
-module _ {tokens own mid : List ℕ} {at free : ℕ} (known : areTokens tokens ≡ true) (inner : Parsed) (i : ExprAt tokens own mid at free loosest inner) (close : Token) (whole : Expr one → Expr one) (Be : Expr one → Type 0) where
+module _ {tokens own mid : List ℕ} {at free : ℕ} (known : areTokens tokens ≡ true) (inner : Parsed) (i : ExprAt NONE tokens own mid at free loosest inner) (close : Token) (whole : Expr one → Expr one) (Be : Expr one → Type 0) where
   not-closed : (to : ℕ) → (codeAt tokens (inner .at) ≡ code close → ⊥) → many tokens < to → (g : ℕ) → Enough tokens at 0 g → Tells Be tokens to (then (exprBy g NONE loosest (from tokens at)) (closeBy close whole))
   not-closed to n h g q =
       tells-then (IsExpr mid inner) Be tokens (inner .at) to (exprBy g NONE loosest (from tokens at)) (closeBy close whole) (i .tells g q) (λ z. h)
@@ -81,11 +82,14 @@ module _ {tokens own mid : List ℕ} {at free : ℕ} (known : areTokens tokens �
 
 -- ---- what an expression begins with
 
-begun : (tokens : List ℕ) (at : ℕ) (known : areTokens tokens ≡ true) (P : Out (Expr one) → Type 0) (g : ℕ) (x : Start) → startBy (codeAt tokens at) (tokenSymbolAt tokens at) ≡ x → P (operandBy g (from tokens (at + 1)) x) →
-    P (operandBy g (tail (from tokens at)) (start (from tokens at)))
-begun tokens at known P g x e p =
-    subst (λ ts. P (operandBy g ts (start (from tokens at)))) (sym (tail-from tokens at))
-    (subst (λ y. P (operandBy g (from tokens (at + 1)) y)) (sym (start-at tokens at known ∙ e)) p)
+atom-by : (c : Context) (x : Atom) (ts : List Token) → excluded c (atom x) ≡ false → atomBy c x ts ≡ ok (atom x) ts
+atom-by c x ts h = rw (h, atomBy)
+
+begun : (c : Context) (tokens : List ℕ) (at : ℕ) (known : areTokens tokens ≡ true) (P : Out (Expr one) → Type 0) (g : ℕ) (x : Start) → startBy (codeAt tokens at) (tokenSymbolAt tokens at) ≡ x → P (operandBy c g (from tokens (at + 1)) x) →
+    P (operandBy c g (tail (from tokens at)) (start (from tokens at)))
+begun c tokens at known P g x e p =
+    subst (λ ts. P (operandBy c g ts (start (from tokens at)))) (sym (tail-from tokens at))
+    (subst (λ y. P (operandBy c g (from tokens (at + 1)) y)) (sym (start-at tokens at known ∙ e)) p)
 
 module _ {tokens own now : List ℕ} {at free : ℕ} (ready : Ready tokens own at free) where
   pub atom-stored : {form left : ℕ} {r : Parsed} → at < many tokens → Stored own now free left form 0 0 0 (tokenSymbolAt tokens at) → Postfix (at + 1) left r → AtomAt tokens own now at free form r
@@ -96,36 +100,52 @@ module _ {tokens own now : List ℕ} {at free : ℕ} (ready : Ready tokens own a
         tells = λ y e. tells-strong x tokens (IsExpr now r) (atom y) (omega arith) (is-strong x now (atom y) refl refl refl (placed none none (atomLabel y) s e (ready .most) refl refl));
       }
 
-  pub operand-atom : {form : ℕ} {r : Parsed} (x : Atom) → startBy (codeAt tokens at) (tokenSymbolAt tokens at) ≡ anAtom x → labelWith form 0 (tokenSymbolAt tokens at) ≡ atomLabel x → AtomAt tokens own now at free form r → OperandAt tokens own now at free r
-  operand-atom {form} {r} x e l s =
-      record { past = λ q. s .past; grew = λ q. s .grew; tells = λ g q. begun tokens at (ready .known) (Tells (IsExpr now r) tokens (r .at)) g (anAtom x) e (s .tells x l) }
+  pub operand-atom : {c : Context} {form : ℕ} {r : Parsed} (x : Atom) → startBy (codeAt tokens at) (tokenSymbolAt tokens at) ≡ anAtom x → labelWith form 0 (tokenSymbolAt tokens at) ≡ atomLabel x → isStruct (atom x) ≡ false → AtomAt tokens own now at free form r → OperandAt c tokens own now at free r
+  operand-atom {c} {form} {r} x e l f s =
+      record {
+        past = λ q. s .past;
+        grew = λ q. s .grew;
+        tells = λ g q.
+            begun c tokens at (ready .known) (Tells (IsExpr now r) tokens (r .at)) g (anAtom x) e
+            (subst (Tells (IsExpr now r) tokens (r .at)) (sym (atom-by c x (from tokens (at + 1)) (no-struct c (atom x) f))) (s .tells x l));
+      }
 
-  pub operand-prefixed : {form detail : ℕ} {r : Parsed} (p : Prefix) → startBy (codeAt tokens at) (tokenSymbolAt tokens at) ≡ aPrefix p → label form detail ≡ prefixLabel p → PrefixedAt tokens own now at free form detail r →
-      OperandAt tokens own now at free r
-  operand-prefixed {form} {detail} {r} p e l s =
-      record { past = s .past; grew = s .grew; tells = λ g q. begun tokens at (ready .known) (Tells (IsExpr now r) tokens (r .at)) g (aPrefix p) e (s .tells p l g q) }
+  pub operand-struct : {c : Context} {r : Parsed} → startBy (codeAt tokens at) (tokenSymbolAt tokens at) ≡ anAtom structure → StructAt c tokens own now at free r → OperandAt c tokens own now at free r
+  operand-struct {c} {r} e s =
+      record { past = s .past; grew = s .grew; tells = λ g q. begun c tokens at (ready .known) (Tells (IsExpr now r) tokens (r .at)) g (anAtom structure) e (s .tells) }
 
-  pub operand-group : {r : Parsed} → startBy (codeAt tokens at) (tokenSymbolAt tokens at) ≡ aGroup → GroupAt tokens own now at free r → OperandAt tokens own now at free r
-  operand-group {r} e s =
-      record { past = s .past; grew = s .grew; tells = λ g q. begun tokens at (ready .known) (Tells (IsExpr now r) tokens (r .at)) g aGroup e (s .tells g q) }
+  pub struct-excluded : {r : Parsed} → r .at ≡ many tokens + 1 → StructAt CONDITION tokens own now at free r
+  struct-excluded {r} z = record { past = λ q. absurd (omega arith); grew = λ q. absurd (omega arith); tells = omega arith }
 
-  pub operand-none : {r : Parsed} → startBy (codeAt tokens at) (tokenSymbolAt tokens at) ≡ noStart → r .at ≡ many tokens + 1 → OperandAt tokens own now at free r
-  operand-none {r} e z =
+  pub struct-read : {r : Parsed} → tokenSymbolAt tokens at ≡ 0 → AtomAt tokens own now at free ExprStruct r → StructAt NONE tokens own now at free r
+  struct-read {r} z s = record { past = λ q. s .past; grew = λ q. s .grew; tells = s .tells structure (ap (labelWith ExprStruct 0) z) }
+
+  pub operand-prefixed : {c : Context} {form detail : ℕ} {r : Parsed} (p : Prefix) → startBy (codeAt tokens at) (tokenSymbolAt tokens at) ≡ aPrefix p → label form detail ≡ prefixLabel p → PrefixedAt c tokens own now at free form detail r →
+      OperandAt c tokens own now at free r
+  operand-prefixed {c} {form} {detail} {r} p e l s =
+      record { past = s .past; grew = s .grew; tells = λ g q. begun c tokens at (ready .known) (Tells (IsExpr now r) tokens (r .at)) g (aPrefix p) e (s .tells p l g q) }
+
+  pub operand-group : {c : Context} {r : Parsed} → startBy (codeAt tokens at) (tokenSymbolAt tokens at) ≡ aGroup → GroupAt tokens own now at free r → OperandAt c tokens own now at free r
+  operand-group {c} {r} e s =
+      record { past = s .past; grew = s .grew; tells = λ g q. begun c tokens at (ready .known) (Tells (IsExpr now r) tokens (r .at)) g aGroup e (s .tells g q) }
+
+  pub operand-none : {c : Context} {r : Parsed} → startBy (codeAt tokens at) (tokenSymbolAt tokens at) ≡ noStart → r .at ≡ many tokens + 1 → OperandAt c tokens own now at free r
+  operand-none {c} {r} e z =
       record {
         past = λ q. absurd (omega arith);
         grew = λ q. absurd (omega arith);
-        tells = λ g q. begun tokens at (ready .known) (Tells (IsExpr now r) tokens (r .at)) g noStart e (omega arith);
+        tells = λ g q. begun c tokens at (ready .known) (Tells (IsExpr now r) tokens (r .at)) g noStart e (omega arith);
       }
 
-  pub prefixed-none : {form detail : ℕ} {r : Parsed} → many tokens < r .at → ExprAt tokens own now (at + 1) free (level prefixes) r → PrefixedAt tokens own now at free form detail r
-  prefixed-none {form} {detail} {r} h i =
+  pub prefixed-none : {c : Context} {form detail : ℕ} {r : Parsed} → many tokens < r .at → ExprAt c tokens own now (at + 1) free (level prefixes) r → PrefixedAt c tokens own now at free form detail r
+  prefixed-none {c} {form} {detail} {r} h i =
       record {
         past = λ q. absurd (omega arith);
         grew = λ q. absurd (omega arith);
-        tells = λ p e g q. tells-none (IsExpr now r) (IsExpr now r) tokens (r .at) (r .at) (exprBy g NONE (level prefixes) (from tokens (at + 1))) (λ a rest. ok (prefix p a) rest) h h (i .tells g q);
+        tells = λ p e g q. tells-none (IsExpr now r) (IsExpr now r) tokens (r .at) (r .at) (exprBy g c (level prefixes) (from tokens (at + 1))) (λ a rest. ok (prefix p a) rest) h h (i .tells g q);
       }
 
-  pub group-none : {mid : List ℕ} {r : Parsed} (inner : Parsed) → (codeAt tokens (inner .at) ≡ code RightParen → ⊥) → ExprAt tokens own mid (at + 1) free loosest inner → r .at ≡ many tokens + 1 → GroupAt tokens own now at free r
+  pub group-none : {mid : List ℕ} {r : Parsed} (inner : Parsed) → (codeAt tokens (inner .at) ≡ code RightParen → ⊥) → ExprAt NONE tokens own mid (at + 1) free loosest inner → r .at ≡ many tokens + 1 → GroupAt tokens own now at free r
   group-none {mid} {r} inner n i z =
       record {
         past = λ q. absurd (omega arith);
@@ -133,7 +153,7 @@ module _ {tokens own now : List ℕ} {at free : ℕ} (ready : Ready tokens own a
         tells = not-closed (ready .known) inner i RightParen paren (IsExpr now r) (r .at) n (omega arith);
       }
 
-  pub group-closed : {r : Parsed} (inner : Parsed) → codeAt tokens (inner .at) ≡ code RightParen → ExprAt tokens own now (at + 1) free loosest inner → Postfix (inner .at + 1) (inner .free) r → GroupAt tokens own now at free r
+  pub group-closed : {r : Parsed} (inner : Parsed) → codeAt tokens (inner .at) ≡ code RightParen → ExprAt NONE tokens own now (at + 1) free loosest inner → Postfix (inner .at + 1) (inner .free) r → GroupAt tokens own now at free r
   group-closed {r} inner e i x =
       let b = there tokens (inner .at) (code RightParen) e (omega arith) in
       let w = i .grew (omega arith) in
@@ -146,38 +166,38 @@ module _ {tokens own now : List ℕ} {at free : ℕ} (ready : Ready tokens own a
 
   -- ---- a whole expression
 
-  pub expr-none : {least : ℕ} {r : Parsed} → many tokens < r .at → OperandAt tokens own now at free r → ExprAt tokens own now at free least r
+  pub expr-none : {c : Context} {least : ℕ} {r : Parsed} → many tokens < r .at → OperandAt c tokens own now at free r → ExprAt c tokens own now at free least r
   unfolding exprBy
-  expr-none {least} {r} h i = record { grew = λ q. absurd (omega arith); tells = go }
+  expr-none {c} {least} {r} h i = record { grew = λ q. absurd (omega arith); tells = go }
     where
-      go : (f : ℕ) → Enough tokens at 0 f → Tells (IsExpr now r) tokens (r .at) (exprBy f NONE least (from tokens at))
+      go : (f : ℕ) → Enough tokens at 0 f → Tells (IsExpr now r) tokens (r .at) (exprBy f c least (from tokens at))
       go zero q = h
       go (suc g) q =
-          rw (expr-step g least (from tokens at))
-          (tells-none (IsExpr now r) (IsExpr now r) tokens (r .at) (r .at) (operandBy g (tail (from tokens at)) (start (from tokens at))) (λ e rest. onBy g NONE least e rest) h h (i .tells g (omega arith)))
+          rw (expr-step c g least (from tokens at))
+          (tells-none (IsExpr now r) (IsExpr now r) tokens (r .at) (r .at) (operandBy c g (tail (from tokens at)) (start (from tokens at))) (λ e rest. onBy g c least e rest) h h (i .tells g (omega arith)))
 
 module _ {tokens own mid now : List ℕ} {at free : ℕ} (ready : Ready tokens own at free) where
-  pub expr-on : {least : ℕ} {r : Parsed} (left : Parsed) → left .at ≤ many tokens → OperandAt tokens own mid at free left → OnAt tokens mid now left least r → ExprAt tokens own now at free least r
-  expr-on {least} {r} left h i o =
+  pub expr-on : {c : Context} {least : ℕ} {r : Parsed} (left : Parsed) → left .at ≤ many tokens → OperandAt c tokens own mid at free left → OnAt c tokens mid now left least r → ExprAt c tokens own now at free least r
+  expr-on {c} {least} {r} left h i o =
       record { grew = λ q. grew-on at (omega arith) (i .grew h) (o .grew q); tells = go }
     where
-      go : (f : ℕ) → Enough tokens at 0 f → Tells (IsExpr now r) tokens (r .at) (exprBy f NONE least (from tokens at))
+      go : (f : ℕ) → Enough tokens at 0 f → Tells (IsExpr now r) tokens (r .at) (exprBy f c least (from tokens at))
       go zero q = absurd (omega (arith, i .past h))
       go (suc g) q =
-          rw (expr-step g least (from tokens at))
-          (tells-some (IsExpr mid left) (IsExpr now r) tokens (left .at) (r .at) (operandBy g (tail (from tokens at)) (start (from tokens at))) (λ e rest. onBy g NONE least e rest) h (i .tells g (omega arith))
+          rw (expr-step c g least (from tokens at))
+          (tells-some (IsExpr mid left) (IsExpr now r) tokens (left .at) (r .at) (operandBy c g (tail (from tokens at)) (start (from tokens at))) (λ e rest. onBy g c least e rest) h (i .tells g (omega arith))
           (λ e y. o .tells e y g (omega (arith, i .past h))))
 
-  pub prefixed-stored : {form detail left : ℕ} (r : Parsed) → r .at ≤ many tokens → ExprAt tokens own mid (at + 1) free (level prefixes) r → Stored mid now (r .free) left form detail (r .free + 1) 0 0 →
-      PrefixedAt tokens own now at free form detail (record { at = r .at; free = left; level = level prefixes; named = r .named; dotted = r .dotted })
-  prefixed-stored {form} {detail} {left} r h i s =
+  pub prefixed-stored : {c : Context} {form detail left : ℕ} (r : Parsed) → r .at ≤ many tokens → ExprAt c tokens own mid (at + 1) free (level prefixes) r → Stored mid now (r .free) left form detail (r .free + 1) 0 0 →
+      PrefixedAt c tokens own now at free form detail (record { at = r .at; free = left; level = level prefixes; named = r .named; dotted = r .dotted })
+  prefixed-stored {c} {form} {detail} {left} r h i s =
       let w = i .grew h in
       let z : Parsed = record { at = r .at; free = left; level = level prefixes; named = r .named; dotted = r .dotted } in
       record {
         past = λ q. omega (arith, w .upto);
         grew = λ q. grew-node at (r .at) (omega (arith, w .upto)) (omega arith) w s;
         tells = λ p e g q.
-            tells-some (IsExpr mid r) (IsExpr now z) tokens (r .at) (r .at) (exprBy g NONE (level prefixes) (from tokens (at + 1))) (λ a rest. ok (prefix p a) rest) h (i .tells g q)
+            tells-some (IsExpr mid r) (IsExpr now z) tokens (r .at) (r .at) (exprBy g c (level prefixes) (from tokens (at + 1))) (λ a rest. ok (prefix p a) rest) h (i .tells g q)
             (λ a y. (
               h,
               refl,
@@ -197,90 +217,90 @@ module _ {tokens own : List ℕ} (left : Parsed) (ready : Ready tokens own (left
   goes least e y =
       rw (y .strong, y .type-last, y .name-last, next-at tokens (left .at)) (goes-on-at least e (nextOf (signOf (codeAt tokens (left .at)))))
 
-  pub on-stops : {least : ℕ} → goesOnWith least (left .level) (left .named) (left .dotted) (codeAt tokens (left .at)) ≡ false → OnAt tokens own own left least left
-  on-stops {least} n = record { grew = λ q. grew-none own (left .at) (left .free) (left .at) (omega arith); tells = go }
+  pub on-stops : {c : Context} {least : ℕ} → goesOnWith least (left .level) (left .named) (left .dotted) (codeAt tokens (left .at)) ≡ false → OnAt c tokens own own left least left
+  on-stops {c} {least} n = record { grew = λ q. grew-none own (left .at) (left .free) (left .at) (omega arith); tells = go }
     where
-      go : (e : Expr one) → IsExpr own left e → (f : ℕ) → Enough tokens (left .at) 1 f → Tells (IsExpr own left) tokens (left .at) (onBy f NONE least e (from tokens (left .at)))
+      go : (e : Expr one) → IsExpr own left e → (f : ℕ) → Enough tokens (left .at) 1 f → Tells (IsExpr own left) tokens (left .at) (onBy f c least e (from tokens (left .at)))
       go e y zero q = absurd (omega (arith, ready .within))
-      go e y (suc g) q = rw (on-stop g NONE least e (from tokens (left .at)) (sym (goes least e y) ∙ n)) (ready .within, refl, y)
+      go e y (suc g) q = rw (on-stop g c least e (from tokens (left .at)) (sym (goes least e y) ∙ n)) (ready .within, refl, y)
 
-  pub on-none : {now : List ℕ} {least : ℕ} {r : Parsed} → 1 ≤ least → goesOnWith least (left .level) (left .named) (left .dotted) (codeAt tokens (left .at)) ≡ true → many tokens < r .at →
-      StepAt tokens own now left r → OnAt tokens own now left least r
-  on-none {now} {least} {r} l p h i = record { grew = λ q. absurd (omega arith); tells = go }
+  pub on-none : {c : Context} {now : List ℕ} {least : ℕ} {r : Parsed} → 1 ≤ least → goesOnWith least (left .level) (left .named) (left .dotted) (codeAt tokens (left .at)) ≡ true → many tokens < r .at →
+      StepAt c tokens own now left r → OnAt c tokens own now left least r
+  on-none {c} {now} {least} {r} l p h i = record { grew = λ q. absurd (omega arith); tells = go }
     where
-      go : (e : Expr one) → IsExpr own left e → (f : ℕ) → Enough tokens (left .at) 1 f → Tells (IsExpr now r) tokens (r .at) (onBy f NONE least e (from tokens (left .at)))
+      go : (e : Expr one) → IsExpr own left e → (f : ℕ) → Enough tokens (left .at) 1 f → Tells (IsExpr now r) tokens (r .at) (onBy f c least e (from tokens (left .at)))
       go e y zero q = absurd (omega (arith, ready .within))
       go e y (suc g) q =
-          rw (on-by g least e (from tokens (left .at)) l (sym (goes least e y) ∙ p))
-          (tells-none (IsExpr now r) (IsExpr now r) tokens (r .at) (r .at) (stepBy g e (tail (from tokens (left .at))) (next (from tokens (left .at)))) (λ x rest. onBy g NONE least x rest) h h (i .tells e y g (omega arith)))
+          rw (on-by c g least e (from tokens (left .at)) l (sym (goes least e y) ∙ p))
+          (tells-none (IsExpr now r) (IsExpr now r) tokens (r .at) (r .at) (stepBy c g e (tail (from tokens (left .at))) (next (from tokens (left .at)))) (λ x rest. onBy g c least x rest) h h (i .tells e y g (omega arith)))
 
-  pub on-more : {mid now : List ℕ} {least : ℕ} {r : Parsed} (more : Parsed) → 1 ≤ least → goesOnWith least (left .level) (left .named) (left .dotted) (codeAt tokens (left .at)) ≡ true → more .at ≤ many tokens →
-      StepAt tokens own mid left more → OnAt tokens mid now more least r → OnAt tokens own now left least r
-  on-more {mid} {now} {least} {r} more l p h i o =
+  pub on-more : {c : Context} {mid now : List ℕ} {least : ℕ} {r : Parsed} (more : Parsed) → 1 ≤ least → goesOnWith least (left .level) (left .named) (left .dotted) (codeAt tokens (left .at)) ≡ true → more .at ≤ many tokens →
+      StepAt c tokens own mid left more → OnAt c tokens mid now more least r → OnAt c tokens own now left least r
+  on-more {c} {mid} {now} {least} {r} more l p h i o =
       record { grew = λ q. grew-on (left .at) (omega arith) (i .grew h) (o .grew q); tells = go }
     where
-      go : (e : Expr one) → IsExpr own left e → (f : ℕ) → Enough tokens (left .at) 1 f → Tells (IsExpr now r) tokens (r .at) (onBy f NONE least e (from tokens (left .at)))
+      go : (e : Expr one) → IsExpr own left e → (f : ℕ) → Enough tokens (left .at) 1 f → Tells (IsExpr now r) tokens (r .at) (onBy f c least e (from tokens (left .at)))
       go e y zero q = absurd (omega (arith, ready .within))
       go e y (suc g) q =
-          rw (on-by g least e (from tokens (left .at)) l (sym (goes least e y) ∙ p))
-          (tells-some (IsExpr mid more) (IsExpr now r) tokens (more .at) (r .at) (stepBy g e (tail (from tokens (left .at))) (next (from tokens (left .at)))) (λ x rest. onBy g NONE least x rest) h (i .tells e y g (omega arith))
+          rw (on-by c g least e (from tokens (left .at)) l (sym (goes least e y) ∙ p))
+          (tells-some (IsExpr mid more) (IsExpr now r) tokens (more .at) (r .at) (stepBy c g e (tail (from tokens (left .at))) (next (from tokens (left .at)))) (λ x rest. onBy g c least x rest) h (i .tells e y g (omega arith))
           (λ x w. o .tells x w g (omega (arith, i .past h))))
 
   -- ---- one form, by the token that makes it
 
-  followed : (P : Out (Expr one) → Type 0) (g : ℕ) (e : Expr one) (x : Next) → nextOf (signOf (codeAt tokens (left .at))) ≡ x → P (stepBy g e (from tokens (left .at + 1)) x) →
-      P (stepBy g e (tail (from tokens (left .at))) (next (from tokens (left .at))))
-  followed P g e x q p =
-      subst (λ ts. P (stepBy g e ts (next (from tokens (left .at))))) (sym (tail-from tokens (left .at)))
-      (subst (λ y. P (stepBy g e (from tokens (left .at + 1)) y)) (sym (next-at tokens (left .at) ∙ q)) p)
+  followed : (c : Context) (P : Out (Expr one) → Type 0) (g : ℕ) (e : Expr one) (x : Next) → nextOf (signOf (codeAt tokens (left .at))) ≡ x → P (stepBy c g e (from tokens (left .at + 1)) x) →
+      P (stepBy c g e (tail (from tokens (left .at))) (next (from tokens (left .at))))
+  followed c P g e x q p =
+      subst (λ ts. P (stepBy c g e ts (next (from tokens (left .at))))) (sym (tail-from tokens (left .at)))
+      (subst (λ y. P (stepBy c g e (from tokens (left .at + 1)) y)) (sym (next-at tokens (left .at) ∙ q)) p)
 
-  pub step-binary : {now : List ℕ} {r : Parsed} (n : ℕ) → n < pastOperators → codeAt tokens (left .at) ≡ n → BinaryAt tokens own now left n r → StepAt tokens own now left r
-  step-binary {now} {r} n h e s =
+  pub step-binary : {c : Context} {now : List ℕ} {r : Parsed} (n : ℕ) → n < pastOperators → codeAt tokens (left .at) ≡ n → BinaryAt c tokens own now left n r → StepAt c tokens own now left r
+  step-binary {c} {now} {r} n h e s =
       record {
         past = s .past;
         grew = s .grew;
-        tells = λ a y g q. followed (Tells (IsExpr now r) tokens (r .at)) g a (operates (operatorOf n)) (ap (λ k. nextOf (signOf k)) e ∙ ap nextOf (operator-token n h)) (s .tells a y g q);
+        tells = λ a y g q. followed c (Tells (IsExpr now r) tokens (r .at)) g a (operates (operatorOf n)) (ap (λ k. nextOf (signOf k)) e ∙ ap nextOf (operator-token n h)) (s .tells a y g q);
       }
 
-  pub step-cast : {now : List ℕ} {r : Parsed} → codeAt tokens (left .at) ≡ code As → CastAt tokens own now left r → StepAt tokens own now left r
+  pub step-cast : {c : Context} {now : List ℕ} {r : Parsed} → codeAt tokens (left .at) ≡ code As → CastAt tokens own now left r → StepAt c tokens own now left r
   unfolding tokenOf
-  step-cast {now} {r} e s =
-      record { past = s .past; grew = s .grew; tells = λ a y g q. followed (Tells (IsExpr now r) tokens (r .at)) g a castsTo (ap (λ k. nextOf (signOf k)) e) (s .tells a y g q) }
+  step-cast {c} {now} {r} e s =
+      record { past = s .past; grew = s .grew; tells = λ a y g q. followed c (Tells (IsExpr now r) tokens (r .at)) g a castsTo (ap (λ k. nextOf (signOf k)) e) (s .tells a y g q) }
 
-  pub step-dot : {now : List ℕ} {r : Parsed} → codeAt tokens (left .at) ≡ code Dot → DotAt tokens own now left r → StepAt tokens own now left r
+  pub step-dot : {c : Context} {now : List ℕ} {r : Parsed} → codeAt tokens (left .at) ≡ code Dot → DotAt tokens own now left r → StepAt c tokens own now left r
   unfolding tokenOf
-  step-dot {now} {r} e s =
-      record { past = s .past; grew = s .grew; tells = λ a y g q. followed (Tells (IsExpr now r) tokens (r .at)) g a dots (ap (λ k. nextOf (signOf k)) e) (s .tells a y g q) }
+  step-dot {c} {now} {r} e s =
+      record { past = s .past; grew = s .grew; tells = λ a y g q. followed c (Tells (IsExpr now r) tokens (r .at)) g a dots (ap (λ k. nextOf (signOf k)) e) (s .tells a y g q) }
 
-  pub step-call : {now : List ℕ} {r : Parsed} → codeAt tokens (left .at) ≡ code LeftParen → CallAt tokens own now (left .at) (left .free) ExprCall 0 r → StepAt tokens own now left r
+  pub step-call : {c : Context} {now : List ℕ} {r : Parsed} → codeAt tokens (left .at) ≡ code LeftParen → CallAt tokens own now (left .at) (left .free) ExprCall 0 r → StepAt c tokens own now left r
   unfolding tokenOf
-  step-call {now} {r} e s =
+  step-call {c} {now} {r} e s =
       record {
         past = s .past;
         grew = s .grew;
         tells = λ a y g q.
-            followed (Tells (IsExpr now r) tokens (r .at)) g a calls (ap (λ k. nextOf (signOf k)) e)
+            followed c (Tells (IsExpr now r) tokens (r .at)) g a calls (ap (λ k. nextOf (signOf k)) e)
             (s .tells (treeOf (bare a)) (y .placed) (call a) (λ l. record { strong = refl; type-last = refl; name-last = refl; tree = refl }) g q);
       }
 
-  pub step-index : {now : List ℕ} {r : Parsed} → codeAt tokens (left .at) ≡ code LeftBracket → IndexAt tokens own now left r → StepAt tokens own now left r
+  pub step-index : {c : Context} {now : List ℕ} {r : Parsed} → codeAt tokens (left .at) ≡ code LeftBracket → IndexAt tokens own now left r → StepAt c tokens own now left r
   unfolding tokenOf
-  step-index {now} {r} e s =
-      record { past = s .past; grew = s .grew; tells = λ a y g q. followed (Tells (IsExpr now r) tokens (r .at)) g a indexes (ap (λ k. nextOf (signOf k)) e) (s .tells a y g q) }
+  step-index {c} {now} {r} e s =
+      record { past = s .past; grew = s .grew; tells = λ a y g q. followed c (Tells (IsExpr now r) tokens (r .at)) g a indexes (ap (λ k. nextOf (signOf k)) e) (s .tells a y g q) }
 
-  pub step-try : {now : List ℕ} {r : Parsed} → codeAt tokens (left .at) ≡ code Question → TryAt tokens own now left r → StepAt tokens own now left r
+  pub step-try : {c : Context} {now : List ℕ} {r : Parsed} → codeAt tokens (left .at) ≡ code Question → TryAt tokens own now left r → StepAt c tokens own now left r
   unfolding tokenOf
-  step-try {now} {r} e s =
-      record { past = λ q. s .past; grew = λ q. s .grew; tells = λ a y g q. followed (Tells (IsExpr now r) tokens (r .at)) g a tries (ap (λ k. nextOf (signOf k)) e) (s .tells a y) }
+  step-try {c} {now} {r} e s =
+      record { past = λ q. s .past; grew = λ q. s .grew; tells = λ a y g q. followed c (Tells (IsExpr now r) tokens (r .at)) g a tries (ap (λ k. nextOf (signOf k)) e) (s .tells a y) }
 
-  pub step-none : {now : List ℕ} {r : Parsed} → pastOperators ≤ codeAt tokens (left .at) → isOneOf formCodes (codeAt tokens (left .at)) ≡ false → r .at ≡ many tokens + 1 →
-      StepAt tokens own now left r
-  step-none {now} {r} h e z =
+  pub step-none : {c : Context} {now : List ℕ} {r : Parsed} → pastOperators ≤ codeAt tokens (left .at) → isOneOf formCodes (codeAt tokens (left .at)) ≡ false → r .at ≡ many tokens + 1 →
+      StepAt c tokens own now left r
+  step-none {c} {now} {r} h e z =
       record {
         past = λ q. absurd (omega arith);
         grew = λ q. absurd (omega arith);
         tells = λ a y g q.
-            followed (Tells (IsExpr now r) tokens (r .at)) g a stops (others-stop (codeAt tokens (left .at)) (code-most tokens (left .at) (ready .known)) h e) (omega arith);
+            followed c (Tells (IsExpr now r) tokens (r .at)) g a stops (others-stop (codeAt tokens (left .at)) (code-most tokens (left .at) (ready .known)) h e) (omega arith);
       }
 
 -- ---- one form after the other
@@ -294,14 +314,14 @@ goes-inside tokens at least strength t d h e = go (decLe (many tokens) at)
     go (yes q) = absurd (past-goes least strength t d h (subst (λ n. goesOnWith least strength t d n ≡ true) (past-tokens tokens at q) e))
 
 -- what was read from `first` up to `left`; where `first` is not there, nothing
-pub record Under (tokens own now : List ℕ) (least : ℕ) (first left : Parsed) : Type 0 where
+pub record Under (c : Context) (tokens own now : List ℕ) (least : ℕ) (first left : Parsed) : Type 0 where
   pub none : many tokens < first .at → (left ≡ first) × (now ≡ own)
   pub grew : first .at ≤ many tokens → left .at ≤ many tokens → Grew own now (first .at) (first .free) (left .at) (left .free)
-  pub goal : first .at ≤ many tokens → left .at ≤ many tokens → (end : List ℕ) (r : Parsed) → OnAt tokens now end left least r → OnAt tokens own end first least r
-  pub lost : first .at ≤ many tokens → many tokens < left .at → OnAt tokens own now first least left
+  pub goal : first .at ≤ many tokens → left .at ≤ many tokens → (end : List ℕ) (r : Parsed) → OnAt c tokens now end left least r → OnAt c tokens own end first least r
+  pub lost : first .at ≤ many tokens → many tokens < left .at → OnAt c tokens own now first least left
 
-pub under-start : (tokens own : List ℕ) (least : ℕ) (first : Parsed) → Under tokens own own least first first
-under-start tokens own least first =
+pub under-start : (c : Context) (tokens own : List ℕ) (least : ℕ) (first : Parsed) → Under c tokens own own least first first
+under-start c tokens own least first =
     record {
       none = λ h. (refl, refl);
       grew = λ h k. grew-none own (first .at) (first .free) (first .at) (omega arith);
@@ -309,7 +329,7 @@ under-start tokens own least first =
       lost = λ h k. absurd (omega arith);
     }
 
-module _ {tokens own mid now : List ℕ} {at free least : ℕ} (ready : Ready tokens own at free) (first left : Parsed) (i : OperandAt tokens own mid at free first) (u : Under tokens mid now least first left) where
+module _ {c : Context} {tokens own mid now : List ℕ} {at free least : ℕ} (ready : Ready tokens own at free) (first left : Parsed) (i : OperandAt c tokens own mid at free first) (u : Under c tokens mid now least first left) where
   -- what goes on was there
   pub under-there : left .at ≤ many tokens → first .at ≤ many tokens
   under-there h = go (decLe (first .at) (many tokens))
@@ -327,7 +347,7 @@ module _ {tokens own mid now : List ℕ} {at free least : ℕ} (ready : Ready to
   under-past h = let k = under-there h in omega (arith, i .past k, u .grew k h .upto)
 
   pub under-step : {next : List ℕ} (more : Parsed) → 1 ≤ least → goesOnWith least (left .level) (left .named) (left .dotted) (codeAt tokens (left .at)) ≡ true → left .at ≤ many tokens →
-      StepAt tokens now next left more → Under tokens mid next least first more
+      StepAt c tokens now next left more → Under c tokens mid next least first more
   under-step {next} more l p h s =
       let k = under-there h in
       let ready₂ = under-ready h in
@@ -338,20 +358,20 @@ module _ {tokens own mid now : List ℕ} {at free least : ℕ} (ready : Ready to
         lost = λ a b. u .goal k h next more (on-none left ready₂ l p b s);
       }
 
-  pub under-end : goesOnWith least (left .level) (left .named) (left .dotted) (codeAt tokens (left .at)) ≡ false → ExprAt tokens own now at free least left
+  pub under-end : goesOnWith least (left .level) (left .named) (left .dotted) (codeAt tokens (left .at)) ≡ false → ExprAt c tokens own now at free least left
   under-end n = go (decLe (first .at) (many tokens)) (decLe (left .at) (many tokens))
     where
-      go : Dec (first .at ≤ many tokens) → Dec (left .at ≤ many tokens) → ExprAt tokens own now at free least left
+      go : Dec (first .at ≤ many tokens) → Dec (left .at ≤ many tokens) → ExprAt c tokens own now at free least left
       go (yes q) (yes h) = expr-on ready first q i (u .goal q h now left (on-stops left (under-ready h) n))
       go (yes q) (no h) = expr-on ready first q i (u .lost q (omega arith))
       go (no q) h =
           let e = u .none (omega arith) in
-          subst (λ z. ExprAt tokens own z at free least left) (sym (e .1))
-          (subst (λ z. ExprAt tokens own mid at free least z) (sym (e .0)) (expr-none ready (omega arith) i))
+          subst (λ z. ExprAt c tokens own z at free least left) (sym (e .1))
+          (subst (λ z. ExprAt c tokens own mid at free least z) (sym (e .0)) (expr-none ready (omega arith) i))
 
 -- with each form there are fewer tokens left
-pub step-less : {tokens own now : List ℕ} (left more : Parsed) → left .at < many tokens → StepAt tokens own now left more → many tokens + 1 - more .at < many tokens + 1 - left .at
-step-less {tokens} left more h i = go (decLe (more .at) (many tokens))
+pub step-less : {c : Context} {tokens own now : List ℕ} (left more : Parsed) → left .at < many tokens → StepAt c tokens own now left more → many tokens + 1 - more .at < many tokens + 1 - left .at
+step-less {c} {tokens} left more h i = go (decLe (more .at) (many tokens))
   where
     go : Dec (more .at ≤ many tokens) → many tokens + 1 - more .at < many tokens + 1 - left .at
     go (yes q) = omega (arith, i .past q)
@@ -360,29 +380,29 @@ step-less {tokens} left more h i = go (decLe (more .at) (many tokens))
 -- ---- the forms
 
 module _ {tokens own now : List ℕ} (left : Parsed) (ready : Ready tokens own (left .at) (left .free)) where
-  pub binary-none : {n : ℕ} {r : Parsed} → n < pastOperators → many tokens < r .at → ExprAt tokens own now (left .at + 1) (left .free) (afterOf (levelOf n)) r → BinaryAt tokens own now left n r
-  binary-none {n} {r} k h i =
+  pub binary-none : {c : Context} {n : ℕ} {r : Parsed} → n < pastOperators → many tokens < r .at → ExprAt c tokens own now (left .at + 1) (left .free) (afterOf (levelOf n)) r → BinaryAt c tokens own now left n r
+  binary-none {c} {n} {r} k h i =
       record {
         past = λ q. absurd (omega arith);
         grew = λ q. absurd (omega arith);
         tells = λ e y g q.
-            tells-none (IsExpr now r) (IsExpr now r) tokens (r .at) (r .at) (exprBy g NONE (after (kind (operatorOf n))) (from tokens (left .at + 1))) (λ b rest. ok (binary (operatorOf n) e b) rest) h h
-            (subst (λ l. Tells (IsExpr now r) tokens (r .at) (exprBy g NONE l (from tokens (left .at + 1)))) (operator-after n k) (i .tells g (omega arith)));
+            tells-none (IsExpr now r) (IsExpr now r) tokens (r .at) (r .at) (exprBy g c (after (kind (operatorOf n))) (from tokens (left .at + 1))) (λ b rest. ok (binary (operatorOf n) e b) rest) h h
+            (subst (λ l. Tells (IsExpr now r) tokens (r .at) (exprBy g c l (from tokens (left .at + 1)))) (operator-after n k) (i .tells g (omega arith)));
       }
 
 module _ {tokens own mid now : List ℕ} (left : Parsed) (ready : Ready tokens own (left .at) (left .free)) where
-  pub binary-stored : {n left₂ strength form detail : ℕ} (r : Parsed) → n < pastOperators → strength ≡ levelOf n → form ≡ operatorForm n → detail ≡ operatorDetail n → r .at ≤ many tokens →
-      ExprAt tokens own mid (left .at + 1) (left .free) (afterOf (levelOf n)) r → Stored mid now (r .free) left₂ form detail (left .free + 1) (r .free + 1) 0 →
-      BinaryAt tokens own now left n (record { at = r .at; free = left₂; level = strength; named = r .named; dotted = r .dotted })
-  binary-stored {n} {left₂} {strength} {form} {detail} r k l f d h i s =
+  pub binary-stored : {c : Context} {n left₂ strength form detail : ℕ} (r : Parsed) → n < pastOperators → strength ≡ levelOf n → form ≡ operatorForm n → detail ≡ operatorDetail n → r .at ≤ many tokens →
+      ExprAt c tokens own mid (left .at + 1) (left .free) (afterOf (levelOf n)) r → Stored mid now (r .free) left₂ form detail (left .free + 1) (r .free + 1) 0 →
+      BinaryAt c tokens own now left n (record { at = r .at; free = left₂; level = strength; named = r .named; dotted = r .dotted })
+  binary-stored {c} {n} {left₂} {strength} {form} {detail} r k l f d h i s =
       let w = i .grew h in
       let z : Parsed = record { at = r .at; free = left₂; level = strength; named = r .named; dotted = r .dotted } in
       record {
         past = λ q. omega (arith, w .upto);
         grew = λ q. grew-node (left .at) (r .at) (omega (arith, w .upto)) (omega arith) w s;
         tells = λ e y g q.
-            tells-some (IsExpr mid r) (IsExpr now z) tokens (r .at) (r .at) (exprBy g NONE (after (kind (operatorOf n))) (from tokens (left .at + 1))) (λ b rest. ok (binary (operatorOf n) e b) rest) h
-            (subst (λ m. Tells (IsExpr mid r) tokens (r .at) (exprBy g NONE m (from tokens (left .at + 1)))) (operator-after n k) (i .tells g (omega arith)))
+            tells-some (IsExpr mid r) (IsExpr now z) tokens (r .at) (r .at) (exprBy g c (after (kind (operatorOf n))) (from tokens (left .at + 1))) (λ b rest. ok (binary (operatorOf n) e b) rest) h
+            (subst (λ m. Tells (IsExpr mid r) tokens (r .at) (exprBy g c m (from tokens (left .at + 1)))) (operator-after n k) (i .tells g (omega arith)))
             (λ b x. (
               h,
               refl,
@@ -430,7 +450,7 @@ module _ {tokens own mid now : List ℕ} (left : Parsed) (ready : Ready tokens o
             ));
       }
 
-  pub index-none : {r : Parsed} (inner : Parsed) → (codeAt tokens (inner .at) ≡ code RightBracket → ⊥) → ExprAt tokens own mid (left .at + 1) (left .free) loosest inner → r .at ≡ many tokens + 1 → IndexAt tokens own now left r
+  pub index-none : {r : Parsed} (inner : Parsed) → (codeAt tokens (inner .at) ≡ code RightBracket → ⊥) → ExprAt NONE tokens own mid (left .at + 1) (left .free) loosest inner → r .at ≡ many tokens + 1 → IndexAt tokens own now left r
   index-none {r} inner n i z =
       record {
         past = λ q. absurd (omega arith);
@@ -438,7 +458,7 @@ module _ {tokens own mid now : List ℕ} (left : Parsed) (ready : Ready tokens o
         tells = λ e y g q. not-closed (ready .known) inner i RightBracket (index e) (IsExpr now r) (r .at) n (omega arith) g (omega arith);
       }
 
-  pub index-stored : {left₂ : ℕ} {r : Parsed} (inner : Parsed) → codeAt tokens (inner .at) ≡ code RightBracket → ExprAt tokens own mid (left .at + 1) (left .free) loosest inner →
+  pub index-stored : {left₂ : ℕ} {r : Parsed} (inner : Parsed) → codeAt tokens (inner .at) ≡ code RightBracket → ExprAt NONE tokens own mid (left .at + 1) (left .free) loosest inner →
       Stored mid now (inner .free) left₂ ExprIndex 0 (left .free + 1) (inner .free + 1) 0 → Postfix (inner .at + 1) left₂ r → IndexAt tokens own now left r
   index-stored {left₂} {r} inner c i s x =
       let b = there tokens (inner .at) (code RightBracket) c (omega arith) in
@@ -627,7 +647,7 @@ argumentsStep g a r x =
       | noItem ↦ fail
     ]
 
-module _ {tokens own mid : List ℕ} {at free : ℕ} (ready : Ready tokens own at free) (first : Parsed) (i : ExprAt tokens own mid at free loosest first) {end : ℕ} (is : end ≡ pastComma tokens (first .at) (code RightParen)) where
+module _ {tokens own mid : List ℕ} {at free : ℕ} (ready : Ready tokens own at free) (first : Parsed) (i : ExprAt NONE tokens own mid at free loosest first) {end : ℕ} (is : end ≡ pastComma tokens (first .at) (code RightParen)) where
   after-first : (Be : Expr items → Type 0) (to : ℕ) (x : AfterItem) → afterItem RightParen (from tokens (first .at)) ≡ x → (many tokens < first .at → many tokens < to) →
       ((g : ℕ) → Enough tokens at 0 g → (a : Expr one) → first .at ≤ many tokens → IsExpr mid first a → Tells Be tokens to (argumentsStep g a (from tokens (first .at)) x)) →
       (f : ℕ) → Enough tokens at 1 f → Tells Be tokens to (someArgumentsBy f (from tokens at))

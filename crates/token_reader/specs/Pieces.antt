@@ -12,8 +12,8 @@ use Rattle.token_grammar.specs.Codes.{tokensOf, tokenSymbolAt, areTokens}
 use Rattle.token_grammar.specs.Levels.{prefixes, postfixes, kind, level, after}
 use Rattle.token_grammar.specs.Bounds.{loosest}
 use Rattle.token_grammar.specs.Types.{one, list, items, TypePrefix, TypeSign, Ty, named, applied, pointing, sign, typeEndsInName}
-use Rattle.token_grammar.specs.Expressions.{Atom, Prefix, Member, byName, Expr, atom, paren, prefix, binary, cast, member, try, index, call, method, kindOf, endsInTypeName, endsInDotName}
-use Rattle.token_grammar.specs.Grammar.{NONE}
+use Rattle.token_grammar.specs.Expressions.{Atom, structure, Prefix, Member, byName, Expr, atom, paren, prefix, binary, cast, member, try, index, call, method, kindOf, endsInTypeName, endsInDotName}
+use Rattle.token_grammar.specs.Grammar.{Context, NONE, CONDITION, excluded}
 use Rattle.token_grammar.specs.Bare.{bare}
 use Rattle.token_grammar.specs.Parser.{Out, fail, ok, then, tail, isFirst, Start, noStart, anAtom, aPrefix, aGroup, start, AfterDot, noMember, aMember, afterDot, isByName, memberSymbol, next, typeBy, typesBy, someTypesBy, exprBy, argumentsBy, someArgumentsBy}
 use Rattle.token_grammar.specs.Next.{Next, stops, operates, castsTo, dots, calls, indexes, tries}
@@ -116,6 +116,11 @@ pub record PathAt (tokens own now : List ℕ) (at free : ℕ) (r : Piece) : Type
 
 -- ---- expressions
 
+-- the context by whether an expression stands in a condition outside every parenthesis, bracket and list
+abbrev pub standsIn : Bool → Context
+standsIn false = NONE
+standsIn true = CONDITION
+
 pub record IsExpr (now : List ℕ) (r : Parsed) (e : Expr one) : Type 0 where
   pub strong : r .level ≡ level (kindOf e)
   pub type-last : r .named ≡ endsInTypeName e
@@ -133,9 +138,9 @@ pub record Postfix (at free : ℕ) (r : Parsed) : Type 0 where
   pub type-last : r .named ≡ false
   pub name-last : r .dotted ≡ false
 
-pub record ExprAt (tokens own now : List ℕ) (at free least : ℕ) (r : Parsed) : Type 0 where
+pub record ExprAt (c : Context) (tokens own now : List ℕ) (at free least : ℕ) (r : Parsed) : Type 0 where
   pub grew : r .at ≤ many tokens → Grew own now at free (r .at) (r .free)
-  pub tells : (f : ℕ) → Enough tokens at 0 f → Tells (IsExpr now r) tokens (r .at) (exprBy f NONE least (from tokens at))
+  pub tells : (f : ℕ) → Enough tokens at 0 f → Tells (IsExpr now r) tokens (r .at) (exprBy f c least (from tokens at))
 
 pub record ArgumentsAt (tokens own now : List ℕ) (at free : ℕ) (r : Piece) : Type 0 where
   pub grew : r .at ≤ many tokens → Grew own now at free (r .at) (r .free)
@@ -148,13 +153,13 @@ pub record AtomAt (tokens own now : List ℕ) (at free form : ℕ) (r : Parsed) 
   pub grew : Grew own now at free (r .at) (r .free)
   pub tells : (x : Atom) → labelWith form 0 (tokenSymbolAt tokens at) ≡ atomLabel x → Tells (IsExpr now r) tokens (r .at) (ok (atom x) (from tokens (at + 1)))
 
-abbrev pub prefixBy : ℕ → Prefix → List Token → Out (Expr one)
-prefixBy g p ts = then (exprBy g NONE (after prefixes) ts) (λ a r. ok (prefix p a) r)
+abbrev pub prefixBy : Context → ℕ → Prefix → List Token → Out (Expr one)
+prefixBy c g p ts = then (exprBy g c (after prefixes) ts) (λ a r. ok (prefix p a) r)
 
-pub record PrefixedAt (tokens own now : List ℕ) (at free form detail : ℕ) (r : Parsed) : Type 0 where
+pub record PrefixedAt (c : Context) (tokens own now : List ℕ) (at free form detail : ℕ) (r : Parsed) : Type 0 where
   pub past : r .at ≤ many tokens → at < r .at
   pub grew : r .at ≤ many tokens → Grew own now at free (r .at) (r .free)
-  pub tells : (p : Prefix) → label form detail ≡ prefixLabel p → (g : ℕ) → Enough tokens (at + 1) 0 g → Tells (IsExpr now r) tokens (r .at) (prefixBy g p (from tokens (at + 1)))
+  pub tells : (p : Prefix) → label form detail ≡ prefixLabel p → (g : ℕ) → Enough tokens (at + 1) 0 g → Tells (IsExpr now r) tokens (r .at) (prefixBy c g p (from tokens (at + 1)))
 
 -- the sign that closes, after what stands in a pair
 abbrev pub closeBy : Token → (Expr one → Expr one) → Expr one → List Token → Out (Expr one)
@@ -168,24 +173,33 @@ pub record GroupAt (tokens own now : List ℕ) (at free : ℕ) (r : Parsed) : Ty
   pub grew : r .at ≤ many tokens → Grew own now at free (r .at) (r .free)
   pub tells : (g : ℕ) → Enough tokens (at + 1) 0 g → Tells (IsExpr now r) tokens (r .at) (groupBy g (from tokens (at + 1)))
 
-abbrev pub operandBy : ℕ → List Token → Start → Out (Expr one)
-operandBy g ts x =
+-- "In context 3 a Struct outside every parenthesis, bracket and argument list has no reading"
+abbrev pub atomBy : Context → Atom → List Token → Out (Expr one)
+atomBy c y ts = elim (excluded c (atom y)) [ true ↦ fail | false ↦ ok (atom y) ts ]
+
+pub record StructAt (c : Context) (tokens own now : List ℕ) (at free : ℕ) (r : Parsed) : Type 0 where
+  pub past : r .at ≤ many tokens → at < r .at
+  pub grew : r .at ≤ many tokens → Grew own now at free (r .at) (r .free)
+  pub tells : Tells (IsExpr now r) tokens (r .at) (atomBy c structure (from tokens (at + 1)))
+
+abbrev pub operandBy : Context → ℕ → List Token → Start → Out (Expr one)
+operandBy c g ts x =
     elim x [
       | noStart ↦ fail
-      | anAtom y ↦ ok (atom y) ts
-      | aPrefix p ↦ prefixBy g p ts
+      | anAtom y ↦ atomBy c y ts
+      | aPrefix p ↦ prefixBy c g p ts
       | aGroup ↦ groupBy g ts
     ]
 
-pub record OperandAt (tokens own now : List ℕ) (at free : ℕ) (r : Parsed) : Type 0 where
+pub record OperandAt (c : Context) (tokens own now : List ℕ) (at free : ℕ) (r : Parsed) : Type 0 where
   pub past : r .at ≤ many tokens → at < r .at
   pub grew : r .at ≤ many tokens → Grew own now at free (r .at) (r .free)
-  pub tells : (g : ℕ) → Enough tokens (at + 1) 0 g → Tells (IsExpr now r) tokens (r .at) (operandBy g (tail (from tokens at)) (start (from tokens at)))
+  pub tells : (g : ℕ) → Enough tokens (at + 1) 0 g → Tells (IsExpr now r) tokens (r .at) (operandBy c g (tail (from tokens at)) (start (from tokens at)))
 
 -- ---- what an expression goes on with; `left` is what was read of it
 
-abbrev pub binaryBy : ℕ → Operator → Expr one → List Token → Out (Expr one)
-binaryBy g o e ts = then (exprBy g NONE (after (kind o)) ts) (λ b r. ok (binary o e b) r)
+abbrev pub binaryBy : Context → ℕ → Operator → Expr one → List Token → Out (Expr one)
+binaryBy c g o e ts = then (exprBy g c (after (kind o)) ts) (λ b r. ok (binary o e b) r)
 
 abbrev pub castBy : ℕ → Expr one → List Token → Out (Expr one)
 castBy g e ts = then (typeBy g ts) (λ t r. ok (cast e t) r)
@@ -203,11 +217,11 @@ memberBy g e m ts called = elim called [ true ↦ callBy g (method (memberSymbol
 abbrev pub dotBy : ℕ → Expr one → List Token → AfterDot → Out (Expr one)
 dotBy g e ts x = elim x [ noMember ↦ fail | aMember m ↦ memberBy g e m (tail ts) (isByName m && isFirst LeftParen (tail ts)) ]
 
-abbrev pub stepBy : ℕ → Expr one → List Token → Next → Out (Expr one)
-stepBy g e ts x =
+abbrev pub stepBy : Context → ℕ → Expr one → List Token → Next → Out (Expr one)
+stepBy c g e ts x =
     elim x [
       | stops ↦ fail
-      | operates o ↦ binaryBy g o e ts
+      | operates o ↦ binaryBy c g o e ts
       | castsTo ↦ castBy g e ts
       | dots ↦ dotBy g e ts (afterDot ts)
       | calls ↦ callBy g (call e) ts
@@ -215,16 +229,16 @@ stepBy g e ts x =
       | tries ↦ ok (try e) ts
     ]
 
-pub record StepAt (tokens own now : List ℕ) (left r : Parsed) : Type 0 where
+pub record StepAt (c : Context) (tokens own now : List ℕ) (left r : Parsed) : Type 0 where
   pub past : r .at ≤ many tokens → left .at < r .at
   pub grew : r .at ≤ many tokens → Grew own now (left .at) (left .free) (r .at) (r .free)
   pub tells : (e : Expr one) → IsExpr own left e → (g : ℕ) → Enough tokens (left .at) 0 g →
-      Tells (IsExpr now r) tokens (r .at) (stepBy g e (tail (from tokens (left .at))) (next (from tokens (left .at))))
+      Tells (IsExpr now r) tokens (r .at) (stepBy c g e (tail (from tokens (left .at))) (next (from tokens (left .at))))
 
-pub record BinaryAt (tokens own now : List ℕ) (left : Parsed) (code : ℕ) (r : Parsed) : Type 0 where
+pub record BinaryAt (c : Context) (tokens own now : List ℕ) (left : Parsed) (code : ℕ) (r : Parsed) : Type 0 where
   pub past : r .at ≤ many tokens → left .at < r .at
   pub grew : r .at ≤ many tokens → Grew own now (left .at) (left .free) (r .at) (r .free)
-  pub tells : (e : Expr one) → IsExpr own left e → (g : ℕ) → Enough tokens (left .at) 0 g → Tells (IsExpr now r) tokens (r .at) (binaryBy g (operatorOf code) e (from tokens (left .at + 1)))
+  pub tells : (e : Expr one) → IsExpr own left e → (g : ℕ) → Enough tokens (left .at) 0 g → Tells (IsExpr now r) tokens (r .at) (binaryBy c g (operatorOf code) e (from tokens (left .at + 1)))
 
 pub record CastAt (tokens own now : List ℕ) (left r : Parsed) : Type 0 where
   pub past : r .at ≤ many tokens → left .at < r .at

@@ -18,9 +18,12 @@ use token_grammar::codes;
 use token_grammar::level;
 use tree::forms;
 use tree::sizes;
+ghost use mathlib.Core.Path.{_≡_};
 ghost use Prim.Native.Nat.{_+_, _≤_, _<_};
+ghost use Rattle.token_grammar.specs.Tokens.{Struct, code};
+ghost use Rattle.token_grammar.specs.Codes.{codeAt};
 ghost use Rattle.token_grammar.specs.Bounds.{pastOperators};
-ghost use Rattle.token_reader.specs.Pieces.{many, Ready, Postfix, AtomAt, ExprAt, OperandAt, PrefixedAt, GroupAt, StepAt, BinaryAt, CastAt, DotAt, NamedAt, MemberAt, TryAt, IndexAt, CallAt, ArgumentsAt};
+ghost use Rattle.token_reader.specs.Pieces.{many, standsIn, Ready, Postfix, AtomAt, StructAt, ExprAt, OperandAt, PrefixedAt, GroupAt, StepAt, BinaryAt, CastAt, DotAt, NamedAt, MemberAt, TryAt, IndexAt, CallAt, ArgumentsAt};
 
 // What binds as strongly as the postfix forms, and ends in no name that matters.
 fn strongest(at: usize, free: u16) -> Parsed
@@ -35,12 +38,23 @@ fn strongest(at: usize, free: u16) -> Parsed
     }
 }
 
-// A Path or a Lit.
+// A Path, a Lit or a Struct.
 fn atom(tokens: &[u16], own: &mut [u16], at: usize, free: u16, form: u16) -> Parsed
     requires { ⌜ Ready (now tokens) (now own) at free × (at < many (now tokens)) ⌝ }
     ensures { λ r. ⌜ AtomAt (now (tokens .entry)) (now (own .entry)) (now (own .exit)) at free form r ⌝ }
 {
     strongest(at + 1, store_named(tokens, at, own, free, form, 0, 0, 0))
+}
+
+// A Struct, which has no reading in a condition.
+fn structure(tokens: &[u16], own: &mut [u16], at: usize, free: u16, condition: bool) -> Parsed
+    requires { ⌜ Ready (now tokens) (now own) at free × (codeAt (now tokens) at ≡ code Struct) ⌝ }
+    ensures { λ r. ⌜ StructAt (standsIn condition) (now (tokens .entry)) (now (own .entry)) (now (own .exit)) at free r ⌝ }
+{
+    if condition {
+        return no_expr(tokens);
+    }
+    atom(tokens, own, at, free, forms::EXPR_STRUCT)
 }
 
 // A Cast.
@@ -110,12 +124,20 @@ fn attempt(tokens: &[u16], own: &mut [u16], left: Parsed) -> Parsed
     )
 }
 
-// An expression of level `min` or more that starts at `at`.
-pub(crate) fn expr(tokens: &[u16], own: &mut [u16], at: usize, free: u16, min: u16) -> Parsed
+// An expression of level `min` or more that starts at `at`; `condition` says whether it stands in a condition outside
+// every parenthesis, bracket and list.
+pub(crate) fn expr(
+    tokens: &[u16],
+    own: &mut [u16],
+    at: usize,
+    free: u16,
+    min: u16,
+    condition: bool,
+) -> Parsed
     requires { ⌜ Ready (now tokens) (now own) at free × (1 ≤ min) ⌝ }
-    ensures { λ r. ⌜ ExprAt (now (tokens .entry)) (now (own .entry)) (now (own .exit)) at free min r ⌝ }
+    ensures { λ r. ⌜ ExprAt (standsIn condition) (now (tokens .entry)) (now (own .entry)) (now (own .exit)) at free min r ⌝ }
 {
-    let mut left = operand(tokens, own, at, free);
+    let mut left = operand(tokens, own, at, free, condition);
     // Where nothing was read, `left` ends past the end, and no token goes on there.
     while goes_on(
         min,
@@ -124,35 +146,44 @@ pub(crate) fn expr(tokens: &[u16], own: &mut [u16], at: usize, free: u16, min: u
         left.dotted,
         code_at(tokens, left.at),
     ) {
-        left = step(tokens, own, left);
+        left = step(tokens, own, left, condition);
     }
     left
 }
 
 // What an expression begins with.
-fn operand(tokens: &[u16], own: &mut [u16], at: usize, free: u16) -> Parsed
+fn operand(tokens: &[u16], own: &mut [u16], at: usize, free: u16, condition: bool) -> Parsed
     requires { ⌜ Ready (now tokens) (now own) at free ⌝ }
-    ensures { λ r. ⌜ OperandAt (now (tokens .entry)) (now (own .entry)) (now (own .exit)) at free r ⌝ }
+    ensures { λ r. ⌜ OperandAt (standsIn condition) (now (tokens .entry)) (now (own .entry)) (now (own .exit)) at free r ⌝ }
 {
     match code_at(tokens, at) {
-        codes::SUB => prefixed(tokens, own, at, free, forms::EXPR_UNARY, 2),
-        codes::MUL => prefixed(tokens, own, at, free, forms::EXPR_UNARY, 0),
-        codes::BIT_AND => prefixed(tokens, own, at, free, forms::EXPR_REFERENCE, 0),
-        codes::BANG => prefixed(tokens, own, at, free, forms::EXPR_UNARY, 1),
-        codes::AND_MUT => prefixed(tokens, own, at, free, forms::EXPR_REFERENCE, 1),
+        codes::SUB => prefixed(tokens, own, at, free, forms::EXPR_UNARY, 2, condition),
+        codes::MUL => prefixed(tokens, own, at, free, forms::EXPR_UNARY, 0, condition),
+        codes::BIT_AND => prefixed(tokens, own, at, free, forms::EXPR_REFERENCE, 0, condition),
+        codes::BANG => prefixed(tokens, own, at, free, forms::EXPR_UNARY, 1, condition),
+        codes::AND_MUT => prefixed(tokens, own, at, free, forms::EXPR_REFERENCE, 1, condition),
         codes::NAME => atom(tokens, own, at, free, forms::EXPR_PATH),
         codes::LITERAL => atom(tokens, own, at, free, forms::EXPR_LIT),
         codes::LEFT_PAREN => group(tokens, own, at, free),
+        codes::STRUCT => structure(tokens, own, at, free, condition),
         _ => no_expr(tokens),
     }
 }
 
 // An expression behind a token: Unary or Reference.
-fn prefixed(tokens: &[u16], own: &mut [u16], at: usize, free: u16, form: u16, detail: u16) -> Parsed
+fn prefixed(
+    tokens: &[u16],
+    own: &mut [u16],
+    at: usize,
+    free: u16,
+    form: u16,
+    detail: u16,
+    condition: bool,
+) -> Parsed
     requires { ⌜ Ready (now tokens) (now own) at free × (at < many (now tokens)) ⌝ }
-    ensures { λ r. ⌜ PrefixedAt (now (tokens .entry)) (now (own .entry)) (now (own .exit)) at free form detail r ⌝ }
+    ensures { λ r. ⌜ PrefixedAt (standsIn condition) (now (tokens .entry)) (now (own .entry)) (now (own .exit)) at free form detail r ⌝ }
 {
-    let inner = expr(tokens, own, at + 1, free, level::PREFIXES);
+    let inner = expr(tokens, own, at + 1, free, level::PREFIXES, condition);
     if inner.at > tokens.len() / sizes::TOKEN_CELLS {
         return inner;
     }
@@ -170,7 +201,7 @@ fn group(tokens: &[u16], own: &mut [u16], at: usize, free: u16) -> Parsed
     requires { ⌜ Ready (now tokens) (now own) at free × (at < many (now tokens)) ⌝ }
     ensures { λ r. ⌜ GroupAt (now (tokens .entry)) (now (own .entry)) (now (own .exit)) at free r ⌝ }
 {
-    let inner = expr(tokens, own, at + 1, free, level::LOOSEST);
+    let inner = expr(tokens, own, at + 1, free, level::LOOSEST, false);
     // An expression that isn't there ends past the end, where no sign stands.
     if code_at(tokens, inner.at) != codes::RIGHT_PAREN {
         return no_expr(tokens);
@@ -179,13 +210,13 @@ fn group(tokens: &[u16], own: &mut [u16], at: usize, free: u16) -> Parsed
 }
 
 // `left` with the one form that follows it.
-fn step(tokens: &[u16], own: &mut [u16], left: Parsed) -> Parsed
+fn step(tokens: &[u16], own: &mut [u16], left: Parsed, condition: bool) -> Parsed
     requires { ⌜ Ready (now tokens) (now own) (left .at) (left .free) ⌝ }
-    ensures { λ r. ⌜ StepAt (now (tokens .entry)) (now (own .entry)) (now (own .exit)) left r ⌝ }
+    ensures { λ r. ⌜ StepAt (standsIn condition) (now (tokens .entry)) (now (own .entry)) (now (own .exit)) left r ⌝ }
 {
     let code = code_at(tokens, left.at);
     match code {
-        codes::ADD..=codes::ASSIGN => binary(tokens, own, left, code),
+        codes::ADD..=codes::ASSIGN => binary(tokens, own, left, code, condition),
         codes::AS => cast(tokens, own, left),
         codes::DOT => dot(tokens, own, left),
         codes::LEFT_PAREN => call(tokens, own, left.at, left.free, forms::EXPR_CALL, 0),
@@ -196,12 +227,19 @@ fn step(tokens: &[u16], own: &mut [u16], left: Parsed) -> Parsed
 }
 
 // A Binary or an Assign.
-fn binary(tokens: &[u16], own: &mut [u16], left: Parsed, code: u16) -> Parsed
+fn binary(tokens: &[u16], own: &mut [u16], left: Parsed, code: u16, condition: bool) -> Parsed
     requires { ⌜ Ready (now tokens) (now own) (left .at) (left .free) × (left .at < many (now tokens)) × (code < pastOperators) ⌝ }
-    ensures { λ r. ⌜ BinaryAt (now (tokens .entry)) (now (own .entry)) (now (own .exit)) left code r ⌝ }
+    ensures { λ r. ⌜ BinaryAt (standsIn condition) (now (tokens .entry)) (now (own .entry)) (now (own .exit)) left code r ⌝ }
 {
     let made = level_of(code);
-    let right = expr(tokens, own, left.at + 1, left.free, lowest_after(made));
+    let right = expr(
+        tokens,
+        own,
+        left.at + 1,
+        left.free,
+        lowest_after(made),
+        condition,
+    );
     if right.at > tokens.len() / sizes::TOKEN_CELLS {
         return right;
     }
@@ -259,7 +297,7 @@ fn index(tokens: &[u16], own: &mut [u16], left: Parsed) -> Parsed
     requires { ⌜ Ready (now tokens) (now own) (left .at) (left .free) × (left .at < many (now tokens)) ⌝ }
     ensures { λ r. ⌜ IndexAt (now (tokens .entry)) (now (own .entry)) (now (own .exit)) left r ⌝ }
 {
-    let inner = expr(tokens, own, left.at + 1, left.free, level::LOOSEST);
+    let inner = expr(tokens, own, left.at + 1, left.free, level::LOOSEST, false);
     if code_at(tokens, inner.at) != codes::RIGHT_BRACKET {
         return no_expr(tokens);
     }
@@ -300,7 +338,7 @@ fn arguments(tokens: &[u16], own: &mut [u16], at: usize, free: u16) -> Piece
     requires { ⌜ Ready (now tokens) (now own) at free ⌝ }
     ensures { λ r. ⌜ ArgumentsAt (now (tokens .entry)) (now (own .entry)) (now (own .exit)) at free r ⌝ }
 {
-    let first = expr(tokens, own, at, free, level::LOOSEST);
+    let first = expr(tokens, own, at, free, level::LOOSEST, false);
     let end = past_comma(tokens, first.at, codes::RIGHT_PAREN);
     let sign = code_at(tokens, end);
     if sign == codes::RIGHT_PAREN {

@@ -13,8 +13,8 @@ use tree_numbering::Renumbered;
 use tree_numbering::renumber;
 ghost use mathlib.Core.Path.{_≡_};
 ghost use Rattle.token_grammar.specs.Codes.{areTokens};
-ghost use Rattle.token_reader.specs.Reading.{Answers};
-ghost use Rattle.token_reader.specs.Pieces.{replyOf};
+ghost use Rattle.token_reader.specs.Reading.{AnswersIn, Answers};
+ghost use Rattle.token_reader.specs.Pieces.{standsIn, replyOf};
 
 // The cells of the most nodes, which a lent table must have.
 const TABLE: usize = sizes::NODE_CELLS * (sizes::MOST_NODES as usize);
@@ -24,6 +24,11 @@ const TOKENS: usize = sizes::TOKEN_CELLS * sizes::MOST_TOKENS;
 
 // The nodes of the reader's own table: a node has a token of its own, so that one for each token is enough.
 const OWN: u16 = sizes::MOST_TOKENS as u16;
+
+// The contexts that the reader takes.
+const NONE: u16 = 0;
+
+const CONDITION: u16 = 3;
 
 // What reading answers.
 pub enum Reply {
@@ -61,9 +66,9 @@ fn reply_of(renumbered: Renumbered) -> Reply
     }
 }
 
-// The reading of a token list into a lent table: how many nodes it has, or the first refusal that applies.
-pub fn read(tokens: &[u16], table: &mut [u16]) -> Reply
-    ensures { λ r. ⌜ Answers (now (tokens .entry)) (now (table .entry)) r (now (table .exit)) ⌝ }
+// The reading of a token list, in a condition or not.
+fn read_in(tokens: &[u16], table: &mut [u16], condition: bool) -> Reply
+    ensures { λ r. ⌜ AnswersIn (standsIn condition) (now (tokens .entry)) (now (table .entry)) r (now (table .exit)) ⌝ }
 {
     if table.len() < TABLE {
         return Reply::Refused(12);
@@ -75,9 +80,25 @@ pub fn read(tokens: &[u16], table: &mut [u16]) -> Reply
         return Reply::Refused(14);
     }
     let mut own = [0u16; sizes::NODE_CELLS * sizes::MOST_TOKENS];
-    let whole = expr(tokens, &mut own, 0, OWN, level::LOOSEST);
+    let whole = expr(tokens, &mut own, 0, OWN, level::LOOSEST, condition);
     if whole.at != tokens.len() / sizes::TOKEN_CELLS {
         return Reply::Refused(15);
     }
     reply_of(renumber(&own, OWN, whole.free + 1, table))
+}
+
+// The reading of a token list into a lent table: how many nodes it has, or the first refusal that applies.
+pub fn read(context: u16, tokens: &[u16], table: &mut [u16]) -> Reply
+    ensures { λ r. ⌜ Answers context (now (tokens .entry)) (now (table .entry)) r (now (table .exit)) ⌝ }
+{
+    if context > CONDITION {
+        return Reply::Refused(3);
+    }
+    if context == NONE {
+        return read_in(tokens, table, false);
+    }
+    if context == CONDITION {
+        return read_in(tokens, table, true);
+    }
+    Reply::Refused(13)
 }

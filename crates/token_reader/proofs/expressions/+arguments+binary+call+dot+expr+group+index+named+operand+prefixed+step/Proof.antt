@@ -8,17 +8,17 @@ use borrow.Author.Needs.{needs}
 use Rattle.laws.specs.Choice.{isOneOf}
 use Rattle.laws.proofs.Keys.{arm, rest}
 use Rattle.laws.proofs.Calls.{free, given-at, given-below}
-use Rattle.token_grammar.specs.Tokens.{Sub, Mul, BitAnd, number, Bang, AndMut, As, Name, Literal, Dot, LeftParen, RightParen, LeftBracket, RightBracket, Comma, Question, NumberedMember, Await, code}
+use Rattle.token_grammar.specs.Tokens.{Sub, Mul, BitAnd, number, Bang, AndMut, As, Name, Literal, Dot, LeftParen, RightParen, LeftBracket, RightBracket, Comma, Question, NumberedMember, Await, Struct, code}
 use Rattle.token_grammar.specs.Expressions.{path, literal, neg, deref, invert, ref, refMut, byNumber, awaited}
 use Rattle.token_grammar.specs.Codes.{tokenSymbolAt}
 use Rattle.token_grammar.specs.Parser.{noStart, startLines, startBy, noMember, afterDotLines, afterDotBy}
 use Rattle.token_reader.specs.Tables.{goesOnWith}
-use Rattle.token_reader.specs.Pieces.{many}
+use Rattle.token_reader.specs.Pieces.{many, standsIn}
 use Rattle.token_reader.proofs.First.{there}
 use Rattle.token_reader.proofs.Lists.{closed-there, comma-there}
 use Rattle.token_reader.proofs.Tables.{level-most, after-least, formCodes, no-form}
 use Rattle.token_reader.proofs.Tells.{ready-on, ready-grew, stores, stores-more}
-use Rattle.token_reader.proofs.ExprEnds.{operand-atom, operand-prefixed, operand-group, operand-none, prefixed-none, prefixed-stored, group-none, group-closed, goes-inside, Under, under-start, under-ready, under-past, under-step, under-end, step-less}
+use Rattle.token_reader.proofs.ExprEnds.{operand-atom, operand-struct, operand-prefixed, operand-group, operand-none, prefixed-none, prefixed-stored, group-none, group-closed, goes-inside, Under, under-start, under-ready, under-past, under-step, under-end, step-less}
 use Rattle.token_reader.proofs.ExprEnds.{step-binary, step-cast, step-dot, step-call, step-index, step-try, step-none, binary-none, binary-stored, index-none, index-stored, dot-named, dot-member, dot-await, dot-none, named-member, named-call}
 use Rattle.token_reader.proofs.ExprEnds.{call-empty, call-none, call-stored, arguments-last, arguments-none, arguments-more-none, arguments-more}
 use borrow.Fn.PlainCycle.{Measures}
@@ -60,6 +60,7 @@ use Rattle.token_reader.proofs.expressions.attempt.Reads as attempt-rea
 use Rattle.token_reader.proofs.expressions.cast.Reads as cast-reads
 use Rattle.token_reader.proofs.expressions.member.Reads as member-reads
 use Rattle.token_reader.proofs.expressions.strongest.Reads as strongest-reads
+use Rattle.token_reader.proofs.expressions.structure.Reads as structure-reads
 use Rattle.token_reader.proofs.node.store.Reads as store-reads
 use Rattle.token_reader.proofs.piece.no_expr.Reads as no-expr-reads
 use Rattle.token_reader.proofs.piece.no_piece.Reads as no-piece-reads
@@ -108,10 +109,10 @@ abbrev μ-step : Measures 2 step-kinds.ps ℕ
 μ-step κs a = 4 * (length (a .0 .now) - a .1 .1 .0 .at) + 2
 
 abbrev expr-Inv-loop : expr-lts.InvT-loop
-expr-Inv-loop tokens own₀ at free min left₀ own left = (length own ≡ length own₀) × Under tokens own₀ own min left₀ left
+expr-Inv-loop tokens own₀ at free min condition left₀ own left = (length own ≡ length own₀) × Under (standsIn condition) tokens own₀ own min left₀ left
 
 abbrev expr-μ-loop : expr-lts.MeasureT-loop
-expr-μ-loop tokens own₀ at free min left₀ own left = many tokens + 1 - left .at
+expr-μ-loop tokens own₀ at free min condition left₀ own left = many tokens + 1 - left .at
 
 -- what the callees ask and ensure
 abbrev arguments-claims : ℕ → arguments-lts.Claims
@@ -139,7 +140,7 @@ abbrev named-claims : ℕ → named-lts.Claims
 named-claims t = (code-at-reads.Asked, code-at-reads.Learnt, member-reads.Asked, member-reads.Learnt, symbol-at-reads.Asked, symbol-at-reads.Learnt, given-below 2 call-kinds.ps μ-call call.Pre t, call.Post)
 
 abbrev operand-claims : ℕ → operand-lts.Claims
-operand-claims t = (code-at-reads.Asked, code-at-reads.Learnt, given-below 2 prefixed-kinds.ps μ-prefixed prefixed.Pre t, prefixed.Post, atom-reads.Asked, atom-reads.Learnt, given-below 2 group-kinds.ps μ-group group.Pre t, group.Post, no-expr-reads.Asked, no-expr-reads.Learnt)
+operand-claims t = (code-at-reads.Asked, code-at-reads.Learnt, given-below 2 prefixed-kinds.ps μ-prefixed prefixed.Pre t, prefixed.Post, atom-reads.Asked, atom-reads.Learnt, given-below 2 group-kinds.ps μ-group group.Pre t, group.Post, structure-reads.Asked, structure-reads.Learnt, no-expr-reads.Asked, no-expr-reads.Learnt)
 
 abbrev prefixed-claims : ℕ → prefixed-lts.Claims
 prefixed-claims t = (given-below 2 expr-kinds.ps μ-expr expr.Pre t, expr.Post, store-reads.Asked, store-reads.Learnt)
@@ -243,7 +244,7 @@ pub +arguments+binary+call+dot+expr+group+index+named+operand+prefixed+step-spec
     (λ c. dot-none _ (c .before .before .before .before .before .before .pre .1 .0) (sym (ap (λ n. afterDotBy n (tokenSymbolAt (c .before .before .before .before .before .before .args .tokens .now) (c .before .before .before .before .before .before .args .left .at + 1))) (c .before .before .code-at .ensures)) ∙ rest (afterDotLines (tokenSymbolAt (c .before .before .before .before .before .before .args .tokens .now) (c .before .before .before .before .before .before .args .left .at + 1))) noMember _ (c .before .match .rest)) (c .no-expr .ensures)))
     (λ t. expr-lts.spec (expr-claims t) (given-at 2 expr-kinds.ps μ-expr expr.Pre t) expr.Post expr-Inv-loop expr-μ-loop
     (λ c κs. let p = c .before .before .before .pre .0 in (omega arith, c .before .before .before .pre .1 .0))
-    (λ c. (refl, under-start _ _ _ _)) free free (expr-step-requires t)
+    (λ c. (refl, under-start _ _ _ _ _)) free free (expr-step-requires t)
     (λ c. step-less _ _ (goes-inside (c .before .before .before .before .before .before .before .before .before .before .before .before .before .before .args .tokens .now) (c .before .before .before .before .before .before .before .loop .left .at) (c .before .before .before .before .before .before .before .before .before .before .before .before .before .before .args .min) (c .before .before .before .before .before .before .before .loop .left .level) (c .before .before .before .before .before .before .before .loop .left .named) (c .before .before .before .before .before .before .before .loop .left .dotted) (c .before .before .before .before .before .before .before .before .before .before .before .before .before .before .pre .1 .1) (sym (ap (goesOnWith (c .before .before .before .before .before .before .before .before .before .before .before .before .before .before .args .min) (c .before .before .before .before .before .before .before .loop .left .level) (c .before .before .before .before .before .before .before .loop .left .named) (c .before .before .before .before .before .before .before .loop .left .dotted)) (c .before .before .before .before .before .before .code-at .ensures)) ∙ sym (c .before .before .before .before .before .goes-on .ensures) ∙ c .before .before .before .before .if1 .taken)) (c .before .before .step .ensures))
     (expr-loop-again t) (λ c. search needs)
     (λ c. under-end (c .before .before .before .before .before .before .before .before .before .before .pre .1 .0) _ _ (c .before .before .before .before .before .before .operand .ensures) (c .before .before .before .loop .inv .1) (sym (ap (goesOnWith (c .before .before .before .before .before .before .before .before .before .before .args .min) (c .before .before .before .loop .left .level) (c .before .before .before .loop .left .named) (c .before .before .before .loop .left .dotted)) (c .before .before .code-at .ensures)) ∙ sym (c .before .goes-on .ensures) ∙ c .if1 .left)))
@@ -281,6 +282,7 @@ pub +arguments+binary+call+dot+expr+group+index+named+operand+prefixed+step-spec
     (λ c κs. (c .before .before .before .before .before .pre .1, there (c .before .before .before .before .before .args .tokens .now) (c .before .before .before .before .before .args .at) (code (Name 0)) (sym (c .before .before .code-at .ensures) ∙ c .before .match .keys6) (omega arith)))
     (λ c κs. (c .before .before .before .before .before .pre .1, there (c .before .before .before .before .before .args .tokens .now) (c .before .before .before .before .before .args .at) (code (Literal 0)) (sym (c .before .before .code-at .ensures) ∙ c .before .match .keys7) (omega arith)))
     (λ c κs. let p = c .before .before .before .before .before .pre .0 in let h = there (c .before .before .before .before .before .args .tokens .now) (c .before .before .before .before .before .args .at) (code LeftParen) (sym (c .before .before .code-at .ensures) ∙ c .before .match .keys8) (omega arith) in (omega arith, (c .before .before .before .before .before .pre .1, h)))
+    (λ c κs. (c .before .before .before .before .before .pre .1, sym (c .before .before .code-at .ensures) ∙ c .before .match .keys9))
     free (λ c. search needs)
     (λ c. operand-prefixed (c .before .before .before .before .before .before .before .before .pre .1) neg (sym (ap (λ n. startBy n (tokenSymbolAt (c .before .before .before .before .before .before .before .before .args .tokens .now) (c .before .before .before .before .before .before .before .before .args .at))) (c .before .before .before .before .before .code-at .ensures)) ∙ arm (startLines (tokenSymbolAt (c .before .before .before .before .before .before .before .before .args .tokens .now) (c .before .before .before .before .before .before .before .before .args .at))) noStart _ 0 tt (c .before .before .before .before .match .keys1)) refl (c .before .before .prefixed .ensures))
     (λ c. search needs)
@@ -292,11 +294,13 @@ pub +arguments+binary+call+dot+expr+group+index+named+operand+prefixed+step-spec
     (λ c. search needs)
     (λ c. operand-prefixed (c .before .before .before .before .before .before .before .before .pre .1) refMut (sym (ap (λ n. startBy n (tokenSymbolAt (c .before .before .before .before .before .before .before .before .args .tokens .now) (c .before .before .before .before .before .before .before .before .args .at))) (c .before .before .before .before .before .code-at .ensures)) ∙ arm (startLines (tokenSymbolAt (c .before .before .before .before .before .before .before .before .args .tokens .now) (c .before .before .before .before .before .before .before .before .args .at))) noStart _ 4 tt (c .before .before .before .before .match .keys5)) refl (c .before .before .prefixed5 .ensures))
     (λ c. search needs)
-    (λ c. operand-atom (c .before .before .before .before .before .before .before .before .pre .1) (path _) (sym (ap (λ n. startBy n (tokenSymbolAt (c .before .before .before .before .before .before .before .before .args .tokens .now) (c .before .before .before .before .before .before .before .before .args .at))) (c .before .before .before .before .before .code-at .ensures)) ∙ arm (startLines (tokenSymbolAt (c .before .before .before .before .before .before .before .before .args .tokens .now) (c .before .before .before .before .before .before .before .before .args .at))) noStart _ 5 tt (c .before .before .before .before .match .keys6)) refl (c .before .before .atom .ensures))
+    (λ c. operand-atom (c .before .before .before .before .before .before .before .before .pre .1) (path _) (sym (ap (λ n. startBy n (tokenSymbolAt (c .before .before .before .before .before .before .before .before .args .tokens .now) (c .before .before .before .before .before .before .before .before .args .at))) (c .before .before .before .before .before .code-at .ensures)) ∙ arm (startLines (tokenSymbolAt (c .before .before .before .before .before .before .before .before .args .tokens .now) (c .before .before .before .before .before .before .before .before .args .at))) noStart _ 5 tt (c .before .before .before .before .match .keys6)) refl refl (c .before .before .atom .ensures))
     (λ c. search needs)
-    (λ c. operand-atom (c .before .before .before .before .before .before .before .before .pre .1) (literal _) (sym (ap (λ n. startBy n (tokenSymbolAt (c .before .before .before .before .before .before .before .before .args .tokens .now) (c .before .before .before .before .before .before .before .before .args .at))) (c .before .before .before .before .before .code-at .ensures)) ∙ arm (startLines (tokenSymbolAt (c .before .before .before .before .before .before .before .before .args .tokens .now) (c .before .before .before .before .before .before .before .before .args .at))) noStart _ 6 tt (c .before .before .before .before .match .keys7)) refl (c .before .before .atom2 .ensures))
+    (λ c. operand-atom (c .before .before .before .before .before .before .before .before .pre .1) (literal _) (sym (ap (λ n. startBy n (tokenSymbolAt (c .before .before .before .before .before .before .before .before .args .tokens .now) (c .before .before .before .before .before .before .before .before .args .at))) (c .before .before .before .before .before .code-at .ensures)) ∙ arm (startLines (tokenSymbolAt (c .before .before .before .before .before .before .before .before .args .tokens .now) (c .before .before .before .before .before .before .before .before .args .at))) noStart _ 6 tt (c .before .before .before .before .match .keys7)) refl refl (c .before .before .atom2 .ensures))
     (λ c. search needs)
     (λ c. operand-group (c .before .before .before .before .before .before .before .before .pre .1) (sym (ap (λ n. startBy n (tokenSymbolAt (c .before .before .before .before .before .before .before .before .args .tokens .now) (c .before .before .before .before .before .before .before .before .args .at))) (c .before .before .before .before .before .code-at .ensures)) ∙ arm (startLines (tokenSymbolAt (c .before .before .before .before .before .before .before .before .args .tokens .now) (c .before .before .before .before .before .before .before .before .args .at))) noStart _ 7 tt (c .before .before .before .before .match .keys8)) (c .before .before .group .ensures))
+    (λ c. search needs)
+    (λ c. operand-struct (c .before .before .before .before .before .before .before .before .pre .1) (sym (ap (λ n. startBy n (tokenSymbolAt (c .before .before .before .before .before .before .before .before .args .tokens .now) (c .before .before .before .before .before .before .before .before .args .at))) (c .before .before .before .before .before .code-at .ensures)) ∙ arm (startLines (tokenSymbolAt (c .before .before .before .before .before .before .before .before .args .tokens .now) (c .before .before .before .before .before .before .before .before .args .at))) noStart _ 8 tt (c .before .before .before .before .match .keys9)) (c .before .before .structure .ensures))
     (λ c. operand-none (c .before .before .before .before .before .pre .1) (sym (ap (λ n. startBy n (tokenSymbolAt (c .before .before .before .before .before .args .tokens .now) (c .before .before .before .before .before .args .at))) (c .before .before .code-at .ensures)) ∙ rest (startLines (tokenSymbolAt (c .before .before .before .before .before .args .tokens .now) (c .before .before .before .before .before .args .at))) noStart _ (c .before .match .rest)) (c .no-expr .ensures)))
     (λ t. prefixed-lts.spec (prefixed-claims t) (given-at 2 prefixed-kinds.ps μ-prefixed prefixed.Pre t) prefixed.Post
     (λ c. search needs)
