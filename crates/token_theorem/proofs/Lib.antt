@@ -1,4 +1,5 @@
 pub mod Promise
 pub mod Witness
 pub mod LeftOut
+pub mod Structs
 pub mod Smaller
