@@ -16,7 +16,7 @@ oneNumber [] = 0
 oneNumber (reply ∷ values) = 65536 * reply + joined 0 values
 
 -- the number of a reply that the reader gives, with what it leaves in the table
-pub record ReadNumber (codes table : List ℕ) (number : ℕ) (after : List ℕ) : Type 0 where
+pub record ReadNumber (context : ℕ) (codes table : List ℕ) (number : ℕ) (after : List ℕ) : Type 0 where
   pub reply : Reply
-  pub answers : Answers codes table reply after
+  pub answers : Answers context codes table reply after
   pub is : number ≡ oneNumber (replyInNumbers reply)

@@ -36,8 +36,8 @@ fn reply_number(answer: Reply) -> u32
 
 // token_reader::read.
 #[no_mangle]
-pub extern "C" fn tezhukor_read(tokens: &[u16], table: &mut [u16]) -> u32
-    ensures { λ r. ⌜ ReadNumber (now (tokens .entry)) (now (table .entry)) r (now (table .exit)) ⌝ }
+pub extern "C" fn tezhukor_read(context: u16, tokens: &[u16], table: &mut [u16]) -> u32
+    ensures { λ r. ⌜ ReadNumber context (now (tokens .entry)) (now (table .entry)) r (now (table .exit)) ⌝ }
 {
-    reply_number(token_reader::read(tokens, table))
+    reply_number(token_reader::read(context, tokens, table))
 }
