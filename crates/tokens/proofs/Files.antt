@@ -32,11 +32,11 @@ module _ (context count : ℕ) (cells tokens : List ℕ) (room : length tokens �
   refused-table n e = rw (← room, ← e)
 
   module _ (n : ℕ) (e : Tokens n ≡ answered context count cells (length tokens)) where
-    parts : (writeRefusal context count cells (length tokens) ≡ 0) × (n ≡ length (written count cells))
+    parts : (writeRefusal context count cells (length tokens) ≡ 0) × (n ≡ length (written context count cells))
     unfolding answered pick
     parts = go (eqb (writeRefusal context count cells (length tokens)) 0) refl e
       where
-        go : (b : Bool) → eqb (writeRefusal context count cells (length tokens)) 0 ≡ b → Tokens n ≡ pick b (Tokens (length (written count cells))) (Refused (writeRefusal context count cells (length tokens))) → (writeRefusal context count cells (length tokens) ≡ 0) × (n ≡ length (written count cells))
+        go : (b : Bool) → eqb (writeRefusal context count cells (length tokens)) 0 ≡ b → Tokens n ≡ pick b (Tokens (length (written context count cells))) (Refused (writeRefusal context count cells (length tokens))) → (writeRefusal context count cells (length tokens) ≡ 0) × (n ≡ length (written context count cells))
         go true p q = (eqb-true _ 0 p, cc)
         go false p q = absurd (let z : _≡_ {A = ℕ} 0 1 = cc in omega arith)
 
@@ -44,20 +44,20 @@ module _ (context count : ℕ) (cells tokens : List ℕ) (room : length tokens �
     tokens-most = rw (parts .1) (tokens-bound context count cells (accepted-first context count cells (length tokens) (parts .0)) .1)
 
     -- the tokens stand at the start of the buffer
-    cells-taken : take (tokenCells * n) (tokensAfter context count cells tokens) ≡ cellsOf (written count cells)
+    cells-taken : take (tokenCells * n) (tokensAfter context count cells tokens) ≡ cellsOf (written context count cells)
     unfolding tokensAfter over
     cells-taken =
-        rw (pick-true (over (cellsOf (written count cells)) tokens) tokens (eq-eqb _ 0 (parts .0)))
-        (take-at (cellsOf (written count cells)) _ (tokenCells * n) (length-cells (written count cells) ∙ ap (λ m. tokenCells * m) (sym (parts .1))))
+        rw (pick-true (over (cellsOf (written context count cells)) tokens) tokens (eq-eqb _ 0 (parts .0)))
+        (take-at (cellsOf (written context count cells)) _ (tokenCells * n) (length-cells (written context count cells) ∙ ap (λ m. tokenCells * m) (sym (parts .1))))
 
     -- and so lie within it
     pub tokens-within : tokenCells * n ≤ length (tokensAfter context count cells tokens)
     unfolding tokensAfter
     tokens-within =
         let most = tokens-most in
-        let codes = length-cells (written count cells) in
+        let codes = length-cells (written context count cells) in
         let p = parts .1 in
-        rw (pick-true (over (cellsOf (written count cells)) tokens) tokens (eq-eqb _ 0 (parts .0)), length-over (cellsOf (written count cells)) tokens (omega arith)) (omega arith)
+        rw (pick-true (over (cellsOf (written context count cells)) tokens) tokens (eq-eqb _ 0 (parts .0)), length-over (cellsOf (written context count cells)) tokens (omega arith)) (omega arith)
 
     pub tokens-table : listed (take (tokenCells * n) (tokensAfter context count cells tokens)) ≡ tableText context count cells
     unfolding tableText answerText

@@ -35,7 +35,7 @@ answerText cells (Tokens n) = listed cells
 
 -- what is printed for a table, with a buffer of 24,576 tokens lent to the writer
 unfoldable pub tableText : ℕ → ℕ → List ℕ → List ℕ
-tableText context count cells = answerText (cellsOf (written count cells)) (answered context count cells (tokenCells * mostTokens))
+tableText context count cells = answerText (cellsOf (written context count cells)) (answered context count cells (tokenCells * mostTokens))
 
 -- what is printed for the loader's answer
 unfoldable pub loadedText : List ℕ → Loaded → List ℕ
