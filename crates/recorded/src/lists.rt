@@ -26,23 +26,23 @@ pub(crate) fn gather(file: &[u8; FILE], codes: &mut [u16], n: usize)
     }
 }
 
-// The answer to the first `n` codes, with the first `lent` cells of a table lent.
-fn read_parts(codes: &[u16], n: usize, table: &mut [u16], lent: usize) -> Reply
+// The answer to the first `n` codes in a context, with the first `lent` cells of a table lent.
+fn read_parts(context: u16, codes: &[u16], n: usize, table: &mut [u16], lent: usize) -> Reply
     requires { ⌜ n ≤ length (now codes) ⌝ }
     requires { ⌜ lent ≤ length (now table) ⌝ }
 {
-    token_reader::read(&codes[0..n], &mut table[0..lent])
+    token_reader::read(context, &codes[0..n], &mut table[0..lent])
 }
 
-// The answer to the codes in the first `size` bytes.
-fn read(file: &[u8; FILE], size: usize, table: &mut [u16; TABLE], lent: usize) -> Reply
+// The answer to the codes in the first `size` bytes, in the header's context.
+fn read(h: Header, file: &[u8; FILE], size: usize, table: &mut [u16; TABLE], lent: usize) -> Reply
     requires { ⌜ size ≤ 100_000 ⌝ }
     requires { ⌜ lent ≤ 65_535 ⌝ }
 {
     let mut codes = [0u16; CODES];
     let n = size / 2;
     gather(file, &mut codes, n);
-    read_parts(&codes, n, table, lent)
+    read_parts(h.context, &codes, n, table, lent)
 }
 
 // Whether the reader's answer is the recorded one, apart from the table.
@@ -59,6 +59,6 @@ pub(crate) fn reads(file: &[u8; FILE], h: Header, cells: &[u8; BYTES], s: Sizes)
 {
     let mut table = [0u16; TABLE];
     cells::fill(&mut table);
-    let answer = read(file, s.file, &mut table, s.lent);
+    let answer = read(h, file, s.file, &mut table, s.lent);
     found(answer, h) && cells::written(&table, cells, s.written / 2)
 }
