@@ -3,7 +3,7 @@ use mathlib.Core.Path.{_≡_, refl, _∙_}
 use mathlib.Core.Bool.{Bool, true, false, not, _&&_, _||_}
 use Rattle.precedence.specs.declared.Precedence.{Precedence}
 use Rattle.fixup.specs.declared.context.FixupContext.{FixupContext}
-use Rattle.fixup.specs.Contexts.{NONE, newCondition, withOperator, withDot, rightmost}
+use Rattle.fixup.specs.Contexts.{newContext, NONE, withOperator, withDot, rightmost}
 use Rattle.fixup.specs.Fixup.{parenthesize}
 use Rattle.token_grammar.specs.Types.{one}
 use Rattle.token_grammar.specs.Expressions.{Expr, isStruct}
@@ -12,14 +12,13 @@ use Rattle.token_grammar.specs.Grammar as grammar
 use Rattle.token_plain.specs.Trees.{treeOf}
 use Rattle.token_rows.proofs.Nodes.{facts}
 
--- the crate's context that a tree begins with, and its flag `condition`
-abbrev pub begun : Context → FixupContext
-begun grammar.NONE = NONE
-begun CONDITION = newCondition
-
+-- the flag `condition` of the crate's context that a tree begins with, NONE or new_condition
 abbrev pub conditional : Context → Bool
 conditional grammar.NONE = false
 conditional CONDITION = true
+
+abbrev pub begun : Context → FixupContext
+begun c = newContext false false (conditional c)
 
 -- The flag `condition` is the context's; `rightmost_subexpression_in_condition` is up only with it.
 pub record Calm (c : Context) (x : FixupContext) : Type 0 where
@@ -54,30 +53,24 @@ calm-parenthesize c x e k =
     rw (k .no-stmt, k .no-left-stmt, k .no-left-arm, k .right-with-it, k .no-optional, f .struct, f .no-return, k .in-condition, and-false (x .«rightmost_subexpression_in_condition»))
     (or-off (conditional c && isStruct e) ∙ excluded-is c e)
 
-pub calm-none : Calm grammar.NONE NONE
-calm-none =
-    record {
-      no-stmt = refl;
-      no-left-stmt = refl;
-      no-arm = refl;
-      no-left-arm = refl;
-      in-condition = refl;
-      right-with-it = refl;
-      no-optional = refl;
-    }
-
 pub calm-begun : (c : Context) → Calm c (begun c)
-calm-begun grammar.NONE = calm-none
-calm-begun CONDITION =
+calm-begun c =
     record {
       no-stmt = refl;
       no-left-stmt = refl;
       no-arm = refl;
       no-left-arm = refl;
       in-condition = refl;
-      right-with-it = refl;
+      right-with-it = never (conditional c);
       no-optional = refl;
     }
+  where
+    never : (b : Bool) → b && not b ≡ false
+    never true = refl
+    never false = refl
+
+pub calm-none : Calm grammar.NONE NONE
+calm-none = calm-begun grammar.NONE
 
 module _ (c : Context) (x : FixupContext) (k : Calm c x) where
   pub calm-operator : (begins generics : Bool) (next : Precedence) → Calm c (withOperator x begins generics next)

@@ -27,7 +27,7 @@ use Rattle.token_grammar.specs.Tokens as token
 use Rattle.token_grammar.specs.Levels.{kind, level, before, after, casts, prefixes, postfixes}
 use Rattle.token_grammar.specs.Types.{one, list, Ty}
 use Rattle.token_grammar.specs.Expressions.{Prefix, neg, deref, invert, ref, refMut, Member, byName, byNumber, awaited, Expr, paren, prefix, binary, cast, member, try, index, call, method, endsInDotName}
-use Rattle.token_grammar.specs.Grammar.{Context, CONDITION, opensArguments, excluded}
+use Rattle.token_grammar.specs.Grammar.{Context, opensArguments, excluded}
 use Rattle.token_grammar.specs.Grammar as grammar
 use Rattle.token_grammar.proofs.Added.{strength, tooWeak, tooWeakBefore, tooWeakAfter, tooWeakToCall}
 use Rattle.token_grammar.proofs.Levels.{binop-level, operator-low, operator-high}
@@ -47,11 +47,7 @@ pub record Operand (k : Context) (h : Handed) (a : Expr one) (p g : Bool) : Type
 -- what is handed down with no owner's test: the root, and an item, an index, what stands in parentheses
 pub root : (k : Context) (a : Expr one) → Operand k (neither (begun k) (treeOf a)) a (excluded k a) false
 unfolding neither ungrouped
-root k a = record { calm = calm-begun k; settled = λ e. true-not-false (sym e ∙ down k); pair = root-pair k a; flag = down k }
-  where
-    down : (k : Context) → begun k .«next_operator_can_begin_generics» ≡ false
-    down grammar.NONE = refl
-    down CONDITION = refl
+root k a = record { calm = calm-begun k; settled = λ e. true-not-false (sym e); pair = root-pair k a; flag = refl }
 
 pub alone : (a : Expr one) → Operand grammar.NONE (neither NONE (treeOf a)) a false false
 alone a = root grammar.NONE a
