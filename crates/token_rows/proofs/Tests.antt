@@ -26,7 +26,7 @@ use Rattle.expr.specs.Expr.{canBeginExpr, canBeginGenerics, leftNeedsGroup, rig
 use Rattle.row.specs.Rows.{outerPair}
 use Rattle.token_grammar.specs.Tokens.{Operator, number}
 use Rattle.token_grammar.specs.Tokens as token
-use Rattle.token_grammar.specs.Levels.{kind, level, leansRight, before, postfixes}
+use Rattle.token_grammar.specs.Levels.{kind, level, before, postfixes}
 use Rattle.token_grammar.specs.Types.{one}
 use Rattle.token_grammar.specs.Expressions.{Atom, path, literal, structure, Prefix, neg, deref, invert, ref, refMut, Member, byName, byNumber, awaited, Expr, atom, paren, prefix, binary, cast, member, try, index, call, method, kindOf, endsInDotName}
 use Rattle.token_grammar.specs.Grammar.{Context, opensArguments, excluded}
