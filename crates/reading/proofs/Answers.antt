@@ -11,9 +11,11 @@ use Rattle.laws.specs.Choice.{pick}
 use Rattle.laws.proofs.Choice.{or-false}
 use Rattle.tree.specs.Sizes.{mostNodes}
 use Rattle.tree.specs.Trees.{Tree}
+use Rattle.tree_rules.specs.Refusals.{refusal3}
 use Rattle.tree_numbering.specs.Numbered.{size, tooLarge}
+use Rattle.token_grammar.specs.Grammar.{Context}
 use Rattle.token_reader.specs.declared.Reply.the-variants.{Refused, Nodes}
-use Rattle.token_reader.specs.Reading.{readRefusal12, refusal14, countOrLarge, Answers}
+use Rattle.token_reader.specs.Reading.{readRefusal12, refusal14, countOrLarge, AnswersIn, readRefusal13, Answers}
 
 refused-nodes : {A : Type 0} (n m : ℕ) → Nodes n ≡ Refused m → A
 refused-nodes n m e = absurd (let z : _≡_ {A = ℕ} 0 1 = cc in omega arith)
@@ -31,8 +33,8 @@ counted-most n t e = go (tooLarge t) refl e
         omega arith
 
 -- a reading that is found has at most 4,096 nodes
-pub nodes-most : (codes table after : List ℕ) (n : ℕ) → Answers codes table (Nodes n) after → n ≤ mostNodes
-nodes-most codes table after n a = short (readRefusal12 (length table)) refl
+in-most : (c : Context) (codes table after : List ℕ) (n : ℕ) → AnswersIn c codes table (Nodes n) after → n ≤ mostNodes
+in-most c codes table after n a = short (readRefusal12 (length table)) refl
   where
     read : readRefusal12 (length table) ≡ false → refusal14 codes ≡ false → Dec (n ≤ mostNodes) → n ≤ mostNodes
     read p q (yes h) = h
@@ -45,3 +47,14 @@ nodes-most codes table after n a = short (readRefusal12 (length table)) refl
     short : (b : Bool) → readRefusal12 (length table) ≡ b → n ≤ mostNodes
     short true p = refused-nodes n 12 (a .short p .0)
     short false p = known p (refusal14 codes) refl
+
+pub nodes-most : (context : ℕ) (codes table after : List ℕ) (n : ℕ) → Answers context codes table (Nodes n) after → n ≤ mostNodes
+nodes-most context codes table after n a = above (refusal3 context) refl
+  where
+    other : refusal3 context ≡ false → (b : Bool) → readRefusal13 context ≡ b → n ≤ mostNodes
+    other p true q = refused-nodes n 13 (a .other p q .0)
+    other p false q = in-most _ codes table after n (a .inside p q)
+
+    above : (b : Bool) → refusal3 context ≡ b → n ≤ mostNodes
+    above true p = refused-nodes n 3 (a .above p .0)
+    above false p = other p (readRefusal13 context) refl

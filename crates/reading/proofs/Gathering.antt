@@ -14,7 +14,7 @@ use Rattle.file_numbers.specs.declared.Number.{Number}
 use Rattle.file_numbers.specs.declared.Number.the-variants.{Malformed, Value}
 use Rattle.file_numbers.specs.Numbers.{followed, valueOf, malformed}
 use Rattle.file_numbers.specs.Standing.{standsAt}
-use Rattle.reading.specs.Text.{Numbers, broken, numbers, before, numbersFrom, numbersIn}
+use Rattle.reading.specs.Text.{Numbers, broken, numbers, before, numbersFrom, numbersIn, tokensIn}
 use Rattle.reading.specs.Gathering.{Gathered}
 
 -- several numbers before others
@@ -52,32 +52,32 @@ further file at n next e = go (malformed (drop at file)) e
     go false q = let z : next ≡ at + suc (followed (drop at file)) = cc in omega arith
 
 -- what was gathered so far
-pub record Until (file old new : List ℕ) (at count : ℕ) : Type 0 where
+pub record Until (file : List ℕ) (start : ℕ) (old new : List ℕ) (at count : ℕ) : Type 0 where
   pub few : count ≤ at
   pub within : count ≤ length file
-  pub left : numbersIn file ≡ behind (take count new) (numbersFrom (length file - count) file at)
+  pub left : numbersIn file start ≡ behind (take count new) (numbersFrom (length file - count) file at)
   pub room : length new ≡ length old
 
-pub until-start : (file old : List ℕ) → Until file old old 0 0
-until-start file old =
+pub until-start : (file : List ℕ) (start : ℕ) (old : List ℕ) → Until file start old old start 0
+until-start file start old =
     let e : length file ≡ length file - 0 = omega arith in
     record {
       few = omega arith;
       within = omega arith;
-      left = behind-none (numbersIn file) ∙ ap (λ n. behind [] (numbersFrom n file 0)) e;
+      left = behind-none (numbersIn file start) ∙ ap (λ n. behind [] (numbersFrom n file start)) e;
       room = refl;
     }
 
-module _ {file old new : List ℕ} {at count : ℕ} (u : Until file old new at count) where
-  step : at < length file → numbersIn file ≡ behind (take count new) (by (length file - suc count) file (standsAt file at))
+module _ {file : List ℕ} {start : ℕ} {old new : List ℕ} {at count : ℕ} (u : Until file start old new at count) where
+  step : at < length file → numbersIn file start ≡ behind (take count new) (by (length file - suc count) file (standsAt file at))
   step h =
       let e : length file - count ≡ suc (length file - suc count) = omega (arith, u .few) in
       u .left ∙ ap (λ n. behind (take count new) (numbersFrom n file at)) e ∙ ap (behind (take count new)) (one-more (length file - suc count) file at h)
 
-  pub until-bad : at < length file → Malformed ≡ standsAt file at → numbersIn file ≡ broken
+  pub until-bad : at < length file → Malformed ≡ standsAt file at → numbersIn file start ≡ broken
   until-bad h e = step h ∙ ap (λ x. behind (take count new) (by (length file - suc count) file x)) (sym e)
 
-  pub until-next : (n next : ℕ) → at < length file → count < length new → Value n next ≡ standsAt file at → Until file old (set new count n) next (count + 1)
+  pub until-next : (n next : ℕ) → at < length file → count < length new → Value n next ≡ standsAt file at → Until file start old (set new count n) next (count + 1)
   until-next n next h k e =
       let s : count + 1 ≡ suc count = omega arith in
       record {
@@ -91,24 +91,17 @@ module _ {file old new : List ℕ} {at count : ℕ} (u : Until file old new at c
         room = length-set new count n ∙ u .room;
       }
 
-  whole : length file ≤ at → numbersIn file ≡ numbers (take count new)
+  whole : length file ≤ at → numbersIn file start ≡ numbers (take count new)
   whole h = u .left ∙ ap (behind (take count new)) (no-more (length file - count) file at h) ∙ ap numbers (append-nil (take count new))
 
-  not-both : {A : Type 0} (ns : List ℕ) → numbers ns ≡ broken → A
-  not-both ns e = absurd (let z : _≡_ {A = ℕ} 0 1 = cc in omega arith)
+  pub gathered : length file ≤ at → Gathered file start old new count
+  gathered h = record { few = u .within; cells = ap tokensIn (sym (whole h)); room = u .room }
 
-  pub gathered : length file ≤ at → Gathered file old new count
-  gathered h =
+  -- a cell by itself
+  pub gathered-bad : at < length file → 0 < length new → Malformed ≡ standsAt file at → Gathered file start old (set new 0 0) 1
+  gathered-bad h k e =
       record {
-        bad = λ e. not-both (take count new) (sym (whole h) ∙ e);
-        good = λ ns e. (u .within, let q : numbers (take count new) ≡ numbers ns = sym (whole h) ∙ e in cc);
-        room = u .room;
-      }
-
-  pub gathered-bad : at < length file → Malformed ≡ standsAt file at → Gathered file old new (length file + 1)
-  gathered-bad h e =
-      record {
-        bad = λ q. refl;
-        good = λ ns q. not-both ns (sym q ∙ until-bad h e);
-        room = u .room;
+        few = omega arith;
+        cells = take-suc-set new 0 0 k ∙ ap tokensIn (sym (until-bad h e));
+        room = length-set new 0 0 ∙ u .room;
       }

@@ -1,4 +1,4 @@
--- What `reading` prints for a file of numbers, a code and a symbol for each token, as ASCII codes.
+-- What `reading` prints for a file of numbers, the context and then a code and a symbol for each token, as ASCII codes.
 use mathlib.Core.Path.{_≡_}
 use mathlib.Core.List.{List, [], _∷_, _++_}
 use Prim.Native.Nat.{ℕ, zero, suc, _*_}
@@ -26,11 +26,11 @@ unfoldable pub answerText : Reply → List ℕ → List ℕ
 answerText (Refused n) cells = noLine n
 answerText (Nodes n) cells = tableText cells n
 
--- the text is what is printed for the answer to the cells, with a table of 4,096 nodes lent to the reader
-pub record Answered (cells text : List ℕ) : Type 0 where
+-- the text is what is printed for the answer to the cells in a context, with a table of 4,096 nodes lent to the reader
+pub record Answered (context : ℕ) (cells text : List ℕ) : Type 0 where
   pub reply : Reply
   pub after : List ℕ
-  pub answers : Answers cells (replicate (nodeCells * mostNodes) 0) reply after
+  pub answers : Answers context cells (replicate (nodeCells * mostNodes) 0) reply after
   pub prints : text ≡ answerText reply after
 
 -- the numbers of a file, or that one is malformed
@@ -50,10 +50,16 @@ numbersFrom (suc most) file at =
     pick (leb (length file) at) (numbers []) (elim (standsAt file at) [ Malformed ↦ broken | Value n next ↦ before n (numbersFrom most file next) ])
 
 -- a number has a byte at least
-abbrev pub numbersIn : List ℕ → Numbers
-numbersIn file = numbersFrom (length file) file 0
+abbrev pub numbersIn : List ℕ → ℕ → Numbers
+numbersIn file at = numbersFrom (length file) file at
 
--- what is printed for a file: "a malformed or missing number is 14". A missing symbol leaves an odd number of cells, which the reader refuses
+-- The cells of tokens. "a malformed or missing number is 14": a missing symbol leaves an odd number of cells, which the reader refuses by 14, and so does a
+-- malformed number, which is read as a cell by itself. Refusals 3 and 13 of the context come before both
+abbrev pub tokensIn : Numbers → List ℕ
+tokensIn broken = 0 ∷ []
+tokensIn (numbers cells) = cells
+
+-- what is printed for a file: 14 where its first number, the context, is malformed or missing
 pub record Printed (file text : List ℕ) : Type 0 where
-  pub bad : numbersIn file ≡ broken → text ≡ noLine 14
-  pub good : (cells : List ℕ) → numbersIn file ≡ numbers cells → Answered cells text
+  pub bad : standsAt file 0 ≡ Malformed → text ≡ noLine 14
+  pub good : (context next : ℕ) → standsAt file 0 ≡ Value context next → Answered context (tokensIn (numbersIn file next)) text

@@ -10,15 +10,15 @@ use Rattle.reading.proofs.gather.Statement.{statement}
 use Rattle.reading.proofs.gather.Tie as tie
 
 abbrev Inv-loop : tie.InvT-loop
-Inv-loop file cells₀ at₀ count₀ cells at count = (count ≤ at) × (length cells ≡ length cells₀) × Until file cells₀ cells at count
+Inv-loop file start cells₀ at₀ count₀ cells at count = (count ≤ at) × (length cells ≡ length cells₀) × Until file start cells₀ cells at count
 
 abbrev μ-loop : tie.MeasureT-loop
-μ-loop file cells₀ at₀ count₀ cells at count = length file - at
+μ-loop file start cells₀ at₀ count₀ cells at count = length file - at
 
 returns : tie.Need-returns Inv-loop μ-loop
 returns c =
     let l = c .before .before .before .before .loop in
-    gathered-bad (l .inv .2) (c .before .before .before .loop-test .taken) (sym (c .enum-told .given .1) ∙ c .before .before .number-at .ensures)
+    gathered-bad (l .inv .2) (c .before .before .before .loop-test .taken) (omega arith) (sym (c .enum-told .given .1) ∙ c .before .before .number-at .ensures)
 
 loop-less : tie.Need-loop-less Inv-loop μ-loop
 loop-less c = let f = further _ _ _ _ (sym (c .before .value .given .1) ∙ c .before .before .before .number-at .ensures) in omega arith
@@ -35,7 +35,7 @@ returns-2 c = let l = c .before .loop in gathered (l .inv .2) (omega arith)
 
 pub gather-spec : {M : Type 1} → statement M
 gather-spec =
-    tie.close (tie.spec Inv-loop μ-loop (λ c. (omega arith, refl, until-start _ _)) free (λ c. search needs)
-    (λ c. search needs) (λ c. c .before .before .before .before .loop .inv .1) returns (λ c. search needs)
+    tie.close (tie.spec Inv-loop μ-loop (λ c. (omega arith, refl, until-start _ _ _)) free (λ c. search needs)
+    (λ c. search needs) (λ c. simp length-set (c .before .before .before .before .loop .inv .1)) returns (λ c. search needs)
     (λ c. omega arith) (λ c. omega arith) (λ c. omega arith) loop-less loop-again (λ c. c .before .loop .inv .1)
     returns-2)

@@ -11,7 +11,7 @@ use Rattle.reading.proofs.put_reply.Tie as tie
 put-table-requires : tie.Need-put-table-requires
 put-table-requires c κs =
     let a = rw (c .before .before .before .count .given .1) at (c .before .before .before .before .before .before .read .ensures) in
-    let most = nodes-most _ _ _ _ a in
+    let most = nodes-most _ _ _ _ _ a in
     (most, omega arith)
 
 returns : tie.Need-returns
