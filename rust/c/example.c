@@ -7,7 +7,7 @@
 #include "tezhukor.h"
 
 /* Of each node its form, attributes, detail, first and second operand, and symbol. */
-static const uint8_t file[] = {0, 5,                /* context, count */
+static const uint8_t file[] = {TEZHUKOR_NONE, 5,    /* context, count */
                                5, 0, 1, 2, 3, 0,    /* - */
                                26, 0, 0, 0, 0, 1,   /* offset */
                                5, 0, 1, 4, 5, 0,    /* - */
@@ -49,9 +49,14 @@ int main(void) {
         else printf(" %u", (unsigned)token[0]);
     }
     printf("\n");
-    uint32_t nodes = tezhukor_read(tokens, TEZHUKOR_TOKEN_CELLS * written, again, CELLS);
+    uint32_t nodes = tezhukor_read(context, tokens, TEZHUKOR_TOKEN_CELLS * written, again, CELLS);
     int same = nodes == count && memcmp(table, again, 2 * cells) == 0;
     printf("read back %s\n", same ? "the same" : "another");
+    /* A struct (46) in a condition, without its pair and with it. */
+    const uint16_t bare[] = {46, 0}, grouped[] = {35, 0, 46, 0, 36, 0};
+    printf("refused %u, read %u node\n",
+           (unsigned)TEZHUKOR_REFUSAL(tezhukor_read(TEZHUKOR_CONDITION, bare, 2, again, CELLS)),
+           (unsigned)tezhukor_read(TEZHUKOR_CONDITION, grouped, 6, again, CELLS));
     /* The file's nodes are numbered from the root on, so saving gives its own bytes. */
     uint32_t bytes = tezhukor_save(context, count, table, cells, saved, BYTES);
     printf("saved %u bytes, compared %u\n", (unsigned)bytes,

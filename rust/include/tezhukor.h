@@ -23,9 +23,10 @@
  *   10 a closure with a written output has another body than a bare block
  *   11 a path from the root holds more than 128 nodes
  *   12 a lent buffer is too short
- *   13 the tree is not plain, or its context is not 0
+ *   13 the tree is not plain, or the context is neither 0 nor 3; the reader tells it
+ *      straight after 3
  *   14 the token list has more than 24,576 tokens, an odd number of cells, a code above
- *      45, or a symbol that is not 0 on a token that has none
+ *      46, or a symbol that is not 0 on a token that has none
  *   15 the plain grammar gives the tokens no reading
  *   16 the reading needs more than 4,096 nodes, or a path of more than 128
  */
@@ -38,6 +39,15 @@
 #ifdef __cplusplus
 extern "C" {
 #endif
+
+/* The contexts of a root: an expression of its own, the beginning of a statement, a match
+ * arm, a condition. Plain tokens are written and read in the first and the last. */
+enum {
+    TEZHUKOR_NONE = 0,
+    TEZHUKOR_STATEMENT = 1,
+    TEZHUKOR_MATCH_ARM = 2,
+    TEZHUKOR_CONDITION = 3
+};
 
 /* Cells that a node takes in a table, in rows and in scratch, and tokens at the most;
  * cells that a token takes. */
@@ -88,20 +98,21 @@ uint16_t tezhukor_decide(uint16_t context, uint16_t count, const uint16_t *table
                          size_t table_length, uint16_t *rows, size_t rows_length,
                          uint16_t *scratch, size_t scratch_length);
 
-/* Writes the tokens of a plain table in context 0, two cells a token: its code, and the
+/* Writes the tokens of a plain table in context 0 or 3, two cells a token: its code, and the
  * symbol of its node on names (32), literals (33) and numbered members (44), else 0.
  * Twelve cells a node must be lent. Replies the refusal times 65,536 (3, 4, 6 to 13), or
  * the number of tokens. */
 uint32_t tezhukor_write(uint16_t context, uint16_t count, const uint16_t *table,
                         size_t table_length, uint16_t *tokens, size_t tokens_length);
 
-/* Reads a token list, two cells a token and so many cells as tokens_length says, into a
- * table with room for the most nodes; a name's, a literal's and a numbered member's
- * symbol stands on the node that it names. Replies the refusal times 65,536 (12, 14 to
- * 16), or the number of nodes.
+/* Reads a token list in context 0 or 3, two cells a token and so many cells as
+ * tokens_length says, into a table with room for the most nodes; a name's, a literal's and
+ * a numbered member's symbol stands on the node that it names. In context 3 a struct (46)
+ * outside every parenthesis, bracket and argument list has no reading. Replies the refusal
+ * times 65,536 (3, then 13, then 12, then 14 to 16), or the number of nodes.
  * It was measured to take up to 4.0 MiB of stack, for the longest lists (docs/PERFORMANCE.md). */
-uint32_t tezhukor_read(const uint16_t *tokens, size_t tokens_length, uint16_t *table,
-                       size_t table_length);
+uint32_t tezhukor_read(uint16_t context, const uint16_t *tokens, size_t tokens_length,
+                       uint16_t *table, size_t table_length);
 
 /* How an operator binds: its level, the precedence from Jump 0 to Unambiguous 15, times
  * 4, plus which way it leans: 0 left, 1 right, 2 neither. Operators are 0 to 27, as in

@@ -80,9 +80,10 @@ pub fn decide(
     }
 }
 
-/// Writes the tokens of a plain table, [`TOKEN_CELLS`] cells a token: its code and its
-/// symbol; [`TOKEN_CELLS_PER_NODE`](model::sizes::TOKEN_CELLS_PER_NODE) cells a node must
-/// be lent. What is done is the number of tokens.
+/// Writes the tokens of a plain table in a context of [`PLAIN`](model::contexts::PLAIN),
+/// [`TOKEN_CELLS`] cells a token: its code and its symbol;
+/// [`TOKEN_CELLS_PER_NODE`](model::sizes::TOKEN_CELLS_PER_NODE) cells a node must be lent.
+/// What is done is the number of tokens.
 pub fn write(context: u16, count: u16, table: &[u16], tokens: &mut [u16]) -> u32 {
     // SAFETY: as above.
     unsafe {
@@ -103,7 +104,8 @@ const LONG: usize = 2_048;
 /// The longest lists were measured to take up to 4.0 MiB of it (docs/PERFORMANCE.md).
 const STACK: usize = 16 << 20;
 
-/// Reads a token list, [`TOKEN_CELLS`] cells a token, into a table of at least
+/// Reads a token list, [`TOKEN_CELLS`] cells a token, in a context of
+/// [`PLAIN`](model::contexts::PLAIN) into a table of at least
 /// [`MOST_CELLS`](model::sizes::MOST_CELLS) cells. What is done is the number of nodes.
 ///
 /// The library's reader is recursive: a long list is read on a thread of its own,
@@ -112,23 +114,29 @@ const STACK: usize = 16 << 20;
 /// # Panics
 ///
 /// If the list is long and the system starts no thread.
-pub fn read(tokens: &[u16], table: &mut [u16]) -> u32 {
+pub fn read(context: u16, tokens: &[u16], table: &mut [u16]) -> u32 {
     let length = tokens.len().div_ceil(TOKEN_CELLS);
     if length <= LONG || length > MOST_TOKENS {
-        return read_here(tokens, table);
+        return read_here(context, tokens, table);
     }
     std::thread::scope(|scope| {
         let builder = std::thread::Builder::new().stack_size(STACK);
-        let reader = builder.spawn_scoped(scope, || read_here(tokens, table));
+        let reader = builder.spawn_scoped(scope, || read_here(context, tokens, table));
         reader.expect("a thread can be started").join().expect("the library does not panic")
     })
 }
 
 /// As [`read`], always on the caller's stack.
-pub fn read_here(tokens: &[u16], table: &mut [u16]) -> u32 {
+pub fn read_here(context: u16, tokens: &[u16], table: &mut [u16]) -> u32 {
     // SAFETY: as above.
     unsafe {
-        library::tezhukor_read(tokens.as_ptr(), tokens.len(), table.as_mut_ptr(), table.len())
+        library::tezhukor_read(
+            context,
+            tokens.as_ptr(),
+            tokens.len(),
+            table.as_mut_ptr(),
+            table.len(),
+        )
     }
 }
 

@@ -16,27 +16,49 @@
 //! # Ok::<(), tezhukor::Refusal>(())
 //! ```
 //!
-//! A *plain* tree (names, literals, operators, casts, calls, fields, indexes, `?` and
-//! await) can be written as tokens, and tokens read back as a tree:
+//! A *plain* tree (names, literals, structs, operators, casts, calls, fields, indexes, `?`
+//! and await) can be written as tokens, and tokens read back as a tree:
 //!
 //! ```
 //! use tezhukor::codes::{self, CLOSE, MINUS, NAME, OPEN};
-//! use tezhukor::Token;
+//! use tezhukor::{contexts, Token};
 //!
 //! // offset is symbol 1, station 2, start 3.
 //! let name = |symbol| Token::new(NAME, symbol);
 //! let [minus, open, close] = [MINUS, OPEN, CLOSE].map(Token::from);
 //! let tokens = [name(1), minus, open, name(2), minus, name(3), close];
-//! let file = tezhukor::tree_file(&tokens)?;
+//! let file = tezhukor::tree_file(contexts::NONE, &tokens)?;
 //! assert_eq!(tezhukor::tokens(&file)?, tokens);
 //!
 //! // Without the pair it is another tree.
-//! let other = tezhukor::tree_file(&[name(1), minus, name(2), minus, name(3)])?;
-//! assert_ne!(other, file);
+//! let other = [name(1), minus, name(2), minus, name(3)];
+//! assert_ne!(tezhukor::tree_file(contexts::NONE, &other)?, file);
 //! # Ok::<(), tezhukor::Refusal>(())
 //! ```
 //!
-//! It is proved, for every accepted plain tree in context 0, that its tokens have
+//! So can one that stands in a condition, where a struct outside every parenthesis, bracket
+//! and argument list has no reading: its brace would open the block.
+//!
+//! ```
+//! use tezhukor::codes::{CLOSE, NAME, OPEN, STRUCT};
+//! use tezhukor::forms::operator::EQ;
+//! use tezhukor::{contexts, Refusal, Token};
+//!
+//! // reading == (Limit { .. })
+//! let [equal, open, limit, close] = [EQ, OPEN, STRUCT, CLOSE].map(Token::from);
+//! let reading = Token::new(NAME, 1);
+//! let tokens = [reading, equal, open, limit, close];
+//! let file = tezhukor::tree_file(contexts::CONDITION, &tokens)?;
+//! assert_eq!(tezhukor::tokens(&file)?, tokens);
+//! let bare = [reading, equal, limit];
+//! assert_eq!(tezhukor::tree_file(contexts::CONDITION, &bare), Err(Refusal::NoReading));
+//! // Elsewhere the pair is needless.
+//! let file = tezhukor::tree_file(contexts::NONE, &tokens)?;
+//! assert_eq!(tezhukor::tokens(&file)?, bare);
+//! # Ok::<(), tezhukor::Refusal>(())
+//! ```
+//!
+//! It is proved, for every accepted plain tree in context 0 or 3, that its tokens have
 //! exactly one reading, the tree without its own parentheses, and that no pair that
 //! was added can be left out. `docs/TRUST.md` says what a reader must believe; this
 //! crate, which calls the proved library, is on that list.
@@ -66,7 +88,7 @@ mod tree;
 
 pub use binding::{Binding, Lean};
 #[doc(inline)]
-pub use model::{codes, codes::Token, forms, sizes};
+pub use model::{codes, codes::Token, contexts, forms, sizes};
 pub use refusal::Refusal;
 use std::cmp::Ordering;
 pub use tree::{Node, Row, Tree};
@@ -114,19 +136,22 @@ pub fn cmp(first: &[u8], second: &[u8]) -> Result<Ordering, Refusal> {
     Ok(boundary::done(boundary::compare(first, second))?.cmp(&1))
 }
 
-/// The tree file of a token list's reading.
+/// The tree file of a token list's reading in a context.
 ///
 /// ```
-/// use tezhukor::{codes::tokens, tree_file, Refusal, Token};
-/// assert_eq!(tree_file(&[Token::new(32, 7)]), Ok(vec![0, 1, 26, 0, 0, 0, 0, 7]));
+/// use tezhukor::{codes::tokens, contexts::*, tree_file, Refusal, Token};
+/// let name = [Token::new(32, 7)];
+/// assert_eq!(tree_file(NONE, &name), Ok(vec![0, 1, 26, 0, 0, 0, 0, 7]));
+/// assert_eq!(tree_file(CONDITION, &name), Ok(vec![3, 1, 26, 0, 0, 0, 0, 7]));
+/// assert_eq!(tree_file(STATEMENT, &name), Err(Refusal::NotPlain));
 /// // Only names, literals and numbered members have symbols.
-/// assert_eq!(tree_file(&[Token::new(29, 7), Token::new(32, 7)]), Err(Refusal::Tokens));
+/// assert_eq!(tree_file(NONE, &[Token::new(29, 7), Token::new(32, 7)]), Err(Refusal::Tokens));
 /// // Comparisons do not chain.
-/// assert_eq!(tree_file(&tokens(&[32, 13, 32, 13, 32])), Err(Refusal::NoReading));
+/// assert_eq!(tree_file(NONE, &tokens(&[32, 13, 32, 13, 32])), Err(Refusal::NoReading));
 /// // A comma after the last argument changes nothing: `f(a,)` is `f(a)`.
-/// let without = tree_file(&tokens(&[32, 35, 32, 36]));
-/// assert_eq!(tree_file(&tokens(&[32, 35, 32, 39, 36])), without);
+/// let without = tree_file(NONE, &tokens(&[32, 35, 32, 36]));
+/// assert_eq!(tree_file(NONE, &tokens(&[32, 35, 32, 39, 36])), without);
 /// ```
-pub fn tree_file(tokens: &[Token]) -> Result<Vec<u8>, Refusal> {
-    Ok(Tree::read(tokens)?.to_file())
+pub fn tree_file(context: u16, tokens: &[Token]) -> Result<Vec<u8>, Refusal> {
+    Ok(Tree::read(context, tokens)?.to_file())
 }

@@ -6,7 +6,9 @@ use std::fmt;
 /// Defines the refusals: number, name and sentence.
 macro_rules! refusals {
     ($($number:literal $name:ident $sentence:literal,)*) => {
-        /// Why something was refused. Of several reasons the first by number is told.
+        /// Why something was refused. Of several reasons the first by number is told, but
+        /// that a token list is refused for its context, [`Refusal::NotPlain`], before its
+        /// buffer.
         #[derive(Copy, Clone, PartialEq, Eq, PartialOrd, Ord, Hash, Debug)]
         #[repr(u16)]
         pub enum Refusal {
@@ -40,8 +42,8 @@ refusals! {
     10 ClosureBody "A closure with a written output has a body other than a block without attributes and label.",
     11 Depth "A path from the root holds more than 128 nodes, list links not counted.",
     12 Buffer "A lent buffer is too short.",
-    13 NotPlain "The tree has a form that is not plain, or its context is not 0.",
-    14 Tokens "The token list has more than 24,576 tokens, an odd number of cells, a code above 45, or a symbol on a token that has none.",
+    13 NotPlain "The tree has a form that is not plain, or the context is neither 0 nor 3.",
+    14 Tokens "The token list has more than 24,576 tokens, an odd number of cells, a code above 46, or a symbol on a token that has none.",
     15 NoReading "The plain grammar gives these tokens no reading.",
     16 ReadingTooLarge "The reading needs more than 4,096 nodes, or a path of more than 128.",
 }

@@ -95,8 +95,7 @@ impl Tree {
         Ok(Tree { context, cells })
     }
 
-    /// Takes nodes, node 1 first, in a context: 0 for an expression of its own, 1 for
-    /// a statement, 2 for a match arm, 3 for a condition.
+    /// Takes nodes, node 1 first, in a context ([`crate::contexts`]).
     pub fn new(context: u16, nodes: &[Node]) -> Result<Tree, Refusal> {
         let count = u16::try_from(nodes.len()).map_err(|_| Refusal::Count)?;
         let cells: Vec<u16> = nodes.iter().flat_map(|node| node.cells()).collect();
@@ -107,16 +106,16 @@ impl Tree {
         }
     }
 
-    /// The reading of a token list, in context 0, each symbol on the node that its token
-    /// names.
-    pub fn read(tokens: &[Token]) -> Result<Tree, Refusal> {
+    /// The reading of a token list in a context, [`NONE`](crate::contexts::NONE) or
+    /// [`CONDITION`](crate::contexts::CONDITION), each symbol on the node that its token names.
+    pub fn read(context: u16, tokens: &[Token]) -> Result<Tree, Refusal> {
         let mut cells = vec![0; MOST_CELLS];
-        let count = boundary::done(boundary::read(&codes::cells(tokens), &mut cells))?;
+        let count = boundary::done(boundary::read(context, &codes::cells(tokens), &mut cells))?;
         cells.truncate(NODE_CELLS * usize::from(count));
-        Ok(Tree { context: 0, cells })
+        Ok(Tree { context, cells })
     }
 
-    /// The context, 0 to 3.
+    /// The context ([`crate::contexts`]).
     pub fn context(&self) -> u16 {
         self.context
     }
@@ -148,8 +147,9 @@ impl Tree {
         rows.chunks_exact(ROW_CELLS).map(Row::of_cells).collect()
     }
 
-    /// The tokens of a plain tree in context 0, with the pairs that it needs and the nodes'
-    /// symbols. Refused is only what is not plain ([`Refusal::NotPlain`]).
+    /// The tokens of a plain tree in context 0 or 3, with the pairs that it needs and the
+    /// nodes' symbols. Refused is only what is not plain, and any other context
+    /// ([`Refusal::NotPlain`]).
     pub fn tokens(&self) -> Result<Vec<Token>, Refusal> {
         let mut cells = vec![0; TOKEN_CELLS_PER_NODE * usize::from(self.count())];
         let reply = boundary::write(self.context, self.count(), &self.cells, &mut cells);

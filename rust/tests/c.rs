@@ -26,6 +26,7 @@ fn example() {
         "node 3 needs a pair",
         "tokens offset 1 35 station 1 start 36",
         "read back the same",
+        "refused 15, read 1 node",
         "saved 32 bytes, compared 1",
         "level 11, lean 0",
         "refused 12",

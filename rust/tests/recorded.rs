@@ -90,11 +90,14 @@ fn readings() {
     for record in &records {
         let tokens = u16s(&record.bytes);
         let mut table = Lent::new(record.lent);
-        assert_eq!(boundary::read(&tokens, table.lend(record.lent)), reply(record));
+        let read = boundary::read(record.context, &tokens, table.lend(record.lent));
+        // The context is the one in which the list is read, also where it is refused.
+        assert_eq!(read, REFUSAL_UNIT * u32::from(record.refusal) + u32::from(record.count));
         holds(table, &record.cells());
         if record.refusal == 0 {
-            let tree = Tree::read(&Token::of_cells(&tokens)).expect("a tree");
+            let tree = Tree::read(record.context, &Token::of_cells(&tokens)).expect("a tree");
             assert_eq!(tree.cells(), record.cells());
+            assert_eq!(tree.context(), record.context);
         }
     }
     println!("readings {}, different 0", records.len());

@@ -4,7 +4,7 @@
 use std::collections::HashMap;
 use std::path::{Path, PathBuf};
 use tezhukor::sizes::*;
-use tezhukor::{codes, Refusal};
+use tezhukor::{codes, contexts, Refusal};
 
 /// The numbers by name.
 const SIZES: [(&str, usize); 17] = [
@@ -122,6 +122,27 @@ fn the_header_agrees() {
     assert!(defined.iter().all(|found| SIZES.contains(found)), "{defined:?}");
 }
 
+/// The contexts of the header are those of `contexts`.
+#[test]
+fn contexts_agree() {
+    let path = root().join("rust/include/tezhukor.h");
+    let text = std::fs::read_to_string(path).expect("the header");
+    let context = |line: &str| {
+        let line = line.strip_prefix("    TEZHUKOR_")?;
+        let (name, value) = line.trim_end_matches(',').split_once(" = ")?;
+        Some((name.to_string(), number(value)?))
+    };
+    let named: Vec<(String, usize)> = text.lines().filter_map(context).collect();
+    let meant = [
+        ("NONE", contexts::NONE),
+        ("STATEMENT", contexts::STATEMENT),
+        ("MATCH_ARM", contexts::MATCH_ARM),
+        ("CONDITION", contexts::CONDITION),
+    ];
+    assert_eq!(named, meant.map(|(name, number)| (name.to_string(), number.into())));
+    assert_eq!(contexts::CONDITION, LAST_CONTEXT);
+}
+
 /// The sentences name the numbers, with commas between thousands.
 #[test]
 fn sentences_agree() {
@@ -136,6 +157,8 @@ fn sentences_agree() {
         (Refusal::Depth, MOST_LEVELS),
         (Refusal::Tokens, MOST_TOKENS),
         (Refusal::Tokens, LAST_CODE.into()),
+        (Refusal::NotPlain, contexts::NONE.into()),
+        (Refusal::NotPlain, contexts::CONDITION.into()),
         (Refusal::ReadingTooLarge, MOST_NODES),
         (Refusal::ReadingTooLarge, MOST_LEVELS),
     ] {

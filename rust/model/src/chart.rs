@@ -3,13 +3,17 @@
 //! For each span of the list the chart holds all expressions, types and lists
 //! that the grammar of `rules` gives for just these tokens, each with what
 //! the rules for its neighbours ask: how tightly it holds together, and whether
-//! it ends in a type name or in the name behind a dot; a node has the symbol of the token
+//! it ends in a type name or in the name behind a dot; and whether a Struct stands in it
+//! outside every parenthesis, bracket and argument list, which has no reading in a
+//! condition. A node has the symbol of the token
 //! that names it. An expression of a span is
 //! a shorter one at its start, what may follow that, and whatever the rest can be.
 //! Nothing is decided by looking ahead, and no cut is preferred to another: all
-//! that fit are kept, and those that give equal trees are one.
+//! that fit are kept, and those that give equal trees are one. One chart holds the readings
+//! in every context.
 
 use crate::codes::*;
+use crate::contexts;
 use crate::forms::{self, LINK};
 use crate::rules::*;
 use crate::sizes::NODE_CELLS;
@@ -45,12 +49,30 @@ enum End {
     Other,
 }
 
-/// Something that the tokens of a span can be. Lists and types have no level.
+/// What the rules ask of something that the tokens of a span can be. Lists and types have
+/// no level.
+#[derive(Copy, Clone, PartialEq, Eq, Debug)]
+struct Traits {
+    level: Level,
+    end: End,
+    /// Whether it holds a Struct outside every parenthesis, bracket and argument list.
+    bare_struct: bool,
+}
+
+impl Traits {
+    /// What asks nothing of its neighbours.
+    const CLOSED: Traits = Traits { level: TIGHTEST, end: End::Other, bare_struct: false };
+
+    fn ending(end: End) -> Traits {
+        Traits { end, ..Traits::CLOSED }
+    }
+}
+
+/// Something that the tokens of a span can be.
 #[derive(Copy, Clone, Debug)]
 struct Found {
     tree: u32,
-    level: Level,
-    end: End,
+    traits: Traits,
 }
 
 #[derive(Copy, Clone, PartialEq, Eq)]
@@ -162,33 +184,42 @@ impl Chart {
     }
 
     /// Adds what a span can be, if it was not found before.
-    fn add(&mut self, class: Class, start: usize, node: Node, level: Level, end: End) {
+    fn add(&mut self, class: Class, start: usize, node: Node, traits: Traits) {
         let before = &self.found[class as usize][start..];
         let same = |found: &Found| {
-            (found.level, found.end) == (level, end)
-                && self.equal_nodes(self.nodes[found.tree as usize], node)
+            found.traits == traits && self.equal_nodes(self.nodes[found.tree as usize], node)
         };
         if before.iter().any(same) {
             return;
         }
         let tree = self.nodes.len() as u32;
         self.nodes.push(node);
-        self.found[class as usize].push(Found { tree, level, end });
+        self.found[class as usize].push(Found { tree, traits });
     }
 
     /// Adds an expression in parentheses, which leave no node.
     fn add_group(&mut self, start: usize, inner: Found) {
+        let bare_struct = self.bare_inside(inner, Change::StructBarredInGroup);
+        let traits = Traits { bare_struct, ..Traits::CLOSED };
         if self.rules.has(Change::GroupsLeaveNodes) {
             let node = Node::new(forms::PAREN, 0, [Some(inner.tree), None]);
-            return self.add(Class::Expression, start, node, TIGHTEST, End::Other);
+            return self.add(Class::Expression, start, node, traits);
         }
-        let same = |found: &Found| {
-            (found.level, found.end) == (TIGHTEST, End::Other) && self.equal(found.tree, inner.tree)
-        };
+        let same = |found: &Found| found.traits == traits && self.equal(found.tree, inner.tree);
         if !self.found[Class::Expression as usize][start..].iter().any(same) {
-            let found = Found { tree: inner.tree, level: TIGHTEST, end: End::Other };
-            self.found[Class::Expression as usize].push(found);
+            self.found[Class::Expression as usize].push(Found { tree: inner.tree, traits });
         }
+    }
+
+    /// Whether a Struct that stands bare inside a pair or a list stands bare outside of it:
+    /// only if a change says so.
+    fn bare_inside(&self, inner: Found, change: Change) -> bool {
+        inner.traits.bare_struct && self.rules.has(change)
+    }
+
+    /// Whether a Struct stands bare in what begins with an expression, if something follows.
+    fn bare_before(&self, left: Found) -> bool {
+        left.traits.bare_struct && !self.rules.has(Change::StructBarredAtEndOnly)
     }
 
     fn equal(&self, one: u32, other: u32) -> bool {
@@ -233,32 +264,37 @@ impl Chart {
         use Class::Expression;
         let (first, last) = (self.codes[from], self.codes[to - 1]);
         if to - from == 1 {
-            let form = match first {
-                NAME => forms::PATH,
-                LITERAL => forms::LIT,
+            let (form, traits) = match first {
+                NAME => (forms::PATH, Traits::CLOSED),
+                LITERAL => (forms::LIT, Traits::CLOSED),
+                STRUCT if self.rules.has(Change::StructLikePrefix) => {
+                    (forms::STRUCT, Traits { level: PREFIX, end: End::Other, bare_struct: true })
+                }
+                STRUCT => (forms::STRUCT, Traits { bare_struct: true, ..Traits::CLOSED }),
                 _ => return,
             };
             let node = Node::new(form, 0, [None, None]).with(self.tokens[from]);
-            return self.add(Expression, start, node, TIGHTEST, End::Other);
+            return self.add(Expression, start, node, traits);
         }
         let level = self.rules.level(PREFIX);
         if let Some((form, detail)) = self.rules.prefix(first) {
             for index in self.of(Expression, from + 1, to) {
                 let operand = self.at(Expression, index);
-                if operand.level >= PREFIX {
+                if operand.traits.level >= PREFIX {
                     let node = Node::new(form, detail, [Some(operand.tree), None]);
-                    self.add(Expression, start, node, level, operand.end);
+                    self.add(Expression, start, node, Traits { level, ..operand.traits });
                 }
             }
         }
         if first == AND_AND && self.rules.has(Change::AndIsTwoReferences) {
             for index in self.of(Expression, from + 1, to) {
                 let operand = self.at(Expression, index);
-                if operand.level >= PREFIX {
+                if operand.traits.level >= PREFIX {
                     let inner = self.nodes.len() as u32;
                     let reference = |tree| Node::new(forms::REFERENCE, 0, [Some(tree), None]);
                     self.nodes.push(reference(operand.tree));
-                    self.add(Expression, start, reference(inner), PREFIX, operand.end);
+                    let traits = Traits { level: PREFIX, ..operand.traits };
+                    self.add(Expression, start, reference(inner), traits);
                 }
             }
         }
@@ -286,41 +322,44 @@ impl Chart {
         let closed = |codes: &[u16], opening: usize, closing: u16| {
             opening + 1 < to && codes[to - 1] == closing
         };
+        let bare_before = self.bare_before(left);
         if let Some(infix) = self.rules.infix(code) {
-            let barred = left.end == End::TypeName && self.rules.not_after_type_name(code);
-            if left.level < infix.left || barred {
+            let barred = left.traits.end == End::TypeName && self.rules.not_after_type_name(code);
+            if left.traits.level < infix.left || barred {
                 return;
             }
             for index in self.of(Expression, cut + 1, to) {
                 let right = self.at(Expression, index);
-                if right.level >= infix.right {
+                if right.traits.level >= infix.right {
                     let operands = [Some(left.tree), Some(right.tree)];
                     let node = Node::new(infix.form, infix.detail, operands);
-                    self.add(Expression, start, node, infix.level, right.end);
+                    let bare_struct = bare_before || right.traits.bare_struct;
+                    let traits = Traits { level: infix.level, end: right.traits.end, bare_struct };
+                    self.add(Expression, start, node, traits);
                 }
             }
             return;
         }
         if code == AS {
             let level = self.rules.level(CAST);
-            if left.level >= level {
+            if left.traits.level >= level {
                 for index in self.of(Type, cut + 1, to) {
                     let ty = self.at(Type, index);
                     let operands = [Some(left.tree), Some(ty.tree)];
                     let node = Node::new(forms::CAST, 0, operands);
-                    self.add(Expression, start, node, level, ty.end);
+                    let traits = Traits { level, end: ty.traits.end, bare_struct: bare_before };
+                    self.add(Expression, start, node, traits);
                 }
             }
             return;
         }
-        if left.level < TIGHTEST {
+        if left.traits.level < TIGHTEST {
             return;
         }
         let one = |form, detail| Node::new(form, detail, [Some(left.tree), None]);
+        let traits = Traits { bare_struct: bare_before, ..Traits::CLOSED };
         match code {
-            QUESTION if cut + 1 == to => {
-                self.add(Expression, start, one(forms::TRY, 0), TIGHTEST, End::Other);
-            }
+            QUESTION if cut + 1 == to => self.add(Expression, start, one(forms::TRY, 0), traits),
             DOT if cut + 2 == to => {
                 let member = self.tokens[cut + 1];
                 let (node, end) = match member.code {
@@ -329,23 +368,23 @@ impl Chart {
                     AWAIT => (one(forms::AWAIT, 0), End::Other),
                     _ => return,
                 };
-                self.add(Expression, start, node, TIGHTEST, end);
+                self.add(Expression, start, node, Traits { end, ..traits });
             }
             DOT if closed(&self.codes, cut + 2, CLOSE)
                 && self.codes[cut + 1..cut + 3] == [NAME, OPEN] =>
             {
                 let call = one(forms::METHOD_CALL, 0).with(self.tokens[cut + 1]);
-                self.called(call, cut + 3, to - 1, start);
+                self.called(call, cut + 3, to - 1, start, bare_before);
             }
             OPEN if closed(&self.codes, cut, CLOSE) => {
-                let barred = match left.end {
+                let barred = match left.traits.end {
                     End::DotName => !self.rules.has(Change::FieldIsCalled),
                     _ => {
                         self.codes[cut - 1] == MEMBER && self.rules.has(Change::NumberedIsNotCalled)
                     }
                 };
                 if !barred {
-                    self.called(one(forms::CALL, 0), cut + 1, to - 1, start);
+                    self.called(one(forms::CALL, 0), cut + 1, to - 1, start, bare_before);
                 }
             }
             OPEN_BRACKET if closed(&self.codes, cut, CLOSE_BRACKET) => {
@@ -354,7 +393,9 @@ impl Chart {
                         let inner = self.at(Expression, index);
                         let operands = [Some(left.tree), Some(inner.tree)];
                         let node = Node::new(forms::INDEX, 0, operands);
-                        self.add(Expression, start, node, TIGHTEST, End::Other);
+                        let inside = self.bare_inside(inner, Change::StructBarredInIndex);
+                        let traits = Traits { bare_struct: bare_before || inside, ..traits };
+                        self.add(Expression, start, node, traits);
                     }
                 }
             }
@@ -381,20 +422,22 @@ impl Chart {
     }
 
     /// The calls, of which one without arguments is given, with the arguments of a span,
-    /// which may be empty.
-    fn called(&mut self, call: Node, from: usize, to: usize, start: usize) {
+    /// which may be empty; whether a Struct stands bare before them is given too.
+    fn called(&mut self, call: Node, from: usize, to: usize, start: usize, bare_before: bool) {
         use Class::{Expression, ExpressionList};
-        let add = |chart: &mut Chart, arguments| {
+        let add = |chart: &mut Chart, arguments, inside: bool| {
             let operands = [call.operands[0], arguments];
             let node = Node { operands, ..call };
-            chart.add(Expression, start, node, TIGHTEST, End::Other);
+            let traits = Traits { bare_struct: bare_before || inside, ..Traits::CLOSED };
+            chart.add(Expression, start, node, traits);
         };
         if self.is_empty(from, to, Change::NoEmptyArguments) {
-            add(self, None);
+            add(self, None, false);
         }
         for index in self.of(ExpressionList, from, to) {
             let list = self.at(ExpressionList, index);
-            add(self, Some(list.tree));
+            let inside = self.bare_inside(list, Change::StructBarredInArguments);
+            add(self, Some(list.tree), inside);
         }
     }
 
@@ -410,13 +453,13 @@ impl Chart {
                 _ => return,
             };
             let node = Node::new(form, detail, [None, None]).with(self.tokens[from]);
-            return self.add(Type, start, node, TIGHTEST, end);
+            return self.add(Type, start, node, Traits::ending(end));
         }
         if let Some((form, detail)) = self.rules.type_prefix(first) {
             for index in self.of(Type, from + 1, to) {
                 let operand = self.at(Type, index);
                 let node = Node::new(form, detail, [Some(operand.tree), None]);
-                self.add(Type, start, node, TIGHTEST, operand.end);
+                self.add(Type, start, node, operand.traits);
             }
         }
         if to - from >= 3 && (first, self.codes[from + 1], last) == (NAME, LESS, GREATER) {
@@ -427,7 +470,7 @@ impl Chart {
             let name = self.tokens[from];
             let add = |chart: &mut Chart, arguments| {
                 let node = Node::new(forms::TYPE_PATH, 2, [None, arguments]).with(name);
-                chart.add(Type, start, node, TIGHTEST, end);
+                chart.add(Type, start, node, Traits::ending(end));
             };
             if self.is_empty(from + 2, to - 1, Change::NoEmptyTypeArguments) {
                 add(self, None);
@@ -450,11 +493,12 @@ impl Chart {
     ) {
         let start = starts[list as usize];
         let link = |item: Found, next| Node::new(LINK, 0, [Some(item.tree), next]);
+        let of_items = |bare_struct| Traits { bare_struct, ..Traits::CLOSED };
         let comma_after_last = self.rules.comma_after_last(class == Class::Type);
         let two_commas = self.rules.has(Change::TwoCommasAfterLast);
         for index in starts[class as usize]..self.found[class as usize].len() {
             let item = self.at(class, index);
-            self.add(list, start, link(item, None), TIGHTEST, End::Other);
+            self.add(list, start, link(item, None), of_items(item.traits.bare_struct));
         }
         for place in 0..self.ends[from][class as usize].len() {
             let cut = self.ends[from][class as usize][place];
@@ -468,22 +512,34 @@ impl Chart {
             };
             for index in self.of(class, from, cut) {
                 let item = self.at(class, index);
+                let bare_struct = item.traits.bare_struct;
                 if is_last {
-                    self.add(list, start, link(item, None), TIGHTEST, End::Other);
+                    self.add(list, start, link(item, None), of_items(bare_struct));
                 }
                 for index in self.of(list, cut + 1, to) {
                     let rest = self.at(list, index);
-                    self.add(list, start, link(item, Some(rest.tree)), TIGHTEST, End::Other);
+                    let traits = of_items(bare_struct || rest.traits.bare_struct);
+                    self.add(list, start, link(item, Some(rest.tree)), traits);
                 }
             }
         }
     }
 
-    /// All readings of the list.
-    fn trees(&self) -> Vec<u32> {
+    /// What the whole list can be in a context: in a condition no Struct stands bare.
+    fn whole(&self, context: u16) -> impl Iterator<Item = Found> + '_ {
+        let bars_structs = match context {
+            contexts::CONDITION => !self.rules.has(Change::StructInCondition),
+            _ => self.rules.has(Change::StructBarredInNone),
+        };
+        self.of(Class::Expression, 0, self.codes.len())
+            .map(|index| self.at(Class::Expression, index))
+            .filter(move |found| !(bars_structs && found.traits.bare_struct))
+    }
+
+    /// All readings of the list in a context.
+    fn trees(&self, context: u16) -> Vec<u32> {
         let mut trees: Vec<u32> = Vec::new();
-        for index in self.of(Class::Expression, 0, self.codes.len()) {
-            let tree = self.at(Class::Expression, index).tree;
+        for Found { tree, .. } in self.whole(context) {
             if !trees.iter().any(|&other| self.equal(other, tree)) {
                 trees.push(tree);
             }
@@ -491,15 +547,15 @@ impl Chart {
         trees
     }
 
-    /// All readings of the list as node tables, parents before operands and the
-    /// first operand's nodes before the second's.
-    pub fn readings(&self) -> Vec<Vec<u16>> {
-        self.trees().into_iter().map(|tree| self.table(tree)).collect()
+    /// All readings of the list in a context as node tables, parents before operands and
+    /// the first operand's nodes before the second's.
+    pub fn readings(&self, context: u16) -> Vec<Vec<u16>> {
+        self.trees(context).into_iter().map(|tree| self.table(tree)).collect()
     }
 
-    /// Whether there is no reading.
-    pub fn is_unread(&self) -> bool {
-        self.of(Class::Expression, 0, self.codes.len()).is_empty()
+    /// Whether there is no reading in a context.
+    pub fn is_unread(&self, context: u16) -> bool {
+        self.whole(context).next().is_none()
     }
 
     fn table(&self, root: u32) -> Vec<u16> {
@@ -530,22 +586,27 @@ mod tests {
     /// The forms of the only reading in the order of their numbers, none if there is
     /// no reading. `a` is a name, and words are parted by spaces.
     fn forms_of(text: &str) -> Option<Vec<u16>> {
+        forms_in(contexts::NONE, text)
+    }
+
+    fn forms_in(context: u16, text: &str) -> Option<Vec<u16>> {
         let codes: Vec<u16> = text.split_whitespace().map(code).collect();
-        let readings = readings(&tokens(&codes));
+        let readings = readings(context, &tokens(&codes));
         assert!(readings.len() < 2, "{text}");
         readings.first().map(|table| table.chunks(NODE_CELLS).map(|node| node[0]).collect())
     }
 
-    fn readings(tokens: &[Token]) -> Vec<Vec<u16>> {
+    fn readings(context: u16, tokens: &[Token]) -> Vec<Vec<u16>> {
         let mut chart = Chart::new(Rules::new(None));
         chart.read(tokens);
-        chart.readings()
+        chart.readings(context)
     }
 
     fn code(word: &str) -> u16 {
         match word {
             "a" => NAME,
             "0" => MEMBER,
+            "S" => STRUCT,
             _ => (0..).zip(SPELLED).find(|(_, spelled)| *spelled == word).expect("a token").0,
         }
     }
@@ -561,7 +622,7 @@ mod tests {
         for (token, symbol) in list.iter_mut().filter(|token| has_symbol(token.code)).zip(1..) {
             token.symbol = 7_000 * symbol;
         }
-        let readings = readings(&list);
+        let readings = readings(contexts::NONE, &list);
         let nodes: Vec<[u16; 2]> =
             readings[0].chunks(NODE_CELLS).map(|node| [node[0], node[5] / 7_000]).collect();
         let meant = [
@@ -616,6 +677,44 @@ mod tests {
     fn prefixes_hold_less_than_dots_and_more_than_casts() {
         assert_eq!(forms_of("- a . a"), Some(vec![UNARY, FIELD, PATH]));
         assert_eq!(forms_of("- a as a"), Some(vec![CAST, UNARY, PATH, forms::TYPE_PATH]));
+    }
+
+    #[test]
+    fn conditions_have_no_bare_struct() {
+        let parenthesised = [
+            "( S )",
+            "a == ( S )",
+            "a [ S ]",
+            "a ( S , - S )",
+            "a . a ( S )",
+            "( S == S ) . a",
+            "( S . a ) ( )",
+        ];
+        for text in parenthesised {
+            assert!(forms_of(text).is_some(), "{text}");
+            assert_eq!(forms_in(contexts::CONDITION, text), forms_of(text), "{text}");
+        }
+        let bare = [
+            "S",
+            "a == S",
+            "S == a",
+            "- S",
+            "S . a",
+            "S ( )",
+            "S . a ( )",
+            "S [ a ]",
+            "S ?",
+            "S as a",
+            "a = S",
+            "( a ) ( S ) + S",
+        ];
+        for text in bare {
+            assert!(forms_of(text).is_some(), "{text}");
+            assert_eq!(forms_in(contexts::CONDITION, text), None, "{text}");
+        }
+        assert_eq!(forms_of("S . a"), Some(vec![FIELD, forms::STRUCT]));
+        assert_eq!(forms_of("a as S"), None);
+        assert_eq!(forms_of("a . S"), None);
     }
 
     #[test]

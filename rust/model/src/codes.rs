@@ -37,6 +37,7 @@ codes! {
     UNDERSCORE 43,
     MEMBER 44,
     AWAIT 45,
+    STRUCT 46,
 }
 
 /// A token: its code, and the symbol that a name, a literal or a numbered member carries,
@@ -89,19 +90,21 @@ pub fn cells(tokens: &[Token]) -> Vec<u16> {
 pub const CODES: u16 = LAST_CODE + 1;
 
 /// How each code is spelled; a name, a literal and a numbered member are spelled by
-/// what their symbol stands for.
+/// what their symbol stands for, a struct by its name and braces.
 pub const SPELLED: [&str; CODES as usize] = [
     "+", "-", "*", "/", "%", "&&", "||", "^", "&", "|", "<<", ">>", "==", "<", "<=", "!=", ">=",
     ">", "+=", "-=", "*=", "/=", "%=", "^=", "&=", "|=", "<<=", ">>=", "=", "!", "&mut", "as",
     "NAME", "LITERAL", ".", "(", ")", "[", "]", ",", "?", "*const", "*mut", "_", "MEMBER", "await",
+    "STRUCT",
 ];
 
 /// A token list as Rust, its words parted by spaces: a name is `x` and its symbol, a
-/// literal and a numbered member are their symbol.
+/// literal and a numbered member are their symbol, a struct is `S { }`.
 pub fn text(tokens: &[Token]) -> String {
     let spelled = |&Token { code, symbol }: &Token| match code {
         NAME => format!("x{symbol}"),
         LITERAL | MEMBER => symbol.to_string(),
+        STRUCT => "S { }".to_string(),
         _ => SPELLED.get(usize::from(code)).copied().unwrap_or("#").to_string(),
     };
     tokens.iter().map(spelled).collect::<Vec<_>>().join(" ")

@@ -4,7 +4,7 @@
 //! Nothing here links the library or asks it anything, and nothing here comes from
 //! prettyplease's files.
 //!
-//! - [`sizes`], [`forms`], [`codes`] and [`precedence`] are tables; the crate
+//! - [`sizes`], [`contexts`], [`forms`], [`codes`] and [`precedence`] are tables; the crate
 //!   `tezhukor` takes them from here.
 //! - [`table`] and [`accept`] are node tables, tree files and their refusals.
 //! - [`rules`], [`chart`] and [`verdict`] are the plain grammar: all readings of a
@@ -17,6 +17,7 @@ pub mod accept;
 pub mod chart;
 pub mod codes;
 pub mod commas;
+pub mod contexts;
 pub mod forms;
 pub mod generate;
 pub mod lent;

@@ -2,7 +2,8 @@
 
 use crate::sizes::{NODE_CELLS, ROW_CELLS, TOKEN_CELLS};
 
-/// A record: how many cells or bytes are lent, what is read, and what must be answered.
+/// A record: how many cells or bytes are lent, what is read, and what must be answered. The
+/// context is that of a loaded file, or that in which a token list is read.
 pub struct Record {
     pub lent: usize,
     pub bytes: Vec<u8>,

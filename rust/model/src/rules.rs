@@ -1,5 +1,6 @@
 //! The levels of document 01's grammar and its special rules, with the comma after the
-//! last item that document 02's Paper 1 adds; each rule can be changed to see who notices.
+//! last item that document 02's Paper 1 adds and the Struct of its Paper 5; each rule can be
+//! changed to see who notices.
 
 use crate::codes::*;
 use crate::forms;
@@ -19,7 +20,7 @@ pub const SUM: Level = 8;
 pub const PRODUCT: Level = 9;
 pub const CAST: Level = 10;
 pub const PREFIX: Level = 11;
-/// The dot, call, index and `?` forms, names, literals and groups.
+/// The dot, call, index and `?` forms, names, literals, Structs and groups.
 pub const TIGHTEST: Level = 12;
 
 /// What stands between two operands: the node's form and detail, its level, and
@@ -77,6 +78,20 @@ pub enum Change {
     AndIsTwoReferences,
     /// Parentheses leave a node.
     GroupsLeaveNodes,
+    /// In a condition a Struct is read as elsewhere.
+    StructInCondition,
+    /// Outside of conditions a Struct is read as in one.
+    StructBarredInNone,
+    /// In a condition parentheses that group do not let a Struct be read.
+    StructBarredInGroup,
+    /// In a condition brackets do not.
+    StructBarredInIndex,
+    /// In a condition argument lists do not.
+    StructBarredInArguments,
+    /// In a condition a Struct is barred only where nothing follows it.
+    StructBarredAtEndOnly,
+    /// A Struct holds together like a prefix and its operand.
+    StructLikePrefix,
 }
 
 impl Change {
@@ -100,6 +115,13 @@ impl Change {
             Change::NoEmptyTypeArguments,
             Change::AndIsTwoReferences,
             Change::GroupsLeaveNodes,
+            Change::StructInCondition,
+            Change::StructBarredInNone,
+            Change::StructBarredInGroup,
+            Change::StructBarredInIndex,
+            Change::StructBarredInArguments,
+            Change::StructBarredAtEndOnly,
+            Change::StructLikePrefix,
         ];
         let tightened = (ASSIGNMENT..=PREFIX).map(Change::Tightened);
         let leaning = (ASSIGNMENT..=PRODUCT).map(Change::LeansOtherwise);

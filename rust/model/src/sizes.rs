@@ -31,7 +31,7 @@ pub const MOST_LEVELS: usize = 128;
 pub const MOST_FILE_BYTES: usize = 65_536;
 
 /// The largest code of a token.
-pub const LAST_CODE: u16 = 45;
+pub const LAST_CODE: u16 = 46;
 
 /// The last of the contexts that a header can name.
 pub const LAST_CONTEXT: u16 = 3;

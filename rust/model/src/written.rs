@@ -3,6 +3,7 @@
 
 use crate::accept;
 use crate::codes::{self, has_symbol, Token, *};
+use crate::contexts;
 use crate::forms::{self, *};
 use crate::sizes::{NODE_CELLS, TOKEN_CELLS_PER_NODE};
 use crate::table::{self, Node, NodeTable, FIRST};
@@ -84,6 +85,7 @@ fn signs(node: &Node) -> [Vec<u16>; 3] {
         (PATH, _) | (TYPE_PATH, 1) => [&[NAME], &[], &[]],
         (TYPE_PATH, 2) => [&[NAME, LESS], &[], &[GREATER]],
         (LIT, _) => [&[LITERAL], &[], &[]],
+        (forms::STRUCT, _) => [&[codes::STRUCT], &[], &[]],
         (PAREN, _) => [&[OPEN], &[CLOSE], &[]],
         (UNARY, 0) => [&[STAR], &[], &[]],
         (UNARY, 1) | (TYPE_NEVER, _) => [&[NOT], &[], &[]],
@@ -119,7 +121,7 @@ pub fn reply(
 ) -> Result<Vec<Token>, u16> {
     match accept::refusal(tree) {
         0 if lent < TOKEN_CELLS_PER_NODE * usize::from(tree.count) => Err(12),
-        0 if !is_plain(tree) || tree.context != 0 => Err(13),
+        0 if !is_plain(tree) || !contexts::PLAIN.contains(&tree.context) => Err(13),
         0 => Ok(Written::new(tree, &pairs(tree)).tokens),
         refusal => Err(refusal),
     }
@@ -129,7 +131,16 @@ pub fn reply(
 fn is_plain(tree: &NodeTable) -> bool {
     (1..=tree.count).map(|number| table::node(&tree.cells, number)).all(|node| {
         let form = match node.form {
-            PATH | LIT | PAREN | UNARY | REFERENCE | BINARY | ASSIGN | CAST | FIELD => true,
+            PATH
+            | LIT
+            | forms::STRUCT
+            | PAREN
+            | UNARY
+            | REFERENCE
+            | BINARY
+            | ASSIGN
+            | CAST
+            | FIELD => true,
             INDEX | CALL | METHOD_CALL | TRY | forms::AWAIT => true,
             TYPE_PATH => matches!(node.detail, 1 | 2),
             TYPE_PTR | TYPE_REFERENCE | TYPE_INFER | TYPE_NEVER | LINK => true,

@@ -46,6 +46,7 @@ extern "C" {
     ) -> u32;
 
     pub fn tezhukor_read(
+        context: u16,
         tokens: *const u16,
         tokens_length: usize,
         table: *mut u16,

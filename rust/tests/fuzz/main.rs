@@ -1,5 +1,5 @@
 //! Loading, deciding, writing and reading on random bytes, damaged files, damaged
-//! tables and token lists, with every buffer length around each boundary.
+//! tables and token lists in every context, with every buffer length around each boundary.
 //!
 //! Each reply and each lent cell is compared with what the library's definitions say,
 //! as they are stated a second time by `model` (tree files, refusals, tokens, and all
@@ -16,8 +16,9 @@ use model::lent::Lent;
 use model::rules::Rules;
 use model::sizes::*;
 use model::table::{self, NodeTable, DETAIL, FIRST, FORM, SECOND, SYMBOL};
+use model::verdict::{self, Verdict};
 use model::written::{self, last_links, without_parens, Written};
-use model::{accept, forms, verdict};
+use model::{accept, contexts, forms};
 use tezhukor::{boundary, Refusal, Tree};
 
 /// How many of each are made.
@@ -132,21 +133,30 @@ fn write(table: &NodeTable, length: usize, tally: &mut Tally) -> Option<Vec<Toke
     meant.ok()
 }
 
-/// Reads a token list with so many cells lent, when it must give that.
-fn read(tokens: &[Token], length: usize, verdict: &Result<Vec<u16>, u16>, tally: &mut Tally) {
-    read_cells(&codes::cells(tokens), length, verdict, tally);
+/// What is read: the context and the cells of tokens.
+struct Asked<'a> {
+    context: u16,
+    cells: &'a [u16],
+}
+
+/// Reads a token list in a context with so many cells lent, when it must give that.
+fn read(context: u16, tokens: &[Token], length: usize, verdict: &Verdict, tally: &mut Tally) {
+    let cells = &codes::cells(tokens);
+    read_cells(Asked { context, cells }, length, verdict, tally);
 }
 
 /// The same for any cells.
-fn read_cells(tokens: &[u16], length: usize, verdict: &Result<Vec<u16>, u16>, tally: &mut Tally) {
+fn read_cells(asked: Asked, length: usize, verdict: &Verdict, tally: &mut Tally) {
+    let Asked { context, cells: tokens } = asked;
     let mut lent = Lent::new(length);
-    let reply = boundary::read(tokens, lent.lend(length));
-    let meant = if length < MOST_CELLS { &Err(12) } else { verdict };
+    let reply = boundary::read(context, tokens, lent.lend(length));
+    let first = verdict::before_tokens(context, length).map(Err);
+    let meant = first.as_ref().unwrap_or(verdict);
     let number = match meant {
         Ok(cells) => (cells.len() / NODE_CELLS) as u32,
         Err(refusal) => REFUSAL_UNIT * u32::from(*refusal),
     };
-    assert_eq!(reply, number, "{tokens:?}");
+    assert_eq!(reply, number, "{context} {tokens:?}");
     holds(lent, meant.as_deref().unwrap_or(&[]));
     tally.count(meant.as_ref().err().copied().unwrap_or(0));
 }
@@ -351,14 +361,27 @@ fn every_length() {
 fn written_and_read() {
     let [mut writes, mut reads] = [(); 2].map(|()| Tally::default());
     for index in 0..times() {
-        let tree = Family::Plain.tree(7, index);
+        let tree = plain(7, index);
         let tokens = write(&tree, TOKEN_CELLS_PER_NODE * usize::from(tree.count), &mut writes)
             .expect("plain");
         let bare = without_parens(&tree);
-        read(&tokens, MOST_CELLS, &Ok(bare), &mut reads);
+        read(tree.context, &tokens, MOST_CELLS, &Ok(bare), &mut reads);
     }
     writes.print("plain trees written");
     reads.print("their tokens read");
+}
+
+/// A plain tree, every second one with Structs, half of these in a condition.
+fn plain(seed: u64, index: u64) -> NodeTable {
+    [Family::Plain, Family::Structs][index as usize % 2].tree(seed, index / 2)
+}
+
+/// One of the contexts in which lists are read, seldom another number.
+fn any_context(dice: &mut Dice) -> u16 {
+    match dice.percent(6) {
+        true => dice.pick(&[contexts::STATEMENT, contexts::MATCH_ARM, LAST_CONTEXT + 1, 65_535]),
+        false => dice.pick(&contexts::PLAIN),
+    }
 }
 
 /// A token list: written for a plain tree and edited, or any codes; with symbols, now and
@@ -379,14 +402,15 @@ fn shape(dice: &mut Dice, index: u64) -> Vec<Token> {
             .map(|_| Token::from(dice.below(usize::from(codes::CODES) + 1) as u16))
             .collect();
     }
-    let tree = Family::Plain.tree(8, index);
+    let tree = plain(8, index);
     let mut tokens = match tree.count {
         0..=12 => Written::new(&tree, &pairs(&tree)).tokens,
         _ => codes::tokens(&[32, 31, 32, 13, 32, 17, 13, 32]),
     };
     for _ in 0..dice.below(4) {
         let at = dice.below(tokens.len() + 1);
-        let code = dice.pick(&[1, 2, 5, 8, 10, 13, 17, 28, 31, 32, 33, 34, 35, 36, 39, 44, 45, 46]);
+        let code = dice
+            .pick(&[1, 2, 5, 8, 10, 13, 17, 28, 31, 32, 33, 34, 35, 36, 39, 44, 45, 46, 46, 47]);
         match dice.below(3) {
             0 => tokens.insert(at, code.into()),
             1 if at < tokens.len() => drop(tokens.remove(at)),
@@ -404,11 +428,14 @@ fn token_lists() {
     for index in 0..times() {
         let dice = &mut Dice::new(9, index);
         let tokens = list(dice, index);
-        let verdict = verdict::of(&mut chart, &tokens).expect("at most one reading");
+        let context = any_context(dice);
+        let verdict = verdict::of(&mut chart, context, &tokens).expect("at most one reading");
         let length = dice.pick(&[MOST_CELLS, MOST_CELLS, MOST_CELLS + 1, MOST_CELLS - 1, 0]);
-        read(&tokens, length, &verdict, &mut tally);
-        let file = tezhukor::tree_file(&tokens).map_err(Refusal::number);
-        assert_eq!(file.map(|file| Tree::load(&file).expect("a tree").cells().to_vec()), verdict);
+        read(context, &tokens, length, &verdict, &mut tally);
+        let file = tezhukor::tree_file(context, &tokens).map_err(Refusal::number);
+        let tree = file.map(|file| Tree::load(&file).expect("a tree"));
+        assert!(tree.as_ref().is_ok_and(|tree| tree.context() == context) || tree.is_err());
+        assert_eq!(tree.map(|tree| tree.cells().to_vec()), verdict);
     }
     tally.print("token lists read");
 }
@@ -421,7 +448,8 @@ fn token_cells() {
     for index in 0..times() {
         let dice = &mut Dice::new(33, index);
         let mut cells = codes::cells(&list(dice, index));
-        let any = dice.pick(&[0, 1, 32, 33, 44, 45, 46, 127, 128, 16_383, 16_384, 65_535]);
+        let any = dice.pick(&[0, 1, 32, 33, 44, 45, 46, 47, 127, 128, 16_383, 16_384, 65_535]);
+        let context = any_context(dice);
         match dice.below(4) {
             0 => cells.truncate(dice.below(cells.len() + 1)),
             1 => cells.insert(dice.below(cells.len() + 1), any),
@@ -431,20 +459,22 @@ fn token_cells() {
             }
             _ => {}
         }
-        let verdict = verdict::of_cells(&mut chart, &cells).expect("at most one reading");
+        let verdict = verdict::of_cells(&mut chart, context, &cells).expect("at most one reading");
         let length = dice.pick(&[MOST_CELLS, MOST_CELLS, MOST_CELLS + 1, MOST_CELLS - 1]);
-        read_cells(&cells, length, &verdict, &mut tally);
+        read_cells(Asked { context, cells: &cells }, length, &verdict, &mut tally);
     }
     // Every symbol at every code, alone and as one operand of a sum.
     for code in 0..=codes::CODES {
         for symbol in generate::SYMBOLS {
             let token = Token::new(code, symbol);
             for list in [vec![token], vec![token, MINUS.into(), Token::new(NAME, 9)]] {
-                let verdict = verdict::of(&mut chart, &list).expect("at most one reading");
-                read(&list, MOST_CELLS, &verdict, &mut tally);
-                // Half a token more.
-                let odd = [&codes::cells(&list)[..], &[NAME]].concat();
-                read_cells(&odd, MOST_CELLS, &Err(14), &mut tally);
+                for context in 0..=LAST_CONTEXT + 1 {
+                    let verdict = verdict::of(&mut chart, context, &list);
+                    read(context, &list, MOST_CELLS, &verdict.expect("one reading"), &mut tally);
+                    // Half a token more.
+                    let odd = &[&codes::cells(&list)[..], &[NAME]].concat();
+                    read_cells(Asked { context, cells: odd }, MOST_CELLS, &Err(14), &mut tally);
+                }
             }
         }
     }
@@ -459,16 +489,17 @@ fn commas_put_in() {
     let mut chart = Chart::new(Rules::new(None));
     for index in 0..times() {
         let dice = &mut Dice::new(10, index);
-        let tree = Family::Plain.tree(11, index);
+        let tree = plain(11, index);
         let chosen: Vec<u16> = last_links(&tree).into_iter().filter(|_| dice.percent(70)).collect();
         let tokens = Written::with_commas(&tree, &pairs(&tree), &chosen).tokens;
         let bare = without_parens(&tree);
         let verdict = if tokens.len() > MOST_TOKENS { Err(14) } else { Ok(bare) };
-        read(&tokens, MOST_CELLS, &verdict, &mut trees);
+        read(tree.context, &tokens, MOST_CELLS, &verdict, &mut trees);
         let mut tokens = list(dice, index);
         commas::put_in(dice, &mut tokens);
-        let verdict = verdict::of(&mut chart, &tokens).expect("at most one reading");
-        read(&tokens, MOST_CELLS, &verdict, &mut lists);
+        let context = any_context(dice);
+        let verdict = verdict::of(&mut chart, context, &tokens).expect("at most one reading");
+        read(context, &tokens, MOST_CELLS, &verdict, &mut lists);
     }
     trees.print("plain trees with commas read");
     lists.print("token lists with commas put in read");
@@ -490,7 +521,11 @@ fn longest_lists() {
             let call = [vec![NAME, OPEN, NAME], vec![COMMA; commas], vec![CLOSE]].concat();
             [vec![MINUS; length - call.len()], call].concat()
         };
-        let lists: [(Vec<u16>, Result<Vec<u16>, u16>); 9] = [
+        // A Struct in as many parentheses as the name.
+        let structs = grouped.iter().map(|&code| if code == NAME { codes::STRUCT } else { code });
+        let structs_verdict = grouped_verdict.clone().map(|_| vec![forms::STRUCT, 0, 0, 0, 0, 0]);
+        let lists: [(Vec<u16>, Verdict); 10] = [
+            (structs.collect(), structs_verdict),
             (grouped, grouped_verdict),
             (vec![OPEN; length], long(Err(15))),
             (repeated(&[MINUS]), long(Err(15))),
@@ -503,11 +538,14 @@ fn longest_lists() {
         ];
         for (list, verdict) in &lists {
             let list = codes::tokens(list);
-            for cells in [MOST_CELLS - 1, MOST_CELLS, MOST_CELLS + 1] {
-                read(&list, cells, verdict, &mut tally);
+            let odd = &[&codes::cells(&list)[..], &[NAME]].concat();
+            for context in contexts::PLAIN {
+                for cells in [MOST_CELLS - 1, MOST_CELLS, MOST_CELLS + 1] {
+                    read(context, &list, cells, verdict, &mut tally);
+                }
+                read_cells(Asked { context, cells: odd }, MOST_CELLS, &Err(14), &mut tally);
             }
-            let odd = [&codes::cells(&list)[..], &[NAME]].concat();
-            read_cells(&odd, MOST_CELLS, &Err(14), &mut tally);
+            read(contexts::STATEMENT, &list, MOST_CELLS - 1, verdict, &mut tally);
         }
     }
     tally.print("longest lists read");

@@ -18,7 +18,7 @@ const USAGE: &str = "usage:
                                  each in the four contexts
   oracle digest [quick|thorough] digests of the answers for many trees
 A record is a length, four bytes with the lowest first, and so many bytes of a tree file.
-Families: mixed (all others in turn), random, scans, spines, plain.
+Families: mixed (random, scans, spines and plain in turn), random, scans, spines, plain, structs.
 Sets: every, representative, narrow.";
 
 fn main() -> ExitCode {

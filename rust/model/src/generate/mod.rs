@@ -26,6 +26,7 @@ pub use spines::{spine, ENDS, NEXTS};
 pub use stem::{call_of, planted, Fill, Stem};
 
 use crate::codes::{self, Token};
+use crate::contexts;
 use crate::forms::has_symbol;
 use crate::sizes::{MOST_SYMBOL, NODE_CELLS};
 use crate::table::{NodeTable, DETAIL, FORM, SYMBOL};
@@ -39,15 +40,23 @@ pub enum Family {
     Scans,
     /// Right spines over all ends below all next operators.
     Spines,
-    /// Plain trees in context 0.
+    /// Plain trees without Structs in context 0.
     Plain,
     /// The four above in turn.
     Mixed,
+    /// Plain trees with Structs, in the contexts in which such are written.
+    Structs,
 }
 
 impl Family {
-    pub const ALL: [Family; 5] =
-        [Family::Mixed, Family::Random, Family::Scans, Family::Spines, Family::Plain];
+    pub const ALL: [Family; 6] = [
+        Family::Mixed,
+        Family::Random,
+        Family::Scans,
+        Family::Spines,
+        Family::Plain,
+        Family::Structs,
+    ];
 
     /// The name on the command line.
     pub fn name(self) -> &'static str {
@@ -57,6 +66,7 @@ impl Family {
             Family::Spines => "spines",
             Family::Plain => "plain",
             Family::Mixed => "mixed",
+            Family::Structs => "structs",
         }
     }
 
@@ -81,6 +91,7 @@ impl Family {
             Family::Random => (random(dice, Profile::All), dice.below(4)),
             Family::Scans => (random(dice, Profile::Scans), dice.below(4)),
             Family::Plain => (random(dice, Profile::Plain), 0),
+            Family::Structs => (random(dice, Profile::Structs), dice.pick(&contexts::PLAIN).into()),
             Family::Spines => return spine(dice, index),
             Family::Mixed => {
                 const PARTS: [Family; 4] =

@@ -13,8 +13,10 @@ pub enum Profile {
     All,
     /// Mostly forms that scan_right has arms for, few attributes.
     Scans,
-    /// The forms of plain trees.
+    /// The forms of plain trees but Struct.
     Plain,
+    /// The forms of plain trees, many Structs among them.
+    Structs,
 }
 
 const ALL_INNER: [u16; 20] = [
@@ -102,6 +104,7 @@ const PLAIN_INNER: [u16; 14] = [
     AWAIT,
 ];
 const PLAIN_LEAVES: [u16; 2] = [PATH, LIT];
+const STRUCTS_LEAVES: [u16; 3] = [PATH, LIT, STRUCT];
 const TYPES_INNER: [u16; 6] =
     [TYPE_PTR, TYPE_REFERENCE, TYPE_FN_PTR, TYPE_PATH, TYPE_IMPL_TRAIT, TYPE_TRAIT_OBJECT];
 const TYPES_LEAVES: [u16; 15] = [
@@ -256,14 +259,14 @@ impl<'a> Growth<'a> {
     /// A label that has places for operands.
     fn inner(&mut self, class: Class) -> Label {
         let form = match (class, self.profile) {
-            (Class::Type, Profile::Plain) => self.dice.pick(&PLAIN_TYPES_INNER),
+            (Class::Type, Profile::Plain | Profile::Structs) => self.dice.pick(&PLAIN_TYPES_INNER),
             (Class::Type, _) => self.dice.pick(&TYPES_INNER),
             (_, Profile::All) => self.dice.pick(&ALL_INNER),
             (_, Profile::Scans) => self.dice.pick(&SCANS_INNER),
-            (_, Profile::Plain) => self.dice.pick(&PLAIN_INNER),
+            (_, Profile::Plain | Profile::Structs) => self.dice.pick(&PLAIN_INNER),
         };
         let detail = match (form, self.profile) {
-            (TYPE_PATH, Profile::Plain) => 2,
+            (TYPE_PATH, Profile::Plain | Profile::Structs) => 2,
             (TYPE_PATH, _) => self.dice.pick(&[2, 3, 3]),
             (TYPE_IMPL_TRAIT | TYPE_TRAIT_OBJECT, _) => 3,
             _ => self.detail(form),
@@ -274,14 +277,15 @@ impl<'a> Growth<'a> {
     /// A label that needs no operands.
     fn leaf(&mut self, class: Class) -> Label {
         let form = match (class, self.profile) {
-            (Class::Type, Profile::Plain) => self.dice.pick(&PLAIN_TYPES_LEAVES),
+            (Class::Type, Profile::Plain | Profile::Structs) => self.dice.pick(&PLAIN_TYPES_LEAVES),
             (Class::Type, _) => self.dice.pick(&TYPES_LEAVES),
             (_, Profile::All) => self.dice.pick(&ALL_LEAVES),
             (_, Profile::Scans) => self.dice.pick(&SCANS_LEAVES),
             (_, Profile::Plain) => self.dice.pick(&PLAIN_LEAVES),
+            (_, Profile::Structs) => self.dice.pick(&STRUCTS_LEAVES),
         };
         let detail = match (form, self.profile) {
-            (TYPE_PATH, Profile::Plain) => 1,
+            (TYPE_PATH, Profile::Plain | Profile::Structs) => 1,
             (TYPE_PATH, Profile::Scans) => self.dice.pick(&[1, 1, 2, 3]),
             (TYPE_PATH | TYPE_IMPL_TRAIT | TYPE_TRAIT_OBJECT, _) => {
                 1 + self.dice.below(forms::details(form) as usize - 1) as u16
@@ -299,7 +303,7 @@ impl<'a> Growth<'a> {
         let some = match self.profile {
             Profile::All => 30,
             Profile::Scans => 6,
-            Profile::Plain => 0,
+            Profile::Plain | Profile::Structs => 0,
         };
         let attributes = match self.dice.percent(some) {
             true => self.dice.below(forms::attributes(form) as usize) as u16,
