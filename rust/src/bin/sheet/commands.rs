@@ -8,7 +8,7 @@ use std::ffi::{OsStr, OsString};
 use std::fmt::Write;
 use std::io::{IsTerminal, Read};
 use tezhukor::sizes::MOST_FILE_BYTES;
-use tezhukor::{codes, forms, Refusal, Token, Tree};
+use tezhukor::{codes, contexts, forms, Refusal, Token, Tree};
 
 /// One byte more than a tree file may have shows that it is too long.
 const FILE_BYTES: u64 = MOST_FILE_BYTES as u64 + 1;
@@ -21,10 +21,11 @@ pub fn run(arguments: &[OsString]) -> Result<Answer, Answer> {
     let Some((command, rest)) = arguments.split_first() else {
         return Err(Answer::usage());
     };
+    if command == "read" {
+        return read_by(rest);
+    }
     let (names, rest) = names_option(rest)?;
     match (command.to_str(), rest, names) {
-        (Some("read"), [], names) => read(&text_from(std::io::stdin())?, names),
-        (Some("read"), [text], names) => read(&utf8(text.as_encoded_bytes())?, names),
         (Some("show"), [file], names) => show(file, names),
         (Some("why"), [file], names) => why(file, names),
         (Some("rows"), [file], None) => rows(file),
@@ -47,14 +48,37 @@ fn names_option(arguments: &[OsString]) -> Result<(Option<&OsStr>, &[OsString]),
     }
 }
 
-fn read(text: &str, names: Option<&OsStr>) -> Result<Answer, Answer> {
+/// Reads with the options of `read`, which stand in any order: `--condition`, `--names OUT`.
+fn read_by(arguments: &[OsString]) -> Result<Answer, Answer> {
+    let (mut context, mut names, mut rest) = (contexts::NONE, None, arguments);
+    loop {
+        rest = match (rest, names) {
+            ([option, others @ ..], _) if option == "--condition" && context == contexts::NONE => {
+                context = contexts::CONDITION;
+                others
+            }
+            ([option, ..], None) if option == "--names" => {
+                let (file, others) = names_option(rest)?;
+                names = file;
+                others
+            }
+            ([], names) => return read(context, &text_from(std::io::stdin())?, names),
+            ([text], names) if text != "--condition" && text != "--names" => {
+                return read(context, &utf8(text.as_encoded_bytes())?, names);
+            }
+            _ => return Err(Answer::usage()),
+        };
+    }
+}
+
+fn read(context: u16, text: &str, names: Option<&OsStr>) -> Result<Answer, Answer> {
     let at = |at, message: &str| Answer::refused(locate::pointed(text, at, message));
     let tokens = lexer::tokens(text).map_err(|error| at(error.at, &error.message))?;
     let (named, table) = lexer::named(text, &tokens);
-    let tree = Tree::read(&named).map_err(|refusal| match refusal {
+    let tree = Tree::read(context, &named).map_err(|refusal| match refusal {
         Refusal::NoReading => {
             let codes: Vec<u16> = tokens.iter().map(|token| token.code).collect();
-            let place = locate::unread(&codes);
+            let place = locate::unread(context, &codes);
             at(
                 tokens.get(place.token).map_or(text.trim_end().len(), |token| token.at),
                 &place.message,

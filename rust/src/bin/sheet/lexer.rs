@@ -114,7 +114,7 @@ impl<'a> Lexer<'a> {
         self.error("this quote is not closed")
     }
 
-    /// A name, a word that is a token of its own, or a path.
+    /// A name, a word that is a token of its own, a path, or a struct.
     fn word(&mut self) -> Result<(), Error> {
         let rest = self.rest();
         let length = length_of(rest, is_word);
@@ -128,7 +128,28 @@ impl<'a> Lexer<'a> {
                     .error(format!("`{word}` is no name, and no plain form begins with it"));
             }
             (_, Next::Member) => self.put(NAME, length),
+            (_, Next::Operand) => return self.path_or_struct(path_length(rest)),
             _ => self.put(NAME, path_length(rest)),
+        }
+        Ok(())
+    }
+
+    /// A path of so many bytes where an operand may stand, or with braces behind it a
+    /// struct. What stands in these would be a tree of its own, so it is `..` or nothing.
+    fn path_or_struct(&mut self, path: usize) -> Result<(), Error> {
+        let rest = self.rest();
+        let Some(inside) = rest[path..].trim_start().strip_prefix('{') else {
+            self.put(NAME, path);
+            return Ok(());
+        };
+        let inside = inside.trim_start();
+        let behind = inside.strip_prefix("..").unwrap_or(inside).trim_start().strip_prefix('}');
+        match behind {
+            Some(behind) => self.put(STRUCT, rest.len() - behind.len()),
+            None => {
+                self.at = self.text.len() - inside.len();
+                return self.error("the braces of a struct hold `..` or nothing here");
+            }
         }
         Ok(())
     }
@@ -254,6 +275,24 @@ mod tests {
         assert_eq!(codes("a as &T >> b"), [32, 31, 8, 32, 11, 32]);
         assert_eq!(codes("a as A<B<C,>,>"), [32, 31, 32, 13, 32, 13, 32, 39, 17, 39, 17]);
         assert_eq!(codes("f(a,)&&b"), [32, 35, 32, 39, 36, 5, 32]);
+    }
+
+    #[test]
+    fn structs() {
+        for text in ["Limit { .. }", "Limit {}", "Limit { }", "a::Limit{..}", "Limit\n{\n..\n}"] {
+            assert_eq!(codes(text), [STRUCT], "{text}");
+            assert_eq!(tokens(text).expect("a token")[0].end, text.len());
+        }
+        assert_eq!(codes("x == (Limit { .. }).f"), [32, 12, 35, 46, 36, 34, 32]);
+        assert_eq!(codes("-a{}[b{},]"), [1, 46, 37, 46, 39, 38]);
+        // Behind an operand, a type or a dot no struct can stand, nor without a name.
+        for text in ["x as T {}", "a.f {}", "f() {}", "{}", "1 {}", "a b {}"] {
+            assert!(tokens(text).is_err(), "{text}");
+        }
+        // What else stands in the braces is told at its place.
+        for (text, at) in [("S { a }", 4), ("S { .. a }", 4), ("S {", 3), ("S { a: 1, .. }", 4)] {
+            assert_eq!(tokens(text).expect_err("no tokens").at, at, "{text}");
+        }
     }
 
     #[test]

@@ -1,8 +1,8 @@
 //! Where a text is wrong.
 
 use crate::open::{Next, Open};
-use tezhukor::codes::{tokens, AND_AND, COMMA, EQUALS, NAME};
-use tezhukor::{Binding, Lean, Refusal, Tree};
+use tezhukor::codes::{tokens, AND_AND, COMMA, EQUALS, NAME, STRUCT};
+use tezhukor::{contexts, Binding, Lean, Refusal, Tree};
 
 /// The token from which on there is no reading; behind the last one the text ends
 /// too early.
@@ -13,12 +13,16 @@ pub struct Unread {
 
 /// Where a list without a reading goes wrong: at the first token such that no list
 /// that begins like this one up to it has a reading.
-pub fn unread(codes: &[u16]) -> Unread {
+pub fn unread(context: u16, codes: &[u16]) -> Unread {
     let lengths: Vec<usize> = (1..=codes.len()).collect();
-    let token = lengths.partition_point(|&length| begins_a_reading(&codes[..length]));
+    let token = lengths.partition_point(|&length| begins_a_reading(context, &codes[..length]));
     let message = match token == codes.len() {
         true => ends_early(codes),
-        false if chains(codes, token) => {
+        false if is_bare_struct(context, codes, token) => {
+            "refused (15): in a condition a struct needs parentheses, since its brace would open \
+             the block"
+        }
+        false if chains(context, codes, token) => {
             "refused (15): comparisons do not chain, so one of them needs parentheses"
         }
         false => "refused (15): nothing that begins like this has a reading, from here on",
@@ -28,22 +32,29 @@ pub fn unread(codes: &[u16]) -> Unread {
 
 /// Whether some list that begins like this has a reading: what is open is closed,
 /// perhaps behind one more name.
-fn begins_a_reading(codes: &[u16]) -> bool {
+fn begins_a_reading(context: u16, codes: &[u16]) -> bool {
     let closing: Vec<u16> = Open::behind(codes).closing.into_iter().rev().collect();
     [&[][..], &[NAME]].iter().any(|name| {
         let list = [codes, name, &closing[..]].concat();
-        Tree::read(&tokens(&list)) != Err(Refusal::NoReading)
+        Tree::read(context, &tokens(&list)) != Err(Refusal::NoReading)
     })
 }
 
 /// Whether the token is a comparison where an operator may stand that leans to a side: it
 /// is another comparison that keeps it from there.
-fn chains(codes: &[u16], token: usize) -> bool {
+fn chains(context: u16, codes: &[u16], token: usize) -> bool {
     let is_comparison = |code| {
         code < EQUALS && Binding::of(code).is_some_and(|binding| binding.lean == Lean::Neither)
     };
     let with_and = [&codes[..token], &[AND_AND]].concat();
-    is_comparison(codes[token]) && begins_a_reading(&with_and)
+    is_comparison(codes[token]) && begins_a_reading(context, &with_and)
+}
+
+/// Whether the token is a struct that only the condition keeps from there.
+fn is_bare_struct(context: u16, codes: &[u16], token: usize) -> bool {
+    context == contexts::CONDITION
+        && codes[token] == STRUCT
+        && begins_a_reading(contexts::NONE, &codes[..=token])
 }
 
 fn ends_early(codes: &[u16]) -> &'static str {

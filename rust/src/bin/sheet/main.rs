@@ -18,8 +18,10 @@ use std::process::ExitCode;
 const USAGE: &str = "\
 sheet: where a printed Rust expression needs parentheses
 
-  sheet read [--names OUT] [TEXT]    an expression as text to a tree file on standard
-                                     output; TEXT, or standard input without it
+  sheet read [--condition] [--names OUT] [TEXT]
+                                     an expression as text to a tree file on standard
+                                     output; TEXT, or standard input without it; with
+                                     --condition the condition of an `if` or a `while`
   sheet show [--names NAMES] FILE    the tree as text, with the pairs that it needs
   sheet why [--names NAMES] FILE     a line for each added pair: who asks for it
   sheet rows FILE                    the row of each expression: node, pair,
@@ -38,7 +40,8 @@ FILE is a tree file; - is standard input. Tree files hold a symbol, a number, fo
 each name and literal, equal ones for equal names. A names file is the table of
 symbols, line n for symbol n: `read --names OUT` writes it to OUT, and `--names NAMES`
 takes names from such a file. Without a line names are called a, b, c .. (types
-A, B, C ..), literals 1, members 0; closed forms have `..` inside.
+A, B, C ..), literals 1, members 0; closed forms have `..` inside, and a struct,
+read as `Name { .. }` or `Name {}`, keeps no name.
 The first example:
 
   sheet read 'offset - (station - start)' > curve.tree

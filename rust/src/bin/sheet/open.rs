@@ -61,7 +61,7 @@ impl Open {
             (COMMA, _) if self.in_type_arguments() => Next::Type,
             (AS, _) => Next::Type,
             (DOT, _) => Next::Member,
-            (NAME | LITERAL | MEMBER | AWAIT | QUESTION | UNDERSCORE, _) => Next::Behind,
+            (NAME | LITERAL | STRUCT | MEMBER | AWAIT | QUESTION | UNDERSCORE, _) => Next::Behind,
             _ => Next::Operand,
         };
     }

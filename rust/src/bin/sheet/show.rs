@@ -276,11 +276,12 @@ mod tests {
     use model::recorded::records;
     use model::{table, NodeTable};
     use tezhukor::codes::{tokens, CLOSE, MINUS, NAME, OPEN};
+    use tezhukor::contexts;
 
     #[test]
     fn added_pairs_are_coloured() {
         let list = tokens(&[NAME, MINUS, OPEN, NAME, MINUS, NAME, CLOSE]);
-        let tree = Tree::read(&list).expect("a tree");
+        let tree = Tree::read(contexts::NONE, &list).expect("a tree");
         let text = shown(&tree, Names::default()).text(true);
         assert_eq!(text, "a - \x1b[1;33m(\x1b[0mb - c\x1b[1;33m)\x1b[0m");
     }

@@ -38,7 +38,7 @@ const PARTS: [Part; 7] = [
     Part {
         flags: 1 << 4,
         is_about: |form| form == STRUCT,
-        says: "part 4, a struct in a condition, whose brace would open the body",
+        says: "part 4, a struct in a condition, where its brace would open the block",
     },
     Part {
         flags: 1 << 5,
