@@ -100,6 +100,8 @@ fn shown_as_read() {
         "std::f64::PI * 2.0 - \"a\".len()",
         "a.await?.b",
         "&mut *x += y << 2",
+        "S { .. } == -S { .. }.f(S { .. })?",
+        "(S { .. } - x).f",
     ] {
         let output = sheet(&["read", "--names", names.name(), text], b"");
         assert_eq!(output.status.code(), Some(0), "{text}");
@@ -198,9 +200,61 @@ fn reasons() {
         "node 1 `(a + b)`, the root: an inner pair; Binary `+` has one whenever it has \
          attributes, also inner ones\n"
     );
-    // A struct in a condition.
-    let condition = [3, 3, 5, 0, 12, 2, 3, 0, 26, 0, 0, 0, 0, 0, 32, 0, 0, 0, 0, 0];
-    assert!(printed(&["why", "-"], &condition, 0).contains("part 4"));
+}
+
+/// A struct in a condition is read with its pair, shown and explained with it, and refused
+/// without.
+#[test]
+fn conditions() {
+    let names = Scratch::new("conditions");
+    let condition = |text: &str| {
+        let output = sheet(&["read", "--condition", "--names", names.name(), text], b"");
+        assert_eq!(output.status.code(), Some(0), "{text}");
+        output.stdout
+    };
+    let shown = |file: &[u8]| printed(&["show", "--names", names.name(), "-"], file, 0);
+    let file = condition("reading == (Limit { .. })");
+    assert_eq!(file, [3, 3, 5, 0, 12, 2, 3, 0, 26, 0, 0, 0, 0, 1, 32, 0, 0, 0, 0, 0]);
+    assert_eq!(shown(&file), "reading == (S { .. })\n");
+    assert_eq!(
+        printed(&["why", "--names", names.name(), "-"], &file, 0),
+        "node 3 `S { .. }`, right operand of node 1, Binary `==`: precedence Unambiguous (15), \
+         the owner's Compare (6); parenthesize asks for it: part 4, a struct in a condition, \
+         where its brace would open the block\n"
+    );
+    assert_eq!(printed(&["check", "-"], &file, 0), "accepted: 3 nodes, context 3, plain\n");
+    let tokens = "ok 5\n32 12 35 46 36\n1 0 0 0 0\nNAME == ( STRUCT )\n";
+    assert_eq!(printed(&["tokens", "-"], &file, 0), tokens);
+    // The options in the other order, and the text on standard input.
+    let arguments = ["read", "--names", names.name(), "--condition"];
+    assert_eq!(sheet(&arguments, b"reading == (Limit {})\n").stdout, file);
+    // Outside of a condition the same has no pair.
+    let file = tree_of("reading == (Limit { .. })");
+    assert_eq!(printed(&["show", "-"], &file, 0), "a == S { .. }\n");
+    assert_eq!(printed(&["why", "-"], &file, 0), "no pair was added\n");
+    assert_eq!(file, tree_of("reading == Limit {}"));
+    // In parentheses, brackets and argument lists a struct needs no pair of its own.
+    for text in [
+        "f(S { .. }, -S { .. }) && a[S { .. }]",
+        "a.f(S { .. }.g, S { .. } == S { .. })",
+        "(S { .. }.f)()",
+        "-(S { .. }) == (S { .. }).f?",
+        "a = (S { .. }) as T + (S { .. })()",
+        "(S { .. })",
+        "a as T <= b",
+    ] {
+        assert_eq!(shown(&condition(text)).trim_end(), text);
+    }
+    for (text, column) in [("x == Limit { .. }", 6), ("S {}", 1), ("f(S {}) + -S {}.f", 12)] {
+        let message = printed(&["read", "--condition", text], b"", 1);
+        let meant = "sheet: refused (15): in a condition a struct needs parentheses, since its \
+                     brace would open the block";
+        assert!(message.starts_with(&format!("{meant} (line 1, column {column})")), "{message}");
+    }
+    for text in ["x S {}", "(S {}", "(S {}) S {}", "x == (S {}) <", "x as T < (S {})"] {
+        let message = printed(&["read", "--condition", text], b"", 1);
+        assert!(!message.contains("condition"), "{message}");
+    }
 }
 
 /// Where the lean of an operator asks for a pair, it is said.
@@ -262,6 +316,9 @@ fn errors_point() {
         ("a[b,]", "     ^"),
         ("x as T<,>", "         ^"),
         ("f(a),", "      ^"),
+        ("S { a }", "      ^"),
+        ("x as T {}", "         ^"),
+        ("S {} S {}", "         ^"),
     ] {
         let message = printed(&["read", text], b"", 1);
         let last = message.lines().last().unwrap_or_default();
@@ -363,6 +420,11 @@ fn usage() {
         &["--names"],
         &["show", "--names"],
         &["rows", "--names", "a", "b"],
+        &["read", "--condition", "--condition", "a"],
+        &["read", "--names", "a", "--names", "b", "c"],
+        &["read", "--condition", "a", "b"],
+        &["read", "a", "--condition"],
+        &["show", "--condition", "a"],
     ] {
         assert_eq!(printed(arguments, b"", 2), usage);
     }
@@ -376,7 +438,7 @@ fn next(state: &mut u64) -> usize {
     (*state >> 33) as usize
 }
 
-const OPERANDS: [&str; 14] = [
+const OPERANDS: [&str; 16] = [
     "a",
     "-b",
     "f(x)",
@@ -391,12 +453,14 @@ const OPERANDS: [&str; 14] = [
     "x as T<A,>",
     "v[i]?",
     "x.await",
+    "S {}",
+    "(S { .. })",
 ];
 
-const PIECES: [&str; 40] = [
+const PIECES: [&str; 44] = [
     "a", "+", "f", "T", "1", "0", "1.5", "2e-", "'x'", "\"s", "_", "as", "await", ".", ".0", "(",
     ")", "[", "]", "<", ">", ">>", "<<", "&&", "&mut", "&", "*", "*const", "-", "!", "!=", "=",
-    "==", "+=", ",", "?", "::", "é", "\u{0}", "\n",
+    "==", "+=", ",", "?", "::", "é", "\u{0}", "\n", "S {}", "{", "}", "{ .. }",
 ];
 
 /// A text: operands and operators in turn, or any pieces.
@@ -418,7 +482,8 @@ fn no_input_breaks_it() {
     let mut file = tree_of("offset - (station - start)");
     for index in 0..times.unwrap_or(2_000u64) / 10 {
         let text = text(&mut state, index);
-        let read = sheet(&["read"], text.as_bytes());
+        let options = [&["read"][..], &["read", "--condition"]][index as usize / 2 % 2];
+        let read = sheet(options, text.as_bytes());
         if read.status.code() == Some(0) {
             file = read.stdout.clone();
         }
