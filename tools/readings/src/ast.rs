@@ -1,5 +1,6 @@
 //! The trees that rustc prints with `-Zunpretty=ast-tree`.
 
+use model::contexts::CONDITION;
 use model::forms::*;
 use model::sizes::NODE_CELLS;
 use model::table::FIRST;
@@ -62,17 +63,18 @@ fn parsed(text: &str) -> Value<'_> {
     open.pop().expect("the outermost value")
 }
 
-/// The table of each `let`'s expression without parentheses, parents before
-/// operands, or what is not plain in it.
-pub fn tables(text: &str) -> Vec<Result<Vec<u16>, String>> {
+/// The table of each `let`'s expression, or of each `if`'s condition, without parentheses,
+/// parents before operands, or what is not plain in it.
+pub fn tables(text: &str, context: u16) -> Vec<Result<Vec<u16>, String>> {
     let crate_ = parsed(text);
-    let mut lets = Vec::new();
-    crate_.find("Local", &mut lets);
-    let table = |local: &&Value| {
+    let mut found = Vec::new();
+    crate_.find(if context == CONDITION { "If" } else { "Local" }, &mut found);
+    let table = |value: &&Value| {
+        let holder = if context == CONDITION { value } else { value.field("kind") };
         let mut cells = Vec::new();
-        expression(&local.field("kind").inside[0], &mut cells).map(|_| cells)
+        expression(&holder.inside[0], &mut cells).map(|_| cells)
     };
-    lets.iter().map(table).collect()
+    found.iter().map(table).collect()
 }
 
 /// A node at the end of the table, with its number.
@@ -82,10 +84,11 @@ fn node(cells: &mut Vec<u16>, form: u16, detail: u16, symbol: u16) -> usize {
 }
 
 /// The symbol that a name, a literal or a member was spelled by, as `codes::text` does:
-/// `x7#0`, `"7"` or `7#0`.
-fn symbol(value: &Value) -> u16 {
+/// `x7#0`, `"7"` or `7#0`. `S` has none: it names a Struct whose braces were taken for a
+/// block's.
+fn symbol(value: &Value) -> Result<u16, String> {
     let spelled = value.head.trim_end_matches("#0").trim_matches('"').trim_start_matches('x');
-    spelled.parse().unwrap_or_else(|_| panic!("no symbol in {}", value.head))
+    spelled.parse().map_err(|_| format!("the name {}", value.head))
 }
 
 fn operand(cells: &mut [u16], node: usize, place: usize, operand: usize) {
@@ -124,13 +127,13 @@ fn expression(value: &Value, cells: &mut Vec<u16>) -> Result<usize, String> {
         ("Paren", [inner]) => return expression(inner, cells),
         ("Path", [_, path]) => match &path.field("segments").inside[..] {
             [segment] if segment.field("args").head == "None" => {
-                own = symbol(segment.field("ident"));
+                own = symbol(segment.field("ident"))?;
                 (PATH, 0, vec![])
             }
             _ => return Err("Path".to_string()),
         },
         ("Lit", [literal]) => {
-            own = symbol(literal.field("symbol"));
+            own = symbol(literal.field("symbol"))?;
             (LIT, 0, vec![])
         }
         ("Unary", [operator, inner]) => {
@@ -150,15 +153,16 @@ fn expression(value: &Value, cells: &mut Vec<u16>) -> Result<usize, String> {
         ("Assign", [left, right, _]) => (ASSIGN, 0, vec![left, right]),
         ("Cast", [inner, ty]) => (CAST, 0, vec![inner, ty]),
         ("Field", [inner, member]) => {
-            own = symbol(member);
+            own = symbol(member)?;
             (FIELD, u16::from(member.head.starts_with(|c: char| c.is_ascii_digit())), vec![inner])
         }
         ("Index", [inner, index, _]) => (INDEX, 0, vec![inner, index]),
         ("Call", [callee, arguments]) => (CALL, 0, vec![callee, arguments]),
         ("MethodCall", [call]) if call.field("seg").field("args").head == "None" => {
-            own = symbol(call.field("seg").field("ident"));
+            own = symbol(call.field("seg").field("ident"))?;
             (METHOD_CALL, 0, vec![call.field("receiver"), call.field("args")])
         }
+        ("Struct", [_]) => (STRUCT, 0, vec![]),
         ("Try", [inner]) => (TRY, 0, vec![inner]),
         ("Await", [inner, _]) => (AWAIT, 0, vec![inner]),
         (other, _) => return Err(other.to_string()),
@@ -222,7 +226,7 @@ fn ty(value: &Value, cells: &mut Vec<u16>) -> Result<usize, String> {
 }
 
 fn path_type(segment: &Value, cells: &mut Vec<u16>) -> Result<usize, String> {
-    let (arguments, own) = (segment.field("args"), symbol(segment.field("ident")));
+    let (arguments, own) = (segment.field("args"), symbol(segment.field("ident"))?);
     if arguments.head == "None" {
         return Ok(node(cells, TYPE_PATH, 1, own));
     }

@@ -3,8 +3,9 @@
 use crate::lists;
 use crate::makers;
 use crate::ours::Ours;
-use crate::trees::{self, Tally};
+use crate::trees::{self, Random, Structs, Tally};
 use model::chart::Chart;
+use model::contexts;
 use model::generate::Dice;
 use model::rules::{Change, Rules};
 use model::verdict;
@@ -16,13 +17,19 @@ fn noticed(change: Change) -> (u64, u64) {
     for set in trees::sets(2) {
         set.each(|tree| tally.tree(&mut changed, &mut Ours::Absent, tree));
     }
-    trees::random(1, 1_000, 40, |tree| tally.tree(&mut changed, &mut Ours::Absent, tree));
+    for structs in Structs::ALL {
+        let random = Random { structs, seed: 1, trees: 1_000, most_tokens: 40 };
+        random.each(|tree| tally.tree(&mut changed, &mut Ours::Absent, tree));
+    }
 
     let mut chart = Chart::new(Rules::new(None));
     let mut different = 0;
     let mut list = |chart: &Chart, changed: &mut Chart| {
         changed.read(chart.tokens());
-        different += u64::from(verdict::verdict(chart) != verdict::verdict(changed));
+        let tells = |context: &u16| {
+            verdict::verdict(chart, *context) != verdict::verdict(changed, *context)
+        };
+        different += u64::from(contexts::PLAIN.iter().any(tells));
     };
     for (_, codes, most) in lists::sets(2) {
         lists::each_list(&mut chart, &codes, most, &mut |chart| list(chart, &mut changed));

@@ -1,6 +1,6 @@
 //! Commas straight before what closes something: the readings of a list with such commas
 //! beside those of document 01's rule, commas between items only, and our reader beside
-//! them.
+//! them, in both contexts.
 //!
 //! A list with an item put behind each of its commas says by that rule whether all of them
 //! follow a last item; if so, the list has the readings of the list without these commas,
@@ -9,11 +9,12 @@
 use crate::lists::{self, Asked, Tally};
 use crate::makers;
 use crate::ours::Ours;
-use crate::trees;
+use crate::trees::{self, Random, Structs};
 use crate::written::with_commas;
 use model::chart::Chart;
 use model::codes::{Token, COMMA};
 use model::commas::{before_closing, closes, item_before};
+use model::contexts;
 use model::generate::Dice;
 use model::rules::{Change, Rules};
 use model::table::NodeTable;
@@ -73,26 +74,29 @@ impl Charts {
         tokens.iter().for_each(|&token| self.push(token));
     }
 
-    /// Whether the readings are those that document 01's rule gives.
-    fn agree(&self) -> bool {
-        match self.with_items.is_unread() {
-            true => self.chart.is_unread(),
-            false => !self.without.is_unread() && self.chart.readings() == self.without.readings(),
+    /// Whether the readings in a context are those that document 01's rule gives.
+    fn agree(&self, context: u16) -> bool {
+        match self.with_items.is_unread(context) {
+            true => self.chart.is_unread(context),
+            false => {
+                !self.without.is_unread(context)
+                    && self.chart.readings(context) == self.without.readings(context)
+            }
         }
     }
 
-    /// Whether the list has a reading.
-    pub fn is_read(&self) -> bool {
-        !self.chart.is_unread()
+    /// Whether the list has a reading in a context.
+    pub fn is_read(&self, context: u16) -> bool {
+        !self.chart.is_unread(context)
     }
 
-    /// Whether the list has a reading without its commas alone.
-    pub fn is_nearly_read(&self) -> bool {
-        !self.is_read() && !self.without.is_unread()
+    /// Whether the list has a reading there without its commas alone.
+    pub fn is_nearly_read(&self, context: u16) -> bool {
+        !self.is_read(context) && !self.without.is_unread(context)
     }
 }
 
-/// What came of a set of lists.
+/// What came of a set of lists in a context.
 #[derive(Default)]
 struct Held {
     tally: Tally,
@@ -105,15 +109,19 @@ struct Held {
 }
 
 impl Held {
+    fn new(context: u16) -> Held {
+        Held { tally: Tally::new(context), ..Held::default() }
+    }
+
     fn list(&mut self, charts: &Charts, ours: &mut Ours) {
-        let tokens = charts.chart.tokens();
-        self.nearly += u64::from(charts.is_nearly_read());
-        self.gained += u64::from(charts.is_read() && !before_closing(tokens).is_empty());
-        if !charts.agree() {
+        let (tokens, context) = (charts.chart.tokens(), self.tally.context);
+        self.nearly += u64::from(charts.is_nearly_read(context));
+        self.gained += u64::from(charts.is_read(context) && !before_closing(tokens).is_empty());
+        if !charts.agree(context) {
             self.unlike += 1;
             self.tally.differs("not as with an item behind each comma", tokens);
         }
-        self.tally.list(ours, tokens, verdict::verdict(&charts.chart));
+        self.tally.list(ours, tokens, verdict::verdict(&charts.chart, context));
     }
 
     /// Prints the set and gives how many differ.
@@ -124,6 +132,23 @@ impl Held {
             self.gained, self.nearly, self.unlike
         );
         self.tally.different
+    }
+}
+
+/// What came of a set of lists, in both contexts.
+struct Both([Held; 2]);
+
+impl Both {
+    fn new() -> Both {
+        Both(contexts::PLAIN.map(Held::new))
+    }
+
+    fn list(&mut self, charts: &Charts, ours: &mut Ours) {
+        self.0.iter_mut().for_each(|held| held.list(charts, ours));
+    }
+
+    fn print(&self, name: &str, start: Instant) -> u64 {
+        self.0.iter().map(|held| held.print(name, start)).sum()
     }
 }
 
@@ -179,7 +204,7 @@ fn tree(held: &mut Held, charts: &mut Charts, ours: &mut Ours, tree: &NodeTable)
     let meant = without_parens(tree);
     each_choice(tree, MOST_LISTS, |tokens| {
         charts.read(&tokens);
-        if charts.chart.readings() != [&meant[..]] {
+        if charts.chart.readings(tree.context) != [&meant[..]] {
             held.tally.differs("another reading than the tree", &tokens);
         }
         held.list(charts, ours);
@@ -193,18 +218,18 @@ pub fn compare(ours: &mut Ours, Asked { smaller, lists, seed, change }: Asked) -
     let mut charts = Charts::new(change);
     let mut different = 0;
     for (name, codes, most) in lists::sets(smaller) {
-        let (mut held, start) = (Held::default(), Instant::now());
+        let (mut held, start) = (Both::new(), Instant::now());
         let most = most + LONGER;
         each_list(&mut charts, &codes, most, false, &mut |charts| held.list(charts, ours));
         different += held.print(&format!("{name} and {LONGER}, with such a comma"), start);
     }
-    let (mut held, start) = (Held::default(), Instant::now());
+    let (mut held, start) = (Both::new(), Instant::now());
     for (_, codes, most) in lists::sets(smaller.max(1) + 1) {
         each_list(&mut charts, &codes, most, true, &mut |charts| held.list(charts, ours));
     }
     different += held.print("all lists of the sets of fewer tokens", start);
     for (most_tokens, lists) in [(40, lists), (200, lists / 40)] {
-        let (mut held, start) = (Held::default(), Instant::now());
+        let (mut held, start) = (Both::new(), Instant::now());
         for index in 0..lists {
             let tokens = makers::with_commas(&mut Dice::new(seed, index), seed, most_tokens);
             charts.read(&tokens);
@@ -214,18 +239,23 @@ pub fn compare(ours: &mut Ours, Asked { smaller, lists, seed, change }: Asked) -
         different += held.print(&name, start);
     }
     for set in trees::sets(1 + smaller) {
-        let (mut held, start) = (Held::default(), Instant::now());
+        let (mut held, start) = (Held::new(set.context), Instant::now());
         set.each(|plain| tree(&mut held, &mut charts, ours, plain));
-        let name = format!("trees, {} up to {} nodes", set.name, set.most_nodes);
-        different += held.print(&name, start);
+        different += held.print(&format!("trees, {}", set.words()), start);
     }
-    let (mut held, start) = (Held::default(), Instant::now());
-    trees::random(seed, lists / 20, 40, |plain| tree(&mut held, &mut charts, ours, plain));
-    different += held.print("trees, random up to 40 tokens", start);
-    let (mut tally, start) = (Tally::default(), Instant::now());
-    for (tokens, known) in makers::constructed_with_commas(seed) {
-        tally.constructed(&mut charts.chart, ours, &tokens, known);
+    for structs in Structs::ALL {
+        let (mut held, start) = (Held::new(structs.context()), Instant::now());
+        let random = Random { structs, seed, trees: lists / 20, most_tokens: 40 };
+        random.each(|plain| tree(&mut held, &mut charts, ours, plain));
+        different += held.print(&format!("trees, {}", random.words()), start);
     }
-    tally.print("constructed with commas", start);
-    different + tally.different
+    for mut tally in Tally::in_both() {
+        let start = Instant::now();
+        for (tokens, known) in makers::constructed_with_commas(seed) {
+            tally.constructed(&mut charts.chart, ours, &tokens, known);
+        }
+        tally.print("constructed with commas", start);
+        different += tally.different;
+    }
+    different
 }

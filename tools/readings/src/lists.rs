@@ -1,21 +1,22 @@
-//! Token lists: the verdict on each, and our reader's beside it.
+//! Token lists: the verdict on each in both contexts, and our reader's beside it.
 
 use crate::makers;
 use crate::ours::Ours;
 use model::chart::Chart;
 use model::codes::{self, has_symbol, text, Token, CODES, NAME};
+use model::contexts;
 use model::generate::{Dice, SYMBOLS};
 use model::rules::{Change, Rules};
-use model::sizes::{MOST_CELLS, NODE_CELLS};
+use model::sizes::{LAST_CONTEXT, MOST_CELLS, NODE_CELLS};
 use model::table::numbers;
 use model::verdict::{self, Verdict};
 use std::time::Instant;
 
 /// One code for each kind of behaviour: `-`, `*`, `&&`, `&`, `<<`, `==`, `<`, `>`,
 /// `+=`, `=`, `!`, `as`, name, dot, parentheses, brackets, comma, `?`, `_`, numbered
-/// member.
-const KINDS: [u16; 22] =
-    [1, 2, 5, 8, 10, 12, 13, 17, 18, 28, 29, 31, 32, 34, 35, 36, 37, 38, 39, 40, 43, 44];
+/// member, Struct.
+const KINDS: [u16; 23] =
+    [1, 2, 5, 8, 10, 12, 13, 17, 18, 28, 29, 31, 32, 34, 35, 36, 37, 38, 39, 40, 43, 44, 46];
 
 /// `-`, `<`, `>`, `=`, `as`, name, dot, parentheses, brackets, comma.
 const NARROW: [u16; 12] = [1, 13, 17, 28, 31, 32, 34, 35, 36, 37, 38, 39];
@@ -24,11 +25,16 @@ const NARROW: [u16; 12] = [1, 13, 17, 28, 31, 32, 34, 35, 36, 37, 38, 39];
 /// parentheses.
 const TYPES: [u16; 9] = [8, 10, 13, 17, 31, 32, 35, 36, 39];
 
-/// What came of a set of lists.
+/// What stands round a Struct: `-`, `==`, `as`, name, dot, parentheses, brackets, comma,
+/// `?`, Struct.
+const STRUCTS: [u16; 12] = [1, 12, 31, 32, 34, 35, 36, 37, 38, 39, 40, 46];
+
+/// What came of a set of lists in a context.
 #[derive(Default)]
 pub struct Tally {
+    pub context: u16,
     pub lists: u64,
-    /// By reply, 0 and 14 to 16.
+    /// By reply: 0, 3, 12 to 16.
     pub replies: [u64; 17],
     pub different: u64,
     pub longest: usize,
@@ -38,6 +44,15 @@ pub struct Tally {
 }
 
 impl Tally {
+    pub fn new(context: u16) -> Tally {
+        Tally { context, ..Tally::default() }
+    }
+
+    /// One for each context in which lists are read.
+    pub fn in_both() -> [Tally; 2] {
+        contexts::PLAIN.map(Tally::new)
+    }
+
     /// Holds our reader to a verdict; several readings are a difference of their own.
     pub fn list(
         &mut self,
@@ -61,7 +76,7 @@ impl Tally {
             Err(refusal) => self.digested(1_000 + refusal),
         }
         let lent = MOST_CELLS + self.lists as usize % 7;
-        if let Some(ours) = ours.read(tokens, lent) {
+        if let Some(ours) = ours.read(self.context, tokens, lent) {
             if ours != verdict {
                 let reply = |verdict: &Verdict| verdict.as_ref().err().copied().unwrap_or(0);
                 let what = format!("we reply {}, not {}", reply(&ours), reply(&verdict));
@@ -80,7 +95,7 @@ impl Tally {
     ) {
         // The chart grows with the square of the length.
         if tokens.len() <= 1_000 {
-            let found = verdict::of(chart, tokens);
+            let found = verdict::of(chart, self.context, tokens);
             if found.as_ref() != Ok(&known) {
                 self.differs(&format!("{found:?}, not {known:?}"), tokens);
             }
@@ -104,8 +119,9 @@ impl Tally {
 
     pub fn print(&self, name: &str, start: Instant) {
         println!(
-            "{name}: lists {}, longest {}, read {}, by 14, 15, 16: {}, {}, {}; different {}, digest \
-             {:016x}, {} s",
+            "{name}, context {}: lists {}, longest {}, read {}, by 14, 15, 16: {}, {}, {}; different \
+             {}, digest {:016x}, {} s",
+            self.context,
             self.lists,
             self.longest,
             self.replies[0],
@@ -153,6 +169,7 @@ pub fn sets(smaller: usize) -> Vec<(String, Vec<u16>, usize)> {
         set("kinds", &KINDS, 6),
         set("narrow", &NARROW, 7),
         set("of types", &TYPES, 8),
+        set("round a Struct", &STRUCTS, 7),
     ]
 }
 
@@ -166,37 +183,47 @@ pub struct Asked {
     pub change: Option<Change>,
 }
 
+/// Prints the tallies of a set in both contexts, and gives how many differ.
+fn print_both(tallies: [Tally; 2], name: &str, start: Instant) -> u64 {
+    tallies.iter().for_each(|tally| tally.print(name, start));
+    tallies.iter().map(|tally| tally.different).sum()
+}
+
 /// All lists of few tokens, random ones, and constructed ones. Gives how many
 /// differ.
 pub fn compare(ours: &mut Ours, Asked { smaller, lists, seed, change }: Asked) -> u64 {
     let mut chart = Chart::new(Rules::new(change));
     let mut different = 0;
     for (name, codes, most) in sets(smaller) {
-        let (mut tally, start) = (Tally::default(), Instant::now());
+        let (mut tallies, start) = (Tally::in_both(), Instant::now());
         each_list(&mut chart, &codes, most, &mut |chart| {
-            tally.list(ours, chart.tokens(), verdict::verdict(chart));
+            for tally in &mut tallies {
+                tally.list(ours, chart.tokens(), verdict::verdict(chart, tally.context));
+            }
         });
-        tally.print(&name, start);
-        different += tally.different;
+        different += print_both(tallies, &name, start);
     }
     for (most_tokens, lists) in [(40, lists), (200, lists / 40)] {
-        let (mut tally, start) = (Tally::default(), Instant::now());
+        let (mut tallies, start) = (Tally::in_both(), Instant::now());
         for index in 0..lists {
             let dice = &mut Dice::new(seed, index);
             let mut tokens = makers::random(dice, seed, most_tokens);
             makers::misplace_symbol(dice, &mut tokens);
-            tally.list(ours, &tokens, verdict::of(&mut chart, &tokens));
+            for tally in &mut tallies {
+                tally.list(ours, &tokens, verdict::of(&mut chart, tally.context, &tokens));
+            }
         }
-        tally.print(&format!("random, about {most_tokens} tokens"), start);
-        different += tally.different;
+        different += print_both(tallies, &format!("random, about {most_tokens} tokens"), start);
     }
-    let (mut tally, start) = (Tally::default(), Instant::now());
-    for (tokens, known) in makers::constructed(seed) {
-        tally.constructed(&mut chart, ours, &tokens, known);
+    let (mut tallies, start) = (Tally::in_both(), Instant::now());
+    for tally in &mut tallies {
+        for (tokens, known) in makers::constructed(tally.context, seed) {
+            tally.constructed(&mut chart, ours, &tokens, known);
+        }
     }
-    tally.print("constructed", start);
-    let others = any_cells(ours, seed, lists / 10) + short_tables(ours);
-    different + tally.different + others + damaged_numbers(ours, seed)
+    different += print_both(tallies, "constructed", start);
+    let others = any_cells(ours, seed, lists / 10) + other_contexts(ours) + short_tables(ours);
+    different + others + damaged_numbers(ours, seed)
 }
 
 /// Cells that are no token list, or one with another cell: an odd number of them, symbols
@@ -205,11 +232,14 @@ fn any_cells(ours: &mut Ours, seed: u64, lists: u64) -> u64 {
     let mut chart = Chart::new(Rules::new(None));
     let (mut replies, mut different) = ([0u64; 17], 0);
     let mut cells = |ours: &mut Ours, cells: &[u16]| {
-        let verdict = verdict::of_cells(&mut chart, cells).expect("at most one reading");
-        replies[usize::from(*verdict.as_ref().err().unwrap_or(&0))] += 1;
-        if ours.read_cells(cells, MOST_CELLS).is_some_and(|ours| ours != verdict) {
-            different += 1;
-            println!("  we read otherwise: {cells:?}");
+        for context in contexts::PLAIN {
+            let verdict = verdict::of_cells(&mut chart, context, cells);
+            let verdict = verdict.expect("at most one reading");
+            replies[usize::from(*verdict.as_ref().err().unwrap_or(&0))] += 1;
+            if ours.read_cells(context, cells, MOST_CELLS).is_some_and(|ours| ours != verdict) {
+                different += 1;
+                println!("  we read otherwise in context {context}: {cells:?}");
+            }
         }
     };
     for index in 0..lists {
@@ -237,7 +267,7 @@ fn any_cells(ours: &mut Ours, seed: u64, lists: u64) -> u64 {
         }
     }
     println!(
-        "any cells: lists {}, read {}, by 14, 15, 16: {}, {}, {}; different {different}",
+        "any cells, in both contexts: lists {}, read {}, by 14, 15, 16: {}, {}, {}; different {different}",
         replies.iter().sum::<u64>(),
         replies[0],
         replies[14],
@@ -257,16 +287,25 @@ fn damaged_numbers(ours: &mut Ours, seed: u64) -> u64 {
     let (mut malformed, mut different) = (0, 0);
     for index in 0..1_000 {
         let dice = &mut Dice::new(seed + 3, index);
-        let mut bytes = numbers(&codes::cells(&makers::random(dice, seed, 40)));
+        let context = dice.pick(&[0, 0, 0, 3, 3, 3, 1, 2, 4, 128, 65_535]);
+        let cells = codes::cells(&makers::random(dice, seed, 40));
+        let mut bytes = numbers([&context].into_iter().chain(&cells));
         let at = dice.below(bytes.len() + 1);
         let behind: &[u8] =
             dice.pick(&[&[0x80], &[0x80, 0], &[0xFF, 0xFF, 4], &[0xA0, 0], &[0x20]]);
         bytes.splice(at..at, behind.iter().copied());
-        let verdict = match cells_of(&bytes) {
-            Some(cells) => verdict::of_cells(&mut chart, &cells).expect("at most one reading"),
-            None => Err(14),
+        if dice.percent(3) {
+            bytes.truncate(dice.below(3));
+        }
+        let numbers = cells_of(&bytes);
+        // A number that is malformed, or the context that is missing, is met by 14.
+        let verdict = match numbers.as_deref() {
+            Some([context, cells @ ..]) => {
+                verdict::of_cells(&mut chart, *context, cells).expect("at most one reading")
+            }
+            _ => Err(14),
         };
-        malformed += u64::from(cells_of(&bytes).is_none());
+        malformed += u64::from(numbers.is_none());
         if ours.read_file(&bytes) != Some(verdict) {
             different += 1;
             println!("  we read otherwise: {bytes:?}");
@@ -291,18 +330,47 @@ fn cells_of(bytes: &[u8]) -> Option<Vec<u16>> {
     bytes.split_inclusive(|byte| byte & 0x80 == 0).map(number).collect()
 }
 
-/// A table of less than 4,096 nodes meets 12 before anything else.
+/// Other contexts than those in which lists are read meet 3 or 13 before anything else,
+/// whatever the list and the table.
+fn other_contexts(ours: &mut Ours) -> u64 {
+    let lents: &[usize] =
+        if ours.is_lent() { &[0, MOST_CELLS - 1, MOST_CELLS] } else { &[MOST_CELLS] };
+    let (mut lists, mut different) = (0, 0);
+    for context in [1, 2, LAST_CONTEXT + 1, 5, 127, 128, 32_768, 65_535] {
+        let meant = Err(if context > LAST_CONTEXT { 3 } else { 13 });
+        for &lent in lents {
+            for list in [&[][..], &[32], &[46], &[35, 46, 36], &[0], &[CODES], &[36; 24_577]] {
+                let list = codes::tokens(list);
+                let odd = [&codes::cells(&list)[..], &[NAME]].concat();
+                let replies =
+                    [ours.read(context, &list, lent), ours.read_cells(context, &odd, lent)];
+                for reply in replies.into_iter().flatten() {
+                    lists += 1;
+                    different += u64::from(reply != meant);
+                }
+            }
+        }
+    }
+    println!("other contexts: lists {lists}, different {different}");
+    different
+}
+
+/// A table of less than 4,096 nodes meets 12 before anything else but the context.
 fn short_tables(ours: &mut Ours) -> u64 {
     if !ours.is_lent() {
         return 0;
     }
     let mut different = 0;
-    for lent in [0, NODE_CELLS, MOST_CELLS - 1] {
-        for list in [&[][..], &[32], &[32, 0, 32], &[0], &[46], &[36; 24_577]] {
-            different += u64::from(ours.read(&codes::tokens(list), lent) != Some(Err(12)));
-            different += u64::from(ours.read_cells(list, lent) != Some(Err(12)));
+    for (context, lent) in contexts::PLAIN
+        .into_iter()
+        .flat_map(|context| [0, NODE_CELLS, MOST_CELLS - 1].map(|lent| (context, lent)))
+    {
+        for list in [&[][..], &[32], &[32, 0, 32], &[0], &[CODES], &[36; 24_577]] {
+            let tokens = codes::tokens(list);
+            different += u64::from(ours.read(context, &tokens, lent) != Some(Err(12)));
+            different += u64::from(ours.read_cells(context, list, lent) != Some(Err(12)));
         }
     }
-    println!("short tables: lists 36, different {different}");
+    println!("short tables: lists 72, different {different}");
     different
 }

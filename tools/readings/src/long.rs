@@ -3,6 +3,7 @@
 
 use crate::ours::Ours;
 use model::codes::*;
+use model::contexts::{CONDITION, NONE};
 use model::forms::operator::ADD;
 use model::sizes::{MOST_CELLS, MOST_TOKENS, NODE_CELLS};
 use std::process::Command;
@@ -17,8 +18,26 @@ fn nest(open: &[u16], middle: &[u16], close: &[u16]) -> Vec<u16> {
     list
 }
 
-/// The lists by name.
-fn lists() -> Vec<(&'static str, Vec<u16>)> {
+/// The lists by name, each with the context in which it is read.
+fn lists() -> Vec<(&'static str, u16, Vec<u16>)> {
+    let in_none = of_names().into_iter().map(|(name, list)| (name, NONE, list));
+    let conditions = [
+        ("a condition of names", nest(&[NAME, ADD], &[NAME], &[])),
+        ("a condition of structs in parentheses", {
+            nest(&[OPEN, STRUCT, CLOSE, ADD], &[NAME], &[])
+        }),
+        ("a struct in parentheses, in a condition", nest(&[OPEN], &[STRUCT], &[CLOSE])),
+        (
+            "structs as arguments, in a condition",
+            nest(&[NAME, OPEN, STRUCT, COMMA], &[STRUCT], &[CLOSE]),
+        ),
+        ("a struct at the end of a condition", nest(&[NAME, ADD], &[STRUCT], &[])),
+    ];
+    in_none.chain(conditions.map(|(name, list)| (name, CONDITION, list))).collect()
+}
+
+/// Those that are read in context 0.
+fn of_names() -> Vec<(&'static str, Vec<u16>)> {
     vec![
         ("nested parentheses", nest(&[OPEN], &[NAME], &[CLOSE])),
         ("prefixes", nest(&[MINUS], &[NAME], &[])),
@@ -66,10 +85,10 @@ fn lists() -> Vec<(&'static str, Vec<u16>)> {
 
 /// Asks our reader for one list; a process of its own, so that its stack is its own.
 pub fn one(ours: &mut Ours, name: &str) -> Option<u64> {
-    let (_, list) = lists().into_iter().find(|(known, _)| *known == name)?;
+    let (_, context, list) = lists().into_iter().find(|(known, ..)| *known == name)?;
     let list = tokens(&list);
     let start = Instant::now();
-    let verdict = ours.read(&list, MOST_CELLS)?;
+    let verdict = ours.read(context, &list, MOST_CELLS)?;
     let time = start.elapsed();
     let status = std::fs::read_to_string("/proc/self/status").ok()?;
     let stack = status.lines().find_map(|line| line.strip_prefix("VmStk:"))?.trim().to_string();
@@ -89,7 +108,7 @@ pub fn one(ours: &mut Ours, name: &str) -> Option<u64> {
 pub fn all() -> Option<u64> {
     let program = std::env::current_exe().ok()?;
     let mut failed = 0;
-    for (name, _) in lists() {
+    for (name, ..) in lists() {
         let status = Command::new(&program).args(["long", "library", name]).status().ok()?;
         failed += u64::from(!status.success());
     }

@@ -14,6 +14,7 @@ mod trees;
 mod written;
 
 use lists::Asked;
+use model::contexts;
 use model::rules::Change;
 use ours::Ours;
 use std::process::ExitCode;
@@ -25,6 +26,7 @@ const USAGE: &str = "usage:
   readings long library [NAME]   the longest lists: our reader's answer, time and stack
   readings rustc TREES PAIRS [SEED]   rustc beside the readings, so many random trees and pairs
   readings commas rustc TREES PAIRS [SEED]   the part of it with such commas
+  readings conditions rustc TREES PAIRS [SEED]   the part of it in context 3
   readings changes               each rule changed: how many trees and lists tell
   readings record                writes crates/recorded/data/readings and tokens
 OURS: absent, programs (target/bin/tokens and target/bin/reading), or with the feature library
@@ -33,6 +35,24 @@ CHANGE: a rule that is changed, by its name in rust/model/src/rules.rs";
 
 fn main() -> ExitCode {
     oracle::command::run(USAGE, run)
+}
+
+/// What rustc says, or a part of it, by so many trees and pairs and a seed.
+fn judged(part: Option<&str>, numbers: &[&str]) -> Option<u64> {
+    let numbers: Option<Vec<u64>> = numbers.iter().map(|number| number.parse().ok()).collect();
+    let (trees, pairs, seed) = match numbers?[..] {
+        [trees, pairs] => (trees, pairs, 1),
+        [trees, pairs, seed] => (trees, pairs, seed),
+        _ => return None,
+    };
+    let contexts: &[u16] =
+        if part == Some("conditions") { &[contexts::CONDITION] } else { &contexts::PLAIN };
+    let all = contexts.iter().map(|&context| {
+        let asked = rustc::Asked { context, trees, pairs, seed };
+        let trees = if part == Some("commas") { 0 } else { rustc::compare(asked) };
+        trees + rustc::commas(asked)
+    });
+    Some(all.sum())
 }
 
 fn run(arguments: &[&str]) -> Option<u64> {
@@ -45,15 +65,8 @@ fn run(arguments: &[&str]) -> Option<u64> {
         }
         ["long", "library"] => long::all(),
         ["long", library, name] => long::one(&mut Ours::named(library)?, name),
-        ["rustc", trees, pairs, rest @ ..] => {
-            let seed = rest.first().map_or(Some(1), number)?;
-            let (trees, pairs) = (number(trees)?, number(pairs)?);
-            Some(rustc::compare(trees, pairs, seed) + rustc::commas(trees, pairs, seed))
-        }
-        ["commas", "rustc", trees, pairs, rest @ ..] => {
-            let seed = rest.first().map_or(Some(1), number)?;
-            Some(rustc::commas(number(trees)?, number(pairs)?, seed))
-        }
+        [part @ ("commas" | "conditions"), "rustc", numbers @ ..] => judged(Some(part), numbers),
+        ["rustc", numbers @ ..] => judged(None, numbers),
         [what, rest @ ..] => {
             let mut ours = Ours::named(rest.first().unwrap_or(&"absent"))?;
             let seed = rest.get(1).map_or(Some(1), number)?;

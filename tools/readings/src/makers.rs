@@ -5,6 +5,7 @@ use crate::plain;
 use crate::written::written;
 use model::codes::*;
 use model::commas;
+use model::contexts::CONDITION;
 use model::forms;
 use model::generate::{self, Dice, Family, SYMBOLS};
 use model::sizes::{MOST_LEVELS, MOST_NODES, MOST_TOKENS, NODE_CELLS};
@@ -62,11 +63,13 @@ fn edited(dice: &mut Dice, seed: u64, most_tokens: usize) -> Vec<Token> {
     tokens
 }
 
-/// A random plain tree with up to so many tokens.
+/// A random plain tree with up to so many tokens, half of them with Structs, of which half
+/// stand in a condition.
 pub fn drawn(dice: &mut Dice, seed: u64, most_tokens: usize) -> NodeTable {
     loop {
         let at = dice.below(1 << 40) as u64;
-        let tree = plain::random(seed.wrapping_add(at), most_tokens as u16).next();
+        let family = dice.pick(&[Family::Plain, Family::Structs]);
+        let tree = plain::random(family, seed.wrapping_add(at), most_tokens as u16).next();
         let tree = tree.expect("there are always more");
         if written(&tree).tokens.len() <= most_tokens {
             return tree;
@@ -83,7 +86,7 @@ fn edit(dice: &mut Dice, tokens: &mut Vec<Token>) {
     let at = dice.below(length);
     let code = match dice.below(3) {
         0 => dice
-            .pick(&[LESS, SHIFT_LEFT, GREATER, OPEN, CLOSE, COMMA, NAME, DOT, AS, MINUS, EQUALS]),
+            .pick(&[LESS, SHIFT_LEFT, GREATER, OPEN, CLOSE, COMMA, NAME, DOT, AS, MINUS, STRUCT]),
         _ => any_code(dice),
     };
     match dice.below(8) {
@@ -143,7 +146,7 @@ fn walked(dice: &mut Dice, most_tokens: usize) -> Vec<u16> {
                     open.push(CLOSE);
                 }
                 2 => {
-                    tokens.push(LITERAL);
+                    tokens.push(dice.pick(&[LITERAL, STRUCT]));
                     operand = false;
                 }
                 _ => {
@@ -231,7 +234,14 @@ pub fn table(dice: &mut Dice, seed: u64) -> NodeTable {
             _ => {
                 let leaf = tree.cells[node + FIRST..=node + SECOND] == [0, 0];
                 let others: &[u16] = if leaf {
-                    &[forms::PATH, forms::LIT, forms::BLOCK, forms::TYPE_TUPLE, forms::TYPE_INFER]
+                    &[
+                        forms::PATH,
+                        forms::LIT,
+                        forms::STRUCT,
+                        forms::BLOCK,
+                        forms::TYPE_TUPLE,
+                        forms::TYPE_INFER,
+                    ]
                 } else {
                     &[forms::GROUP, forms::RANGE, forms::LET, forms::RETURN, forms::PAREN]
                 };
@@ -299,6 +309,7 @@ struct Nest {
 }
 
 const PATH_CELLS: [u16; NODE_CELLS] = [forms::PATH, 0, 0, 0, 0, 0];
+const STRUCT_CELLS: [u16; NODE_CELLS] = [forms::STRUCT, 0, 0, 0, 0, 0];
 const TYPE_CELLS: [u16; NODE_CELLS] = [forms::TYPE_PATH, 0, 1, 0, 0, 0];
 const LINK_TO_PATH: [u16; 2 * NODE_CELLS] =
     [forms::LINK, 0, 0, 2, 0, 0, forms::PATH, 0, 0, 0, 0, 0];
@@ -396,9 +407,23 @@ fn above(cells: &[u16], (form, detail): (u16, u16), other: Option<(usize, &[u16]
 }
 
 impl Nest {
-    /// The nest with so many nodes on its longest path.
+    /// The nest with so many nodes on its longest path, over a name.
     fn of(&self, path: usize) -> Constructed {
-        let (mut tokens, mut table) = (vec![NAME], PATH_CELLS.to_vec());
+        self.over(NAME, &PATH_CELLS, path)
+    }
+
+    /// The nest over a Struct, whose verdict is that of a context: in a condition there is a
+    /// reading only if the nest puts its operand between parentheses or brackets.
+    fn over_struct(&self, path: usize, context: u16) -> Constructed {
+        let (tokens, verdict) = self.over(STRUCT, &STRUCT_CELLS, path);
+        let is_bare =
+            path == 1 || !self.before.iter().any(|&code| code == OPEN || code == OPEN_BRACKET);
+        let verdict = if context == CONDITION && is_bare { Err(15) } else { verdict };
+        (tokens, verdict)
+    }
+
+    fn over(&self, leaf: u16, cells: &[u16], path: usize) -> Constructed {
+        let (mut tokens, mut table) = (vec![leaf], cells.to_vec());
         for _ in 1..path {
             tokens.splice(0..0, self.before.iter().copied());
             tokens.extend(self.behind);
@@ -501,13 +526,14 @@ pub fn type_arguments(nodes: usize) -> Constructed {
 /// The most pairs round a name, with one token to spare.
 pub const MOST_PAIRS: usize = (MOST_TOKENS - 1) / 2;
 
-/// A name, or one with a prefix, in so many parentheses.
+/// A name, or one with a prefix, or a Struct in so many parentheses.
 pub fn grouped(pairs: usize, inner: &[u16]) -> Constructed {
     const NEGATED: [u16; 2 * NODE_CELLS] =
         [forms::UNARY, 0, 2, 2, 0, 0, forms::PATH, 0, 0, 0, 0, 0];
     let table = match inner {
         [NAME] => &PATH_CELLS[..],
         [MINUS, NAME] => &NEGATED[..],
+        [STRUCT] => &STRUCT_CELLS[..],
         _ => panic!("neither {inner:?}"),
     };
     let mut tokens = vec![OPEN; pairs];
@@ -523,11 +549,13 @@ fn all_named(lists: Vec<Constructed>, seed: u64) -> Vec<Named> {
     (0..).zip(lists).map(with_symbols).collect()
 }
 
-/// Lists at the bounds of 14 and 16, and just below and above them.
-pub fn constructed(seed: u64) -> Vec<Named> {
+/// Lists at the bounds of 14 and 16, and just below and above them, with their verdicts in a
+/// context.
+pub fn constructed(context: u16, seed: u64) -> Vec<Named> {
     let mut lists = Vec::new();
     for path in [2, MOST_LEVELS - 1, MOST_LEVELS, MOST_LEVELS + 1, MOST_LEVELS + 2, 600, 3_000] {
         lists.extend(NESTS.iter().map(|nest| nest.of(path)));
+        lists.extend(NESTS.iter().map(|nest| nest.over_struct(path, context)));
         lists.push(type_nest(path, false));
         lists.push(type_nest(path, true));
     }
@@ -543,6 +571,7 @@ pub fn constructed(seed: u64) -> Vec<Named> {
     for pairs in [1, 127, 128, 129, 4_096, MOST_PAIRS - 1, MOST_PAIRS, MOST_PAIRS + 1] {
         lists.push(grouped(pairs, &[NAME]));
         lists.push(grouped(pairs, &[MINUS, NAME]));
+        lists.push(grouped(pairs, &[STRUCT]));
     }
     for pairs in [1, 128, 4_096, MOST_PAIRS] {
         let mut short = grouped(pairs, &[NAME]).0;
@@ -552,7 +581,7 @@ pub fn constructed(seed: u64) -> Vec<Named> {
     // What has no reading however long it is.
     for length in [MOST_TOKENS - 1, MOST_TOKENS, MOST_TOKENS + 1] {
         let verdict = if length > MOST_TOKENS { Err(14) } else { Err(15) };
-        for code in [NAME, MINUS, OPEN, COMMA, GREATER] {
+        for code in [NAME, MINUS, OPEN, COMMA, GREATER, STRUCT] {
             lists.push((vec![code; length], verdict.clone()));
         }
     }

@@ -2,8 +2,8 @@
 //!
 //! As programs, `target/bin/tokens` takes a tree file on standard input and prints
 //! `ok` and the count, then a line with the codes and a line with the symbols, and
-//! `target/bin/reading` takes code and symbol of each token as the numbers of a tree file
-//! and prints `ok` and the count, then for each node its number and its six numbers;
+//! `target/bin/reading` takes the context and code and symbol of each token as the numbers
+//! of a tree file and prints `ok` and the count, then for each node its number and its six numbers;
 //! both print `no` and the number on a refusal.
 //! As functions they come from the static library of `answers`, with the feature
 //! `library`.
@@ -71,22 +71,25 @@ impl Ours {
         }
     }
 
-    /// The table of a list's reading, or the refusal, with so many cells lent.
-    pub fn read(&mut self, tokens: &[Token], lent: usize) -> Option<Verdict> {
+    /// The table of a list's reading in a context, or the refusal, with so many cells lent.
+    pub fn read(&mut self, context: u16, tokens: &[Token], lent: usize) -> Option<Verdict> {
         match self {
             Ours::Absent => None,
-            _ => self.read_cells(&codes::cells(tokens), lent),
+            _ => self.read_cells(context, &codes::cells(tokens), lent),
         }
     }
 
     /// The same for any cells.
     #[allow(unused_variables)]
-    pub fn read_cells(&mut self, cells: &[u16], lent: usize) -> Option<Verdict> {
+    pub fn read_cells(&mut self, context: u16, cells: &[u16], lent: usize) -> Option<Verdict> {
         match self {
             Ours::Absent => None,
-            Ours::Programs => Some(printed_table(&run("reading", &table::numbers(cells)))),
+            Ours::Programs => {
+                let numbers = table::numbers([&context].into_iter().chain(cells));
+                Some(printed_table(&run("reading", &numbers)))
+            }
             #[cfg(feature = "library")]
-            Ours::Library(library) => Some(library.read(cells, lent)),
+            Ours::Library(library) => Some(library.read(context, cells, lent)),
         }
     }
 
@@ -179,8 +182,8 @@ mod library {
             self.taken(reply, TOKEN_CELLS).map(|cells| Token::of_cells(&cells))
         }
 
-        pub fn read(&mut self, tokens: &[u16], lent: usize) -> Verdict {
-            let reply = boundary::read_here(tokens, self.0.lend(lent));
+        pub fn read(&mut self, context: u16, tokens: &[u16], lent: usize) -> Verdict {
+            let reply = boundary::read_here(context, tokens, self.0.lend(lent));
             self.taken(reply, NODE_CELLS)
         }
 

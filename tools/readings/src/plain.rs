@@ -1,6 +1,7 @@
 //! Plain trees: all with a certain number of nodes over a set of labels, by
 //! number, and random ones.
 
+use model::contexts::NONE;
 use model::forms::{self, *};
 use model::generate::{symbols, Dice, Family};
 use model::sizes::NODE_CELLS;
@@ -46,8 +47,18 @@ impl PlainTrees {
         trees
     }
 
-    /// All labels: all operators, prefixes, members, types, and lists of any length.
+    /// All labels but Struct: all operators, prefixes, members, types, and lists of any
+    /// length.
     pub fn every(most_nodes: usize) -> Self {
+        PlainTrees::new(PlainTrees::every_stem(), most_nodes)
+    }
+
+    /// All labels, Struct among them.
+    pub fn every_and_struct(most_nodes: usize) -> Self {
+        PlainTrees::new(and_struct(PlainTrees::every_stem()), most_nodes)
+    }
+
+    fn every_stem() -> Vec<Stem> {
         let binary: Vec<u16> = (0..28).collect();
         let ones = [
             (PAREN, 0),
@@ -69,22 +80,40 @@ impl PlainTrees {
             (TYPE_INFER, 0),
             (TYPE_NEVER, 0),
         ];
-        PlainTrees::new(stems(&[PATH, LIT], &binary, &ones, &types), most_nodes)
+        stems(&[PATH, LIT], &binary, &ones, &types)
     }
 
     /// One label for each level, lean and rule: the operators `-`, `*`, `<<`, `>>`,
     /// `&`, `^`, `|`, `<`, `==`, `&&`, `||` and `+=`, one prefix, both members, `?`,
     /// and one type that goes before another.
     pub fn kinds(most_nodes: usize) -> Self {
+        PlainTrees::new(PlainTrees::kinds_of_stems(), most_nodes)
+    }
+
+    /// The same and Struct.
+    pub fn kinds_and_struct(most_nodes: usize) -> Self {
+        PlainTrees::new(and_struct(PlainTrees::kinds_of_stems()), most_nodes)
+    }
+
+    fn kinds_of_stems() -> Vec<Stem> {
         let binary = [1, 2, 5, 6, 7, 8, 9, 10, 11, 12, 13, 18];
         let ones = [(PAREN, 0), (UNARY, 2), (FIELD, 0), (FIELD, 1), (TRY, 0)];
-        PlainTrees::new(stems(&[PATH], &binary, &ones, &[(TYPE_REFERENCE, 0)]), most_nodes)
+        stems(&[PATH], &binary, &ones, &[(TYPE_REFERENCE, 0)])
     }
 
     /// What the special rules speak of: `-`, `<`, `<<`, `=`, casts, members, calls.
     pub fn narrow(most_nodes: usize) -> Self {
+        PlainTrees::new(PlainTrees::narrow_stems(), most_nodes)
+    }
+
+    /// The same and Struct.
+    pub fn narrow_and_struct(most_nodes: usize) -> Self {
+        PlainTrees::new(and_struct(PlainTrees::narrow_stems()), most_nodes)
+    }
+
+    fn narrow_stems() -> Vec<Stem> {
         let ones = [(UNARY, 2), (FIELD, 0)];
-        PlainTrees::new(stems(&[PATH], &[1, 10, 13], &ones, &[(TYPE_REFERENCE, 0)]), most_nodes)
+        stems(&[PATH], &[1, 10, 13], &ones, &[(TYPE_REFERENCE, 0)])
     }
 
     fn of(&self, part: Part) -> impl Iterator<Item = Stem> + '_ {
@@ -113,11 +142,11 @@ impl PlainTrees {
     }
 
     /// The tree with so many nodes and a number from 0 on, its nodes numbered as
-    /// written, with symbols by its number.
+    /// written, with symbols by its number, in context 0.
     pub fn tree(&self, nodes: usize, index: u128) -> NodeTable {
         let mut cells = Vec::with_capacity(NODE_CELLS * nodes);
         self.plant(Expression, nodes, index, &mut cells);
-        let mut table = NodeTable { context: 0, count: nodes as u16, cells };
+        let mut table = NodeTable { context: NONE, count: nodes as u16, cells };
         symbols(&mut table, &mut Dice::new(nodes as u64, index as u64));
         table
     }
@@ -204,8 +233,14 @@ fn stems(leaves: &[u16], binary: &[u16], ones: &[(u16, u16)], types: &[(u16, u16
     stems
 }
 
-/// Random plain trees under any numbering, of up to so many nodes.
-pub fn random(seed: u64, most_nodes: u16) -> impl Iterator<Item = NodeTable> {
-    let tree = move |index| Family::Plain.tree(seed, index);
+/// Labels with Struct behind them.
+fn and_struct(mut stems: Vec<Stem>) -> Vec<Stem> {
+    stems.push(Stem { part: Expression, form: STRUCT, detail: 0, operands: [None, None] });
+    stems
+}
+
+/// Random plain trees of a family under any numbering, of up to so many nodes.
+pub fn random(family: Family, seed: u64, most_nodes: u16) -> impl Iterator<Item = NodeTable> {
+    let tree = move |index| family.tree(seed, index);
     (0..).map(tree).filter(move |tree| tree.count <= most_nodes)
 }

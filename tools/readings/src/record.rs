@@ -7,7 +7,7 @@
 //! - u16: how many cells are lent, for the table or for the tokens
 //! - u32: the length in bytes of what is read or written
 //! - u16: the reply, 0 or the refusal
-//! - u16: the context, 0 when refused
+//! - u16: in `readings` the context in which the list is read, also when refused; else 0
 //! - u16: the count, 0 when refused
 //!
 //! Then, in `readings`, the cells of the tokens, code and symbol, two bytes each, and when
@@ -19,17 +19,19 @@ use crate::commas::{self, Charts};
 use crate::lists;
 use crate::makers;
 use crate::plain::PlainTrees;
-use crate::trees;
+use crate::trees::{Random, Structs};
 use crate::written;
 use model::chart::Chart;
 use model::codes::*;
 use model::commas::before_closing;
-use model::forms::operator::ADD;
+use model::contexts::{self, CONDITION, MATCH_ARM, NONE, STATEMENT};
+use model::forms;
+use model::forms::operator::{ADD, EQ};
 use model::generate::{Dice, Family, SYMBOLS};
 use model::rules::Rules;
-use model::sizes::{MOST_CELLS, MOST_NODES, MOST_TOKENS, NODE_CELLS};
+use model::sizes::{LAST_CONTEXT, MOST_CELLS, MOST_NODES, MOST_TOKENS, NODE_CELLS};
 use model::sizes::{TOKEN_CELLS, TOKEN_CELLS_PER_NODE};
-use model::table::{self, NodeTable};
+use model::table::{self, NodeTable, FORM};
 use model::verdict::{self, Verdict};
 use std::path::PathBuf;
 
@@ -45,15 +47,22 @@ struct Records {
     replies: [usize; 17],
 }
 
+/// What is asked: a context, so many cells that are lent, and bytes.
+struct Asked<'a> {
+    context: u16,
+    lent: u16,
+    read: &'a [u8],
+}
+
 impl Records {
-    fn add(&mut self, lent: u16, read: &[u8], reply: &Verdict, each: usize) {
+    fn add(&mut self, Asked { context, lent, read }: Asked, reply: &Verdict, each: usize) {
         let (number, cells) = match reply {
             Ok(cells) => (0, &cells[..]),
             Err(refusal) => (*refusal, &[][..]),
         };
         self.replies[usize::from(number)] += 1;
         let (length, count) = (read.len(), cells.len() / each);
-        for number in [lent, length as u16, (length >> 16) as u16, number, 0, count as u16] {
+        for number in [lent, length as u16, (length >> 16) as u16, number, context, count as u16] {
             self.bytes.extend(number.to_le_bytes());
         }
         self.bytes.extend(read);
@@ -75,16 +84,54 @@ impl Records {
     }
 }
 
-/// Records a list with a table of so many cells lent.
-fn add_list(records: &mut Records, lent: u16, tokens: &[Token], verdict: &Verdict) {
-    add_cells(records, lent, &cells(tokens), verdict);
+/// Lists in context 0, with as many cells as the program `recorded` has.
+const IN_NONE: In = In { context: NONE, lent: LENT };
+
+/// A list that is read in a context, with a table of so many cells lent.
+#[derive(Copy, Clone)]
+struct In {
+    context: u16,
+    lent: u16,
 }
 
-/// The same for any cells.
-fn add_cells(records: &mut Records, lent: u16, cells: &[u16], verdict: &Verdict) {
-    let bytes: Vec<u8> = cells.iter().flat_map(|cell| cell.to_le_bytes()).collect();
-    let short = usize::from(lent) < MOST_CELLS;
-    records.add(lent, &bytes, if short { &Err(12) } else { verdict }, NODE_CELLS);
+impl In {
+    /// With as many cells as the program `recorded` has.
+    fn context(context: u16) -> In {
+        In { context, lent: LENT }
+    }
+
+    fn add(self, records: &mut Records, tokens: &[Token], verdict: &Verdict) {
+        self.add_cells(records, &cells(tokens), verdict);
+    }
+
+    /// The same for any cells.
+    fn add_cells(self, records: &mut Records, cells: &[u16], verdict: &Verdict) {
+        let In { context, lent } = self;
+        let bytes: Vec<u8> = cells.iter().flat_map(|cell| cell.to_le_bytes()).collect();
+        let first = verdict::before_tokens(context, lent.into()).map(Err);
+        let reply = first.as_ref().unwrap_or(verdict);
+        records.add(Asked { context, lent, read: &bytes }, reply, NODE_CELLS);
+    }
+
+    /// Reads any cells by the chart, and records what it gives.
+    fn read(self, records: &mut Records, chart: &mut Chart, cells: &[u16]) {
+        let verdict = verdict::of_cells(chart, self.context, cells).expect("at most one reading");
+        self.add_cells(records, cells, &verdict);
+    }
+}
+
+fn holds_struct(tokens: &[Token]) -> bool {
+    tokens.iter().any(|token| token.code == STRUCT)
+}
+
+/// The contexts in which a list is recorded: in a condition only if it holds a Struct, since
+/// otherwise the verdict is the same.
+fn contexts_of(tokens: &[Token]) -> &'static [u16] {
+    if holds_struct(tokens) {
+        &contexts::PLAIN
+    } else {
+        &[NONE]
+    }
 }
 
 /// Records a tree file with so many cells lent for tokens. Left out are tables that
@@ -94,7 +141,8 @@ fn add_tree(records: &mut Records, lent: u16, tree: &NodeTable) {
         return;
     }
     let reply = written::reply(tree, lent.into()).map(|tokens| cells(&tokens));
-    records.add(lent, &table::write(tree), &reply, TOKEN_CELLS);
+    let asked = Asked { context: 0, lent, read: &table::write(tree) };
+    records.add(asked, &reply, TOKEN_CELLS);
 }
 
 /// Commas before what closes something that follow a last item, and that do not: the lists
@@ -118,6 +166,39 @@ const COMMA_LISTS: [&[u16]; 16] = [
     &[NAME, OPEN, NAME, COMMA, GREATER, NAME, CLOSE],
 ];
 
+/// Structs outside every parenthesis, bracket and argument list, and inside one: the lists of
+/// Paper 5.
+const STRUCT_LISTS: [&[u16]; 28] = [
+    &[STRUCT],
+    &[OPEN, STRUCT, CLOSE],
+    &[OPEN, OPEN, STRUCT, CLOSE, CLOSE],
+    &[NAME, EQ, STRUCT],
+    &[NAME, EQ, OPEN, STRUCT, CLOSE],
+    &[OPEN, NAME, EQ, STRUCT, CLOSE],
+    &[STRUCT, EQ, NAME],
+    &[STRUCT, EQ, OPEN, STRUCT, CLOSE],
+    &[OPEN, STRUCT, CLOSE, EQ, STRUCT],
+    &[OPEN, STRUCT, ADD, STRUCT, CLOSE],
+    &[NAME, OPEN, STRUCT, CLOSE],
+    &[NAME, OPEN, NAME, COMMA, MINUS, STRUCT, COMMA, CLOSE],
+    &[NAME, DOT, NAME, OPEN, STRUCT, CLOSE],
+    &[NAME, OPEN_BRACKET, STRUCT, CLOSE_BRACKET],
+    &[NAME, OPEN_BRACKET, NAME, CLOSE_BRACKET, EQ, STRUCT],
+    &[NAME, OPEN, STRUCT, CLOSE, ADD, STRUCT],
+    &[STRUCT, OPEN, CLOSE],
+    &[STRUCT, DOT, NAME],
+    &[STRUCT, DOT, NAME, OPEN, CLOSE],
+    &[OPEN, STRUCT, DOT, NAME, CLOSE, OPEN, CLOSE],
+    &[OPEN, STRUCT, CLOSE, DOT, NAME, OPEN, CLOSE],
+    &[STRUCT, OPEN_BRACKET, NAME, CLOSE_BRACKET],
+    &[STRUCT, QUESTION],
+    &[MINUS, STRUCT],
+    &[NAME, EQUALS, STRUCT],
+    &[STRUCT, AS, NAME],
+    &[NAME, AS, STRUCT],
+    &[NAME, DOT, STRUCT],
+];
+
 /// Records lists with such commas: those above; of all short ones those that have a
 /// reading, and each fifth that has one without its commas alone; plain trees with commas
 /// after last items; random ones of both kinds; and ones at the bounds of 14 and 16.
@@ -125,10 +206,13 @@ fn add_commas(records: &mut Records) {
     let mut charts = Charts::new(None);
     let [mut read, mut nearly] = [0, 0];
     let mut add = |charts: &Charts| {
-        let verdict = verdict::verdict(&charts.chart).expect("at most one reading");
-        let counter = if charts.is_read() { &mut read } else { &mut nearly };
-        *counter += 1;
-        add_list(records, LENT, charts.chart.tokens(), &verdict);
+        let tokens = charts.chart.tokens();
+        for &context in contexts_of(tokens) {
+            let verdict = verdict::verdict(&charts.chart, context).expect("at most one reading");
+            let counter = if charts.is_read(context) { &mut read } else { &mut nearly };
+            *counter += 1;
+            In::context(context).add(records, tokens, &verdict);
+        }
     };
     for list in COMMA_LISTS {
         let places = (0..).zip(list);
@@ -140,35 +224,37 @@ fn add_commas(records: &mut Records) {
     for (_, codes, most) in lists::sets(1).into_iter().skip(1) {
         let most = most + commas::LONGER;
         commas::each_list(&mut charts, &codes, most, false, &mut |charts| {
-            passed += usize::from(charts.is_nearly_read());
-            if charts.is_read() || charts.is_nearly_read() && passed % 5 == 0 {
+            passed += usize::from(charts.is_nearly_read(NONE));
+            if charts.is_read(NONE) || charts.is_nearly_read(NONE) && passed % 5 == 0 {
                 add(charts);
             }
         });
     }
-    trees::random(SEED, 40, 40, |tree| {
-        commas::each_choice(tree, 2, |tokens| {
-            charts.read(&tokens);
-            add(&charts);
+    for (structs, trees) in [(Structs::Without, 40), (Structs::In(CONDITION), 20)] {
+        Random { structs, seed: SEED, trees, most_tokens: 40 }.each(|tree| {
+            commas::each_choice(tree, 2, |tokens| {
+                charts.read(&tokens);
+                add(&charts);
+            });
         });
-    });
+    }
     for index in 0..1_000 {
         charts.read(&makers::with_commas(&mut Dice::new(SEED, index), SEED, 40));
         let has_commas = !before_closing(charts.chart.tokens()).is_empty();
-        if has_commas && (charts.is_read() || charts.is_nearly_read()) {
+        if has_commas && (charts.is_read(NONE) || charts.is_nearly_read(NONE)) {
             add(&charts);
         }
     }
     eprintln!("with commas: read {read}, without a reading {nearly}");
     for (tokens, verdict) in makers::constructed_with_commas(SEED) {
         if tokens.len() <= 700 {
-            add_list(records, LENT, &tokens, &verdict);
+            IN_NONE.add(records, &tokens, &verdict);
         }
     }
     for (nodes, count) in [(MOST_NODES, 1), (MOST_NODES, 2), (MOST_NODES + 1, 1)] {
         let list = makers::with_last_comma(makers::type_arguments(nodes), count);
         let list = makers::named(list, &mut Dice::new(SEED, 1));
-        add_list(records, LENT, &list.0, &list.1);
+        IN_NONE.add(records, &list.0, &list.1);
     }
     // As many tokens as there may be, and one more, which is the comma.
     let [most, more] = [2, 1].map(|less| makers::MOST_PAIRS - less);
@@ -177,7 +263,7 @@ fn add_commas(records: &mut Records) {
     {
         assert_eq!(tokens.len(), MOST_TOKENS + usize::from(verdict == Err(14)));
         let list = makers::named((tokens, verdict), &mut Dice::new(SEED, 2));
-        add_list(records, LENT, &list.0, &list.1);
+        IN_NONE.add(records, &list.0, &list.1);
     }
 }
 
@@ -188,46 +274,72 @@ pub fn record() {
 
 /// All lists of up to 2 tokens; of those of up to 5 some that have a reading, and
 /// some that lack one and begin like one; random lists; each code with each symbol;
-/// constructed lists; and lists with commas before what closes something.
+/// constructed lists; other contexts; and lists with commas before what closes something.
+/// Lists that hold a Struct are recorded in both contexts.
 fn read_lists() -> Records {
     let mut records = Records::default();
     let mut chart = Chart::new(Rules::new(None));
-    let one = |chart: &Chart| verdict::verdict(chart).expect("at most one reading");
+    let one =
+        |chart: &Chart, context| verdict::verdict(chart, context).expect("at most one reading");
     let every: Vec<u16> = (0..CODES).collect();
     lists::each_list(&mut chart, &every, 2, &mut |chart| {
-        add_list(&mut records, LENT, chart.tokens(), &one(chart));
-    });
-    let (_, kinds, _) = lists::sets(0).swap_remove(1);
-    let (mut read, mut unread) = (0, 0);
-    lists::each_list(&mut chart, &kinds, 5, &mut |chart| {
-        let verdict = one(chart);
-        let long = chart.tokens().len() > 2;
-        let counter = if verdict.is_ok() { &mut read } else { &mut unread };
-        *counter += usize::from(long);
-        let step = if verdict.is_ok() { 5 } else { 10_007 };
-        if long && *counter % step == 0 {
-            add_list(&mut records, LENT, chart.tokens(), &verdict);
+        for &context in contexts_of(chart.tokens()) {
+            In::context(context).add(&mut records, chart.tokens(), &one(chart, context));
         }
     });
+    for list in STRUCT_LISTS {
+        for context in contexts::PLAIN {
+            In::context(context).read(&mut records, &mut chart, &cells(&tokens(list)));
+        }
+    }
+    chart.read(&[]);
+    let (_, kinds, _) = lists::sets(0).swap_remove(1);
+    // In context 0 the read and the unread ones; in a condition the read and the unread ones
+    // that hold a Struct, and of the latter those that only the condition keeps unread.
+    let [mut read, mut unread, mut held, mut barred] = [0; 4];
+    lists::each_list(&mut chart, &kinds, 5, &mut |chart| {
+        if chart.tokens().len() <= 2 {
+            return;
+        }
+        let verdict = one(chart, NONE);
+        let (counter, step) = if verdict.is_ok() { (&mut read, 5) } else { (&mut unread, 10_007) };
+        *counter += 1;
+        if *counter % step == 0 {
+            IN_NONE.add(&mut records, chart.tokens(), &verdict);
+        }
+        if verdict.is_ok() && holds_struct(chart.tokens()) {
+            let verdict = one(chart, CONDITION);
+            let (counter, step) = if verdict.is_ok() { (&mut held, 1) } else { (&mut barred, 5) };
+            *counter += 1;
+            if *counter % step == 0 {
+                In::context(CONDITION).add(&mut records, chart.tokens(), &verdict);
+            }
+        }
+    });
+    eprintln!("up to 5 tokens: in a condition read with a Struct {held}, barred {barred}");
     for index in 0..2_000 {
         let dice = &mut Dice::new(SEED, index);
         let mut tokens = makers::random(dice, SEED, 40);
         makers::misplace_symbol(dice, &mut tokens);
-        let verdict = verdict::of(&mut chart, &tokens).expect("at most one reading");
-        add_list(&mut records, LENT, &tokens, &verdict);
+        for &context in contexts_of(&tokens) {
+            In::context(context).read(&mut records, &mut chart, &cells(&tokens));
+        }
     }
     // Each symbol at each code, alone and behind a prefix; and half a token more.
     for code in 0..=CODES {
         for symbol in SYMBOLS {
             for list in [&[code, symbol][..], &[NOT, 0, code, symbol], &[code, symbol, NAME]] {
-                let verdict = verdict::of_cells(&mut chart, list).expect("at most one reading");
-                add_cells(&mut records, LENT, list, &verdict);
+                for &context in contexts_of(&[code.into()]) {
+                    In::context(context).read(&mut records, &mut chart, list);
+                }
             }
         }
     }
-    for (tokens, verdict) in makers::constructed(SEED) {
-        if tokens.len() <= 700 {
-            add_list(&mut records, LENT, &tokens, &verdict);
+    for context in contexts::PLAIN {
+        for (tokens, verdict) in makers::constructed(context, SEED) {
+            if tokens.len() <= 700 && contexts_of(&tokens).contains(&context) {
+                In::context(context).add(&mut records, &tokens, &verdict);
+            }
         }
     }
     for nodes in [MOST_NODES, MOST_NODES + 1] {
@@ -235,36 +347,44 @@ fn read_lists() -> Records {
         let called = makers::called(&tree, nodes).expect("a smaller tree");
         for list in [called, makers::type_arguments(nodes)] {
             let (tokens, verdict) = makers::named(list, &mut Dice::new(SEED, 3));
-            add_list(&mut records, LENT, &tokens, &verdict);
+            IN_NONE.add(&mut records, &tokens, &verdict);
         }
     }
     // As many tokens as there may be, and one more.
-    for (pairs, inner) in
-        [(makers::MOST_PAIRS, &[MINUS, NAME][..]), (makers::MOST_PAIRS + 1, &[NAME])]
-    {
+    for (pairs, inner, context) in [
+        (makers::MOST_PAIRS, &[MINUS, NAME][..], NONE),
+        (makers::MOST_PAIRS + 1, &[NAME], NONE),
+        (makers::MOST_PAIRS, &[STRUCT], CONDITION),
+    ] {
         let (tokens, verdict) = makers::grouped(pairs, inner);
         assert_eq!(tokens.len() > MOST_TOKENS, verdict == Err(14));
         let (tokens, verdict) = makers::named((tokens, verdict), &mut Dice::new(SEED, 4));
-        add_list(&mut records, LENT, &tokens, &verdict);
+        In::context(context).add(&mut records, &tokens, &verdict);
         // Half a token more.
         let odd = [&cells(&tokens)[..], &[NAME]].concat();
-        add_cells(&mut records, LENT, &odd, &Err(14));
+        In::context(context).add_cells(&mut records, &odd, &Err(14));
     }
-    for lent in [0, NODE_CELLS, MOST_CELLS - 1, MOST_CELLS].map(|cells| cells as u16) {
-        for list in [&[][..], &[NAME], &[NAME, ADD, NAME], &[ADD], &[CODES]] {
-            let list = tokens(list);
-            let verdict = verdict::of(&mut chart, &list).expect("at most one reading");
-            add_list(&mut records, lent, &list, &verdict);
+    // Of the context, the table and the tokens the first that is refused is told.
+    for context in [NONE, STATEMENT, MATCH_ARM, CONDITION, LAST_CONTEXT + 1, 65_535] {
+        for lent in [0, NODE_CELLS, MOST_CELLS - 1, MOST_CELLS].map(|cells| cells as u16) {
+            for list in [&[][..], &[NAME], &[NAME, ADD, NAME], &[ADD], &[STRUCT], &[CODES]] {
+                In { context, lent }.read(&mut records, &mut chart, &cells(&tokens(list)));
+            }
+            // An odd number of cells meets 12 first too.
+            In { context, lent }.add_cells(&mut records, &[NAME], &Err(14));
         }
-        // An odd number of cells meets 12 first too.
-        add_cells(&mut records, lent, &[NAME], &Err(14));
     }
     add_commas(&mut records);
     records
 }
 
-/// All trees of few nodes; random ones; such as are not plain, or not accepted; and
-/// buffers that are just long enough or one cell too short.
+/// Whether a tree has a Struct.
+fn has_struct(tree: &NodeTable) -> bool {
+    tree.cells.chunks(NODE_CELLS).any(|node| node[FORM] == forms::STRUCT)
+}
+
+/// All trees of few nodes, those with Structs in both contexts; random ones; such as are not
+/// plain, or not accepted; and buffers that are just long enough or one cell too short.
 fn written_trees() -> Records {
     let mut records = Records::default();
     for (labels, most_nodes) in
@@ -276,7 +396,24 @@ fn written_trees() -> Records {
             }
         }
     }
-    trees::random(SEED, 300, 40, |tree| add_tree(&mut records, LENT, tree));
+    for (labels, most_nodes) in
+        [(PlainTrees::every_and_struct(3), 3), (PlainTrees::narrow_and_struct(4), 4)]
+    {
+        for nodes in 1..=most_nodes {
+            let trees = (0..labels.with(nodes)).map(|index| labels.tree(nodes, index));
+            for tree in trees.filter(has_struct) {
+                for context in contexts::PLAIN {
+                    add_tree(&mut records, LENT, &NodeTable { context, ..tree.clone() });
+                }
+            }
+        }
+    }
+    for (structs, trees) in
+        [(Structs::Without, 300), (Structs::In(NONE), 20), (Structs::In(CONDITION), 100)]
+    {
+        let random = Random { structs, seed: SEED, trees, most_tokens: 40 };
+        random.each(|tree| add_tree(&mut records, LENT, tree));
+    }
     for index in 0..1_000 {
         let dice = &mut Dice::new(SEED, index);
         let tree = makers::table(dice, SEED);
@@ -289,10 +426,19 @@ fn written_trees() -> Records {
         add_tree(&mut records, TOKEN_CELLS_PER_NODE as u16 * tree.count, &tree);
         add_tree(&mut records, TOKEN_CELLS_PER_NODE as u16 * tree.count - 1, &tree);
     }
-    // The shorter buffer is met before the tree that is not plain.
+    // The shorter buffer is met before the tree that is not plain, or not in a context in
+    // which trees are written.
     for index in 0..20 {
         let tree = Family::Scans.tree(SEED, index);
         if tree.count < 100 {
+            add_tree(&mut records, TOKEN_CELLS_PER_NODE as u16 * tree.count - 1, &tree);
+        }
+    }
+    for context in [STATEMENT, MATCH_ARM] {
+        for index in 0..10 {
+            let drawn = makers::drawn(&mut Dice::new(SEED + 2, index), SEED + 2, 60);
+            let tree = NodeTable { context, ..drawn };
+            add_tree(&mut records, LENT, &tree);
             add_tree(&mut records, TOKEN_CELLS_PER_NODE as u16 * tree.count - 1, &tree);
         }
     }

@@ -1,14 +1,15 @@
 //! rustc as a judge: what it reads where the grammar gives a reading, and where
-//! an added pair is left out.
+//! an added pair is left out. What is read in context 3 stands as the condition of an `if`.
 
 use crate::ast;
 use crate::commas::{self, Charts};
 use crate::lists;
 use crate::makers;
-use crate::trees;
+use crate::trees::{self, Random, Structs};
 use crate::written::written;
 use model::chart::Chart;
 use model::codes::{self, text, Token, CLOSE, DOT, LITERAL, MEMBER, OPEN};
+use model::contexts::CONDITION;
 use model::generate::Dice;
 use model::rules::Rules;
 use model::table::NodeTable;
@@ -21,8 +22,9 @@ use std::time::Instant;
 /// Texts in one file.
 const BATCH: usize = 250;
 
-/// The parser of rustc, with a folder for its files.
+/// The parser of rustc, with a folder for its files, and the context of what it reads.
 struct Judge {
+    context: u16,
     file: PathBuf,
     runs: u64,
 }
@@ -36,16 +38,20 @@ enum Read {
 }
 
 impl Judge {
-    fn new() -> Self {
+    fn new(context: u16) -> Self {
         let name = format!("readings-{}.rs", std::process::id());
-        Judge { file: std::env::temp_dir().join(name), runs: 0 }
+        Judge { context, file: std::env::temp_dir().join(name), runs: 0 }
     }
 
     /// What rustc reads for each text of one file, if it has no error.
     fn file(&mut self, texts: &[String]) -> Option<Vec<Read>> {
         self.runs += 1;
-        let lets: String = texts.iter().map(|text| format!("let _ = {text} ;\n")).collect();
-        std::fs::write(&self.file, format!("fn f() {{\n{lets}}}\n"))
+        let line = |text: &String| match self.context {
+            CONDITION => format!("if {text} {{ }}\n"),
+            _ => format!("let _ = {text} ;\n"),
+        };
+        let lines: String = texts.iter().map(line).collect();
+        std::fs::write(&self.file, format!("fn f() {{\n{lines}}}\n"))
             .expect("a file can be written");
         let output = Command::new("rustc")
             .env("RUSTC_BOOTSTRAP", "1")
@@ -58,7 +64,7 @@ impl Judge {
             return None;
         }
         let printed = String::from_utf8(output.stdout).expect("rustc prints UTF-8");
-        let read: Vec<Read> = ast::tables(&printed)
+        let read: Vec<Read> = ast::tables(&printed, self.context)
             .into_iter()
             .map(|table| table.map_or_else(Read::Other, Read::Tree))
             .collect();
@@ -111,9 +117,9 @@ struct Judged {
 }
 
 impl Judged {
-    fn new() -> Self {
+    fn new(context: u16) -> Self {
         Judged {
-            judge: Judge::new(),
+            judge: Judge::new(context),
             waiting: Vec::new(),
             agreed: 0,
             not_plain: 0,
@@ -173,8 +179,9 @@ impl Judged {
     fn print(mut self, name: &str, start: Instant) -> u64 {
         self.judged();
         println!(
-            "{name}: agreed {}, read as a tree that is not plain {}, different {}; calls of an await \
+            "{name}, context {}: agreed {}, read as a tree that is not plain {}, different {}; calls of an await \
              tried and refused {}, read {}; rustc ran {} times, {} s",
+            self.judge.context,
             self.agreed,
             self.not_plain,
             self.different,
@@ -187,24 +194,56 @@ impl Judged {
     }
 }
 
+/// What is judged: in which context, how many random trees, and how many texts one at a time.
+#[derive(Copy, Clone)]
+pub struct Asked {
+    pub context: u16,
+    pub trees: u64,
+    pub pairs: u64,
+    pub seed: u64,
+}
+
+impl Asked {
+    fn judged(self) -> Judged {
+        Judged::new(self.context)
+    }
+
+    /// The sets of its context, so many nodes smaller than they could be.
+    fn sets(self, smaller: usize) -> impl Iterator<Item = trees::Set> {
+        trees::sets(smaller).into_iter().filter(move |set| set.context == self.context)
+    }
+
+    /// The random trees of its context: those without Structs, and a quarter as many with
+    /// them; in a condition all have Structs.
+    fn random(self, seed: u64, trees: u64) -> Vec<Random> {
+        let random = |structs, trees| Random { structs, seed, trees, most_tokens: 40 };
+        match self.context {
+            CONDITION => vec![random(Structs::In(CONDITION), trees)],
+            context => {
+                vec![random(Structs::Without, trees), random(Structs::In(context), trees / 4)]
+            }
+        }
+    }
+}
+
 /// All trees of few nodes and random ones; left-out pairs, those without a reading
 /// one at a time; random lists that have a reading. Gives how many differ.
-pub fn compare(trees: u64, pairs: u64, seed: u64) -> u64 {
+pub fn compare(asked: Asked) -> u64 {
+    let Asked { context, trees, pairs, seed } = asked;
     let mut chart = Chart::new(Rules::new(None));
     let mut different = 0;
-    for set in trees::sets(2) {
-        let (mut judged, start) = (Judged::new(), Instant::now());
+    for set in asked.sets(2 - usize::from(context == CONDITION)) {
+        let (mut judged, start) = (asked.judged(), Instant::now());
         set.each(|tree| judged.list(written(tree).tokens, without_parens(tree)));
-        let name = format!("trees, {} up to {} nodes", set.name, set.most_nodes);
-        different += judged.print(&name, start);
+        different += judged.print(&format!("trees, {}", set.words()), start);
     }
-    let (mut judged, start) = (Judged::new(), Instant::now());
-    trees::random(seed, trees / 4, 40, |tree| {
-        judged.list(written(tree).tokens, without_parens(tree));
-    });
-    different += judged.print("trees, random up to 40 tokens", start);
+    for random in asked.random(seed, trees / 4) {
+        let (mut judged, start) = (asked.judged(), Instant::now());
+        random.each(|tree| judged.list(written(tree).tokens, without_parens(tree)));
+        different += judged.print(&format!("trees, {}", random.words()), start);
+    }
 
-    let (mut others, mut errors, start) = (Judged::new(), Judged::new(), Instant::now());
+    let (mut others, mut errors, start) = (asked.judged(), asked.judged(), Instant::now());
     let (mut left_out, mut same) = (0, 0);
     let mut leave_out = |tree: &NodeTable, most: u64| {
         let written = written(tree);
@@ -212,7 +251,7 @@ pub fn compare(trees: u64, pairs: u64, seed: u64) -> u64 {
         for &pair in &written.pairs {
             let tokens = written.without(pair);
             chart.read(&tokens);
-            match chart.readings().pop() {
+            match chart.readings(context).pop() {
                 Some(reading) if reading == meant => same += 1,
                 Some(reading) => others.list(tokens, reading),
                 None if errors.judge.runs < most => errors.error(&tokens),
@@ -221,31 +260,41 @@ pub fn compare(trees: u64, pairs: u64, seed: u64) -> u64 {
             left_out += 1;
         }
     };
-    for set in trees::sets(2) {
+    for set in asked.sets(2) {
         set.each(|tree| leave_out(tree, pairs / 2));
     }
-    trees::random(seed + 1, pairs / 4, 40, |tree| leave_out(tree, pairs));
+    for random in asked.random(seed + 1, pairs / 4) {
+        random.each(|tree| leave_out(tree, pairs));
+    }
     println!("left-out pairs {left_out}, of which with the same reading {same}");
     different += same;
     different += others.print("left-out pairs, read as another tree", start);
     different += errors.print("left-out pairs, without a reading", start);
 
     let make = |index| makers::random(&mut Dice::new(seed + 2, index), seed + 2, 40);
-    different + random(&mut chart, "random lists", (0..trees).map(make), pairs / 2)
+    different + random(asked, &mut chart, "random lists", (0..trees).map(make))
 }
 
-/// Lists that have a reading; and, one at a time, so many of those that have none.
+/// Lists that have a reading; and, one at a time, half as many as are asked for of those that
+/// have none, in a condition only such as hold a Struct.
 fn random(
+    asked: Asked,
     chart: &mut Chart,
     name: &str,
     lists: impl Iterator<Item = Vec<Token>>,
-    most: u64,
 ) -> u64 {
-    let (mut judged, mut errors, start) = (Judged::new(), Judged::new(), Instant::now());
+    let (mut judged, mut errors, start) = (asked.judged(), asked.judged(), Instant::now());
+    let is_wanted = |tokens: &[Token]| {
+        asked.context != CONDITION || tokens.iter().any(|token| token.code == codes::STRUCT)
+    };
     for tokens in lists {
-        match verdict::of(chart, &tokens) {
+        match verdict::of(chart, asked.context, &tokens) {
             Ok(Ok(table)) => judged.list(tokens, table),
-            Ok(Err(15)) if errors.judge.runs < most && is_as_spelled(&tokens) => {
+            Ok(Err(15))
+                if errors.judge.runs < asked.pairs / 2
+                    && is_wanted(&tokens)
+                    && is_as_spelled(&tokens) =>
+            {
                 errors.error(&tokens);
             }
             _ => {}
@@ -259,31 +308,33 @@ fn random(
 /// choice of lists in turn; all short lists that have a reading with their commas, and one
 /// at a time those that have one without their commas alone; random lists. Gives how many
 /// differ.
-pub fn commas(trees: u64, pairs: u64, seed: u64) -> u64 {
+pub fn commas(asked: Asked) -> u64 {
+    let Asked { context, trees, seed, .. } = asked;
     let mut different = 0;
     let each = |judged: &mut Judged, tree: &NodeTable| {
         let meant = without_parens(tree);
         commas::each_choice(tree, 3, |tokens| judged.list(tokens, meant.clone()));
     };
-    for set in trees::sets(1) {
-        let (mut judged, start) = (Judged::new(), Instant::now());
+    for set in asked.sets(1) {
+        let (mut judged, start) = (asked.judged(), Instant::now());
         set.each(|tree| each(&mut judged, tree));
-        let name = format!("trees with commas, {} up to {} nodes", set.name, set.most_nodes);
-        different += judged.print(&name, start);
+        different += judged.print(&format!("trees with commas, {}", set.words()), start);
     }
-    let (mut judged, start) = (Judged::new(), Instant::now());
-    trees::random(seed, trees / 4, 40, |tree| each(&mut judged, tree));
-    different += judged.print("trees with commas, random up to 40 tokens", start);
+    for random in asked.random(seed, trees / 4) {
+        let (mut judged, start) = (asked.judged(), Instant::now());
+        random.each(|tree| each(&mut judged, tree));
+        different += judged.print(&format!("trees with commas, {}", random.words()), start);
+    }
 
-    let (mut judged, mut errors, start) = (Judged::new(), Judged::new(), Instant::now());
+    let (mut judged, mut errors, start) = (asked.judged(), asked.judged(), Instant::now());
     let mut charts = Charts::new(None);
     for (_, codes, most) in lists::sets(2) {
         let most = most + commas::LONGER;
         commas::each_list(&mut charts, &codes, most, false, &mut |charts| {
             let tokens = charts.chart.tokens();
-            if charts.is_read() {
-                judged.list(tokens.to_vec(), charts.chart.readings().swap_remove(0));
-            } else if charts.is_nearly_read() && is_as_spelled(tokens) {
+            if charts.is_read(context) {
+                judged.list(tokens.to_vec(), charts.chart.readings(context).swap_remove(0));
+            } else if charts.is_nearly_read(context) && is_as_spelled(tokens) {
                 errors.error(tokens);
             }
         });
@@ -293,7 +344,7 @@ pub fn commas(trees: u64, pairs: u64, seed: u64) -> u64 {
 
     let make = |index| makers::with_commas(&mut Dice::new(seed + 3, index), seed + 3, 40);
     let lists = (0..trees).map(make);
-    different + random(&mut charts.chart, "random lists with commas put in", lists, pairs / 2)
+    different + random(asked, &mut charts.chart, "random lists with commas put in", lists)
 }
 
 /// Whether a list means to rustc what it means here: `&&` before an operand is two

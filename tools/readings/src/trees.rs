@@ -8,7 +8,8 @@ use crate::written::{self, written};
 use model::chart::Chart;
 use model::codes::{text, Token};
 use model::commas;
-use model::generate::Dice;
+use model::contexts::{self, NONE};
+use model::generate::{Dice, Family};
 use model::rules::Rules;
 use model::sizes::{MOST_CELLS, MOST_FILE_BYTES, TOKEN_CELLS_PER_NODE};
 use model::table::numbers;
@@ -52,7 +53,7 @@ impl Tally {
             self.differs("a comma after a last item", tokens);
         }
         chart.read(tokens);
-        match &chart.readings()[..] {
+        match &chart.readings(tree.context)[..] {
             [] => self.differs("no reading", tokens),
             [reading] if *reading == meant => {}
             [_] => self.differs("another reading", tokens),
@@ -62,7 +63,7 @@ impl Tally {
             self.pairs += 1;
             let left_out = written.without(pair);
             chart.read(&left_out);
-            let readings = chart.readings();
+            let readings = chart.readings(tree.context);
             self.others += u64::from(!readings.is_empty());
             // By shape: a pair is not needed because of a symbol.
             if readings.iter().any(|reading| erased(reading) == erased(&meant)) {
@@ -73,14 +74,14 @@ impl Tally {
         if ours.write(tree, lent).is_some_and(|ours| ours.as_ref() != Ok(tokens)) {
             self.differs("we write otherwise", tokens);
         }
-        if ours.read(tokens, MOST_CELLS).is_some_and(|ours| ours != Ok(meant)) {
+        if ours.read(tree.context, tokens, MOST_CELLS).is_some_and(|ours| ours != Ok(meant)) {
             self.differs("we read otherwise", tokens);
         }
     }
 
-    fn print(&self, name: &str, start: Instant) {
+    fn print(&self, name: &str, context: u16, start: Instant) {
         println!(
-            "{name}: trees {}, tokens {}, longest {}, pairs left out {}, another tree {}, none {}, \
+            "{name}, context {context}: trees {}, tokens {}, longest {}, pairs left out {}, another tree {}, none {}, \
              different {}, {} s",
             self.trees,
             self.tokens,
@@ -104,51 +105,122 @@ fn erased(cells: &[u16]) -> Vec<u16> {
     cells
 }
 
-/// A set of trees: labels, and the nodes of the largest.
+/// A set of trees: labels, the nodes of the largest, and a context.
 pub struct Set {
     pub name: &'static str,
     pub trees: PlainTrees,
     pub most_nodes: usize,
+    pub context: u16,
 }
 
 impl Set {
     pub fn each(&self, mut visit: impl FnMut(&NodeTable)) {
         for nodes in 1..=self.most_nodes {
             for index in 0..self.trees.with(nodes) {
-                visit(&self.trees.tree(nodes, index));
+                visit(&NodeTable { context: self.context, ..self.trees.tree(nodes, index) });
             }
         }
+    }
+
+    /// The set in words.
+    pub fn words(&self) -> String {
+        format!("{} up to {} nodes", self.name, self.most_nodes)
     }
 }
 
 /// The sets that are gone through whole, so many nodes smaller than they could be.
 pub fn sets(smaller: usize) -> Vec<Set> {
-    let set = |name, trees: fn(usize) -> PlainTrees, most: usize| {
+    let set = |name, trees: fn(usize) -> PlainTrees, most: usize, context| {
         let most_nodes = most - smaller;
-        Set { name, trees: trees(most_nodes), most_nodes }
+        Set { name, trees: trees(most_nodes), most_nodes, context }
     };
-    vec![
-        set("every label", PlainTrees::every, 6),
-        set("kinds of labels", PlainTrees::kinds, 7),
-        set("narrow", PlainTrees::narrow, 8),
-    ]
+    let mut sets = vec![
+        set("every label", PlainTrees::every, 6, NONE),
+        set("kinds of labels", PlainTrees::kinds, 7, NONE),
+        set("narrow", PlainTrees::narrow, 8, NONE),
+    ];
+    for context in contexts::PLAIN {
+        sets.extend([
+            set("every label and Struct", PlainTrees::every_and_struct, 5, context),
+            set("kinds of labels and Struct", PlainTrees::kinds_and_struct, 6, context),
+            set("narrow and Struct", PlainTrees::narrow_and_struct, 7, context),
+        ]);
+    }
+    sets
 }
 
-/// Random trees, so many of each kind, with up to so many tokens.
-pub fn random(seed: u64, trees: u64, most_tokens: usize, mut visit: impl FnMut(&NodeTable)) {
-    let short = |tree: &NodeTable| written(tree).tokens.len() <= most_tokens;
-    let drawn = plain::random(seed, most_tokens as u16);
-    for tree in drawn.filter(short).take(trees as usize) {
-        visit(&tree);
+/// Which random trees: without Structs in context 0, or with them in a context.
+#[derive(Copy, Clone, PartialEq, Eq, Debug)]
+pub enum Structs {
+    Without,
+    In(u16),
+}
+
+impl Structs {
+    pub const ALL: [Structs; 3] =
+        [Structs::Without, Structs::In(NONE), Structs::In(contexts::CONDITION)];
+
+    pub fn context(self) -> u16 {
+        match self {
+            Structs::Without => NONE,
+            Structs::In(context) => context,
+        }
     }
-    for labels in [PlainTrees::every(20), PlainTrees::kinds(20), PlainTrees::narrow(20)] {
-        let drawn = (0..).map(|index| {
-            let dice = &mut Dice::new(seed, index);
-            labels.any(7 + dice.below(14), dice)
-        });
+
+    fn words(self) -> &'static str {
+        match self {
+            Structs::Without => "without Structs",
+            Structs::In(_) => "with Structs",
+        }
+    }
+}
+
+/// Random trees: so many of each kind, with up to so many tokens.
+pub struct Random {
+    pub structs: Structs,
+    pub seed: u64,
+    pub trees: u64,
+    pub most_tokens: usize,
+}
+
+impl Random {
+    pub fn each(&self, mut visit: impl FnMut(&NodeTable)) {
+        let Random { structs, seed, trees, most_tokens } = *self;
+        let context = structs.context();
+        let (family, labels) = match structs {
+            Structs::Without => (
+                Family::Plain,
+                [PlainTrees::every(20), PlainTrees::kinds(20), PlainTrees::narrow(20)],
+            ),
+            Structs::In(_) => (
+                Family::Structs,
+                [
+                    PlainTrees::every_and_struct(20),
+                    PlainTrees::kinds_and_struct(20),
+                    PlainTrees::narrow_and_struct(20),
+                ],
+            ),
+        };
+        let put = |tree: NodeTable| NodeTable { context, ..tree };
+        let short = |tree: &NodeTable| written(tree).tokens.len() <= most_tokens;
+        let drawn = plain::random(family, seed, most_tokens as u16).map(put);
         for tree in drawn.filter(short).take(trees as usize) {
             visit(&tree);
         }
+        for labels in labels {
+            let drawn = (0..).map(|index| {
+                let dice = &mut Dice::new(seed, index);
+                put(labels.any(7 + dice.below(14), dice))
+            });
+            for tree in drawn.filter(short).take(trees as usize) {
+                visit(&tree);
+            }
+        }
+    }
+
+    /// The trees in words.
+    pub fn words(&self) -> String {
+        format!("random up to {} tokens, {}", self.most_tokens, self.structs.words())
     }
 }
 
@@ -192,14 +264,17 @@ pub fn compare(ours: &mut Ours, smaller: usize, trees: u64, seed: u64) -> u64 {
     for set in sets(smaller) {
         let (mut tally, start) = (Tally::default(), Instant::now());
         set.each(|tree| tally.tree(&mut chart, ours, tree));
-        tally.print(&format!("{} up to {} nodes", set.name, set.most_nodes), start);
+        tally.print(&set.words(), set.context, start);
         different += tally.different;
     }
-    for (most_tokens, trees) in [(40, trees), (200, trees / 40)] {
-        let (mut tally, start) = (Tally::default(), Instant::now());
-        random(seed, trees, most_tokens, |tree| tally.tree(&mut chart, ours, tree));
-        tally.print(&format!("random up to {most_tokens} tokens"), start);
-        different += tally.different;
+    for structs in Structs::ALL {
+        for (most_tokens, trees) in [(40, trees), (200, trees / 40)] {
+            let (mut tally, start) = (Tally::default(), Instant::now());
+            let random = Random { structs, seed, trees, most_tokens };
+            random.each(|tree| tally.tree(&mut chart, ours, tree));
+            tally.print(&random.words(), structs.context(), start);
+            different += tally.different;
+        }
     }
     different + replies(ours, 2 * trees, seed) + damaged_files(ours, seed)
 }

@@ -4,14 +4,12 @@ use model::codes::Token;
 use model::sizes::{MOST_NODES, NODE_CELLS};
 use model::written::{self, Written};
 use model::NodeTable;
+use oracle::direct::context_of_root;
 use oracle::BuiltTree;
 
-/// NONE, as the oracle takes contexts.
-const NONE: [u16; 3] = [0, 0, 0];
-
-/// Whether each node has an outer pair in the crate's rows.
+/// Whether each node has an outer pair in the crate's rows, in the tree's context.
 fn pairs(tree: &NodeTable) -> Vec<bool> {
-    let rows = BuiltTree::new(tree.count, &tree.cells).printed(NONE);
+    let rows = BuiltTree::new(tree.count, &tree.cells).printed(context_of_root(tree.context));
     rows.iter().map(|row| row.is_some_and(|row| row.pair & 1 == 1)).collect()
 }
 
