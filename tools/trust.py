@@ -22,6 +22,7 @@ from pathlib import Path
 ROOTS = [
     'token_theorem/Statement',
     'token_plain/Commas',
+    'token_plain/Contexts',
     'file_save/Statement',
     'file_order/Statement',
     'file_loader/Files',
