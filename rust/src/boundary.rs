@@ -101,7 +101,7 @@ pub fn write(context: u16, count: u16, table: &[u16], tokens: &mut [u16]) -> u32
 /// Lists of more tokens than this are read on a stack of their own.
 const LONG: usize = 2_048;
 
-/// The longest lists were measured to take up to 4.0 MiB of it (docs/PERFORMANCE.md).
+/// The longest lists were measured to take up to 4.4 MiB of it (docs/PERFORMANCE.md).
 const STACK: usize = 16 << 20;
 
 /// Reads a token list, [`TOKEN_CELLS`] cells a token, in a context of
