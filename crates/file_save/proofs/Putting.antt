@@ -2,21 +2,19 @@
 use mathlib.Core.Path.{_≡_, sym, _∙_}
 use mathlib.Core.Bool.{true, false}
 use mathlib.Core.List.{List, _∷_}
-use Prim.Native.Nat.{ℕ, suc, _+_, _*_, _≤_, _<_}
+use Prim.Native.Nat.{ℕ, suc, _+_, _≤_, _<_}
 use native.Mathlib.Omega.{arith}
 use lib.ListN.{length, getD, take, length-append}
 use lib.Dec.{ltb}
 use borrow.Author.Tests.{ltb-false, le-ltb}
-use Rattle.tree.specs.Sizes.{mostNodes}
 use Rattle.laws.specs.Lists.{over}
 use Rattle.laws.specs.Puts.{Put}
 use Rattle.laws.proofs.Choice.{pick-true, pick-false}
 use Rattle.laws.proofs.Putting.{put-more, put-over}
 use Rattle.file_bytes.specs.Bytes.{bytesOf, allBytes}
-use Rattle.file_bytes.proofs.Numbers.{some-bytes}
-use Rattle.file_bytes.proofs.Several.{all-most, all-next}
+use Rattle.file_bytes.proofs.Several.{all-next}
 use Rattle.file_save.specs.declared.Saved.the-variants.{Refused, Bytes}
-use Rattle.file_save.specs.Stores.{nodeBytes, stored, storedAfter}
+use Rattle.file_save.specs.Stores.{stored, storedAfter}
 
 -- one number more
 pub put-next : {before mid after : List ℕ} {from at next : ℕ} (ns : List ℕ) (j : ℕ) → j < length ns → Put before from (allBytes (take j ns)) mid at → Put mid at (bytesOf (getD ns j 0)) after next → Put before from (allBytes (take (j + 1) ns)) after next
@@ -34,13 +32,6 @@ module _ (context count : ℕ) (numbers : List ℕ) where
   pub whole-long : length whole ≡ length (bytesOf context) + length (bytesOf count) + length (allBytes numbers)
   unfolding allBytes
   whole-long = simp length-append (omega arith)
-
-  pub whole-most : length whole ≤ 6 + 3 * length numbers
-  whole-most = let m = all-most (context ∷ count ∷ numbers) in omega arith
-
-  -- and of an accepted table fewer than a 16-bit number says
-  pub whole-few : length (allBytes numbers) ≤ nodeBytes * mostNodes → length whole < 65536
-  whole-few h = let l = whole-long in omega (arith, some-bytes context .1, some-bytes count .1)
 
   -- a buffer with room for it has room for its parts
   pub room-first : (lent : ℕ) → ltb lent (length whole) ≡ false → length whole ≤ lent

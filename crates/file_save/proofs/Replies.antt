@@ -8,14 +8,14 @@ use lib.Dec.{ltb}
 use lib.ListN.{length, take}
 use lib.Seq.{take-at, length-take-le}
 use borrow.Author.Tests.{eq-eqb, ne-eqb}
-use Rattle.tree.specs.Sizes.{nodeCells, mostNodes}
+use Rattle.tree.specs.Sizes.{nodeCells}
 use Rattle.laws.specs.Lists.{over}
 use Rattle.laws.proofs.Choice.{pick-true, pick-false}
 use Rattle.laws.proofs.Lists.{length-over}
 use Rattle.tree.specs.Trees.{Tree, treeAt}
 use Rattle.tree_rules.specs.Refusals.{refusal, refuse, firstOf, Accepted}
 use Rattle.tree_rules.proofs.First.{stop, skip, no-more}
-use Rattle.tree_rules.proofs.Accepted.{count-bounds}
+use Rattle.tree_rules.proofs.Accepted.{context-most, count-bounds}
 use Rattle.tree_numbering.specs.Numbered.{size, numbered}
 use Rattle.tree_numbering.specs.Accepting.{numberingRefusal, numberedAfter}
 use Rattle.tree_numbering.proofs.Holds.{length-numbered}
@@ -26,8 +26,9 @@ use Rattle.file_bytes.specs.Bytes.{allBytes}
 use Rattle.file_save.specs.declared.Saved.{Saved}
 use Rattle.file_save.specs.declared.Saved.the-variants.{Refused}
 use Rattle.file_save.specs.Saves.{file, fileOf, saveRefusal12, saveRefusal, saved, savedAfter}
-use Rattle.file_save.specs.Stores.{nodeBytes, stored, storedAfter}
-use Rattle.file_save.proofs.Small.{few-bytes}
+use Rattle.file_save.specs.Stores.{Few, stored, storedAfter}
+use Rattle.file_save.proofs.Putting.{whole-long}
+use Rattle.file_save.proofs.Small.{bytes-one, bytes-two, few-bytes}
 
 module _ (context count : ℕ) (cells : List ℕ) where
   -- ---- a table that is refused
@@ -93,14 +94,18 @@ module _ (context count : ℕ) (cells : List ℕ) where
       unfolding over
       part-is = rw are-cells (take-at (numbered tree) _ (nodeCells * count) long)
 
-      part-few : (length (take (nodeCells * count) after) ≤ nodeCells * mostNodes) × (length (allBytes (take (nodeCells * count) after)) ≤ nodeBytes * mostNodes)
+      part-few : Few context count (take (nodeCells * count) after)
       unfolding numbered
       part-few =
           let l = part-length in
           let s = is-size in
+          let m = context-most context count cells ok in
           let k = count-bounds context count cells ok in
           let b = few-bytes tree 1 (omega arith) (accepted-sound context count cells ok 1 .not6) in
-          (omega arith, rw part-is (omega arith))
+          let p = bytes-one context (omega arith) in
+          let q = bytes-two count (omega arith) in
+          let w = whole-long context count (numbered tree) in
+          (omega arith, omega arith, rw part-is (omega arith))
 
       is-file : allBytes (context ∷ count ∷ take (nodeCells * count) after) ≡ fileOf context count cells
       unfolding file
@@ -132,7 +137,7 @@ module _ (context count : ℕ) (cells own : List ℕ) (room : Accepted context c
     pub number-length : nodeCells * count ≡ length (take (nodeCells * count) after)
     number-length = sym (part-length context count cells ok own after (room ok) over-own)
 
-    pub number-few : (length (take (nodeCells * count) after) ≤ nodeCells * mostNodes) × (length (allBytes (take (nodeCells * count) after)) ≤ nodeBytes * mostNodes)
+    pub number-few : Few context count (take (nodeCells * count) after)
     number-few = part-few context count cells ok own after (room ok) over-own
 
     pub number-saved : (buffer last : List ℕ) (r : Saved)

@@ -102,10 +102,10 @@ small-cells (node l a b) i h e =
 
 -- ---- their bytes
 
-bytes-one : (n : ℕ) → n < 128 → length (bytesOf n) ≡ 1
+pub bytes-one : (n : ℕ) → n < 128 → length (bytesOf n) ≡ 1
 bytes-one n h = rw (one-of n h)
 
-bytes-two : (n : ℕ) → n < 16384 → length (bytesOf n) ≤ 2
+pub bytes-two : (n : ℕ) → n < 16384 → length (bytesOf n) ≤ 2
 bytes-two n h = go (decLe 128 n)
   where
     go : Dec (128 ≤ n) → length (bytesOf n) ≤ 2

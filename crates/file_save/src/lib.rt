@@ -11,7 +11,12 @@ ghost use Rattle.tree.specs.Sizes.{nodeCells, mostNodes};
 ghost use Rattle.tree_rules.specs.Refusals.{Accepted};
 ghost use Rattle.file_bytes.specs.Bytes.{bytesOf, allBytes};
 ghost use Rattle.file_save.specs.Saves.{saved, savedAfter};
-ghost use Rattle.file_save.specs.Stores.{nodeBytes, stored, storedAfter};
+ghost use Rattle.file_save.specs.Stores.{Few, stored, storedAfter};
+
+// The most bytes of an accepted table's context and count, and of a node.
+const HEADER_BYTES: usize = 3;
+
+const NODE_BYTES: usize = 10;
 
 // What saving answers.
 pub enum Saved {
@@ -85,12 +90,12 @@ fn put_all(file: &mut [u8], from: usize, numbers: &[u16]) -> usize
 
 // ---- files
 
-// Whether so many bytes are too few for a context, a count and the numbers of the nodes. They are counted only where three bytes a number might be too many.
+// Whether so many bytes are too few for a context, a count and the numbers of the nodes. They are counted only where the most that so many nodes take might be too many.
 fn is_short(context: u16, count: u16, numbers: &[u16], lent: usize) -> bool
-    requires { ⌜ length (now numbers) ≤ nodeCells * mostNodes ⌝ }
+    requires { ⌜ Few context count (now numbers) ⌝ }
     ensures { λ r. ⌜ r ≡ ltb lent (length (allBytes (context ∷ count ∷ now (numbers .entry)))) ⌝ }
 {
-    if 6 + 3 * numbers.len() <= lent {
+    if HEADER_BYTES + NODE_BYTES * (count as usize) <= lent {
         return false;
     }
     let bytes = long(context) + long(count) + all_long(numbers);
@@ -99,7 +104,7 @@ fn is_short(context: u16, count: u16, numbers: &[u16], lent: usize) -> bool
 
 // A context, a count and the numbers of the nodes as a file, where the buffer has room for it. Nothing is stored before that is known.
 fn store(context: u16, count: u16, numbers: &[u16], file: &mut [u8]) -> Saved
-    requires { ⌜ (length (now numbers) ≤ nodeCells * mostNodes) × (length (allBytes (now numbers)) ≤ nodeBytes * mostNodes) ⌝ }
+    requires { ⌜ Few context count (now numbers) ⌝ }
     ensures { λ r. ⌜ r ≡ stored (allBytes (context ∷ count ∷ now (numbers .entry))) (length (now (file .entry))) ⌝ }
     ensures { λ r. ⌜ now (file .exit) ≡ storedAfter (allBytes (context ∷ count ∷ now (numbers .entry))) (now (file .entry)) ⌝ }
 {

@@ -5,15 +5,14 @@ use lib.Dec.{ltb}
 use lib.ListN.{length}
 use borrow.Author.Tests.{le-ltb}
 use Rattle.laws.proofs.Calls.{free}
-use Rattle.file_save.proofs.Putting.{whole, whole-long, whole-most}
+use Rattle.file_save.proofs.Putting.{whole, whole-long}
 use borrow.Author.Needs.{needs}
 use Rattle.file_save.proofs.is_short.Statement.{statement}
 use Rattle.file_save.proofs.is_short.Tie as tie
 
 returns : tie.Need-returns
 returns c =
-    let m = whole-most (c .before .before .args .context) (c .before .before .args .count) (c .before .before .args .numbers .now) in
-    sym (le-ltb (c .before .before .args .lent) (length (whole (c .before .before .args .context) (c .before .before .args .count) (c .before .before .args .numbers .now))) (omega arith))
+    sym (le-ltb (c .before .before .args .lent) (length (whole (c .before .before .args .context) (c .before .before .args .count) (c .before .before .args .numbers .now))) (omega (arith, c .before .before .pre .2)))
 
 returns-2 : tie.Need-returns-2
 returns-2 c =
@@ -26,7 +25,7 @@ returns-2 c =
 pub is-short-spec : {M : Type 1} → statement M
 is-short-spec =
     tie.close (tie.spec (λ c. search needs) (λ c. search needs) returns free free
-    (λ c. let l = whole-long (c .before .before .before .before .args .context) (c .before .before .before .before .args .count) (c .before .before .before .before .args .numbers .now) in let m = whole-most (c .before .before .before .before .args .context) (c .before .before .before .before .args .count) (c .before .before .before .before .args .numbers .now) in omega arith)
+    (λ c. let l = whole-long (c .before .before .before .before .args .context) (c .before .before .before .before .args .count) (c .before .before .before .before .args .numbers .now) in omega (arith, c .before .before .before .before .pre .2, c .before .before .before .before .pre .1))
     (λ c κs. search needs)
-    (λ c. let l = whole-long (c .before .before .before .before .before .args .context) (c .before .before .before .before .before .args .count) (c .before .before .before .before .before .args .numbers .now) in let m = whole-most (c .before .before .before .before .before .args .context) (c .before .before .before .before .before .args .count) (c .before .before .before .before .before .args .numbers .now) in omega arith)
+    (λ c. let l = whole-long (c .before .before .before .before .before .args .context) (c .before .before .before .before .before .args .count) (c .before .before .before .before .before .args .numbers .now) in omega (arith, c .before .before .before .before .before .pre .2, c .before .before .before .before .before .pre .1))
     returns-2)

@@ -1,7 +1,7 @@
 -- `file_save::store` meets its contract. Assumes nothing.
 use mathlib.Core.Path.{sym, _∙_}
 use native.Mathlib.Omega.{arith}
-use Rattle.file_save.proofs.Putting.{whole, whole-long, whole-few, room-first, put-whole, no-room, has-room}
+use Rattle.file_save.proofs.Putting.{whole, whole-long, room-first, put-whole, no-room, has-room}
 use borrow.Author.Needs.{needs}
 use Rattle.file_save.proofs.store.Statement.{statement}
 use Rattle.file_save.proofs.store.Tie as tie
@@ -29,12 +29,12 @@ put-all-requires c κs =
 
 cast-t16 : tie.Need-cast-t16
 cast-t16 c =
-    let m = whole-few (c .before .before .before .before .before .before .before .before .before .before .before .before .before .before .before .before .args .context) (c .before .before .before .before .before .before .before .before .before .before .before .before .before .before .before .before .args .count) (c .before .before .before .before .before .before .before .before .before .before .before .before .before .before .before .before .args .numbers .now) (c .before .before .before .before .before .before .before .before .before .before .before .before .before .before .before .before .pre .1) in
+    let m = c .before .before .before .before .before .before .before .before .before .before .before .before .before .before .before .before .pre in
     let l = whole-long (c .before .before .before .before .before .before .before .before .before .before .before .before .before .before .before .before .args .context) (c .before .before .before .before .before .before .before .before .before .before .before .before .before .before .before .before .args .count) (c .before .before .before .before .before .before .before .before .before .before .before .before .before .before .before .before .args .numbers .now) in
     let p = c .before .before .before .before .before .before .before .before .before .before .put .ensures in
     let q = c .before .before .before .before .before .before .put2 .ensures in
     let r = c .before .before .put-all .ensures in
-    omega (arith, p .ends, q .ends, r .ends)
+    omega (arith, m .1, m .2, p .ends, q .ends, r .ends)
 
 returns-2 : tie.Need-returns-2
 returns-2 c =
