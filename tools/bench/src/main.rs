@@ -4,7 +4,8 @@
 //!     cargo run --release                         nanoseconds a node
 //!     cargo run --release -- turns                the same, with cold trees
 //!     cargo run --release -- instructions         instructions a node, with valgrind
-//!     cargo run --release -- files                load, save and compare (files.rs)
+//!     cargo run --release -- files                load, save, compare, write and read (files.rs)
+//!     cargo run --release -- files instructions   the same, with valgrind
 //!     cargo run --release -- nests [FOLDER]       nests of 4 to 126 levels
 //!     cargo run --release -- slowest [FOLDER]     the slowest trees that a search finds
 //!     cargo run --release -- reads FILE..         reads of the table a node, with valgrind
@@ -65,6 +66,11 @@ fn main() -> ExitCode {
         ["turns"] => time_all(u64::MAX),
         ["instructions"] => count_all(),
         ["files"] => files::time_files(),
+        ["files", "instructions"] => files::count_files(),
+        ["files", "run", set, side] => match SETS.get(number(set)) {
+            Some(set) => files::run_files(set, number(side)),
+            None => return usage(),
+        },
         ["nests"] => nests::time_nests(None),
         ["nests", folder] => nests::time_nests(Some(folder)),
         ["slowest"] => nests::search_slowest(None),
@@ -88,7 +94,7 @@ fn main() -> ExitCode {
 }
 
 fn usage() -> ExitCode {
-    eprintln!("usage: bench [turns | instructions | files | nests [FOLDER] | slowest [FOLDER] | reads FILE.. | run SET SIDE TIMES], sets and sides from 0 on");
+    eprintln!("usage: bench [turns | instructions | files [instructions] | nests [FOLDER] | slowest [FOLDER] | reads FILE.. | run SET SIDE TIMES], sets and sides from 0 on");
     ExitCode::FAILURE
 }
 
@@ -131,7 +137,10 @@ fn count_all() {
     for (number, set) in SETS.iter().enumerate() {
         let groups = prepare(set, GROUP_NODES);
         let nodes = nodes(groups.iter().flatten()) as f64;
-        let counts = [0, 1, 2, 3].map(|side| instructions(number, side) as f64 / nodes);
+        let counts = [0, 1, 2, 3].map(|side| {
+            let words = ["run", &number.to_string(), &side.to_string(), "1"].map(String::from);
+            instructions("run_once", &words) as f64 / nodes
+        });
         line(set, &groups, &[counts]);
     }
 }
@@ -222,13 +231,15 @@ fn run_once(trees: &mut [Prepared], side: Side) {
     }
 }
 
-/// How many instructions `run_once` takes, as callgrind counts them. It counts one
-/// for each byte that `rep stosb` fills, as memset does for some kilobytes.
-fn instructions(set: usize, side: usize) -> u64 {
+/// How many instructions a function of this program takes when it is run with such words,
+/// as callgrind counts them. It counts one for each byte that `rep stosb` fills, as memset
+/// does for some kilobytes.
+fn instructions(function: &str, words: &[String]) -> u64 {
     let output = Command::new("valgrind")
-        .args(["--tool=callgrind", "--callgrind-out-file=/dev/null", "--toggle-collect=run_once"])
+        .args(["--tool=callgrind", "--callgrind-out-file=/dev/null"])
+        .arg(format!("--toggle-collect={function}"))
         .arg(std::env::current_exe().expect("a program that runs"))
-        .args(["run", &set.to_string(), &side.to_string(), "1"])
+        .args(words)
         .output()
         .expect("valgrind");
     let told = String::from_utf8_lossy(&output.stderr);
