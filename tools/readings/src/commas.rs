@@ -144,7 +144,8 @@ impl Both {
     }
 
     fn list(&mut self, charts: &Charts, ours: &mut Ours) {
-        self.0.iter_mut().for_each(|held| held.list(charts, ours));
+        let tells = |held: &&mut Held| lists::tells(held.tally.context, charts.chart.tokens());
+        self.0.iter_mut().filter(tells).for_each(|held| held.list(charts, ours));
     }
 
     fn print(&self, name: &str, start: Instant) -> u64 {

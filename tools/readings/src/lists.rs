@@ -144,6 +144,12 @@ pub fn at_place(code: u16, place: usize) -> Token {
     Token::new(code, if has_symbol(code) { BY_PLACE[place % BY_PLACE.len()] } else { 0 })
 }
 
+/// Whether a list is gone through in a context where all lists are: in a condition only if it
+/// holds a Struct, as it reads like elsewhere without one.
+pub fn tells(context: u16, tokens: &[Token]) -> bool {
+    context != contexts::CONDITION || tokens.iter().any(|token| token.code == codes::STRUCT)
+}
+
 /// All lists of up to so many tokens over some codes, in the order of their codes, with
 /// symbols by their places.
 pub fn each_list(chart: &mut Chart, codes: &[u16], length: usize, visit: &mut impl FnMut(&Chart)) {
@@ -197,8 +203,9 @@ pub fn compare(ours: &mut Ours, Asked { smaller, lists, seed, change }: Asked) -
     for (name, codes, most) in sets(smaller) {
         let (mut tallies, start) = (Tally::in_both(), Instant::now());
         each_list(&mut chart, &codes, most, &mut |chart| {
-            for tally in &mut tallies {
-                tally.list(ours, chart.tokens(), verdict::verdict(chart, tally.context));
+            let tokens = chart.tokens();
+            for tally in tallies.iter_mut().filter(|tally| tells(tally.context, tokens)) {
+                tally.list(ours, tokens, verdict::verdict(chart, tally.context));
             }
         });
         different += print_both(tallies, &name, start);

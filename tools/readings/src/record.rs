@@ -120,14 +120,10 @@ impl In {
     }
 }
 
-fn holds_struct(tokens: &[Token]) -> bool {
-    tokens.iter().any(|token| token.code == STRUCT)
-}
-
 /// The contexts in which a list is recorded: in a condition only if it holds a Struct, since
 /// otherwise the verdict is the same.
 fn contexts_of(tokens: &[Token]) -> &'static [u16] {
-    if holds_struct(tokens) {
+    if lists::tells(CONDITION, tokens) {
         &contexts::PLAIN
     } else {
         &[NONE]
@@ -307,7 +303,7 @@ fn read_lists() -> Records {
         if *counter % step == 0 {
             IN_NONE.add(&mut records, chart.tokens(), &verdict);
         }
-        if verdict.is_ok() && holds_struct(chart.tokens()) {
+        if verdict.is_ok() && lists::tells(CONDITION, chart.tokens()) {
             let verdict = one(chart, CONDITION);
             let (counter, step) = if verdict.is_ok() { (&mut held, 1) } else { (&mut barred, 5) };
             *counter += 1;

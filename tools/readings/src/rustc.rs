@@ -284,15 +284,12 @@ fn random(
     lists: impl Iterator<Item = Vec<Token>>,
 ) -> u64 {
     let (mut judged, mut errors, start) = (asked.judged(), asked.judged(), Instant::now());
-    let is_wanted = |tokens: &[Token]| {
-        asked.context != CONDITION || tokens.iter().any(|token| token.code == codes::STRUCT)
-    };
     for tokens in lists {
         match verdict::of(chart, asked.context, &tokens) {
             Ok(Ok(table)) => judged.list(tokens, table),
             Ok(Err(15))
                 if errors.judge.runs < asked.pairs / 2
-                    && is_wanted(&tokens)
+                    && lists::tells(asked.context, &tokens)
                     && is_as_spelled(&tokens) =>
             {
                 errors.error(&tokens);
