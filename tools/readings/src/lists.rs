@@ -284,8 +284,25 @@ fn any_cells(ours: &mut Ours, seed: u64, lists: u64) -> u64 {
     different
 }
 
+/// The verdict on bytes on the standard input of the program `reading`: 14 for a context that
+/// is malformed or missing, then what the context is refused by, then 14 for any other number
+/// that is malformed.
+fn of_bytes(chart: &mut Chart, bytes: &[u8]) -> Verdict {
+    let first = bytes.split_inclusive(|byte| byte & 0x80 == 0).next();
+    let Some(context) = first.and_then(cells_of).map(|cells| cells[0]) else {
+        return Err(14);
+    };
+    if let Some(refusal) = verdict::before_tokens(context, MOST_CELLS) {
+        return Err(refusal);
+    }
+    match cells_of(bytes) {
+        Some(cells) => verdict::of_cells(chart, context, &cells[1..]).expect("at most one reading"),
+        None => Err(14),
+    }
+}
+
 /// Bytes on the standard input of the program `reading`, some with a malformed
-/// number, which is met by 14.
+/// number.
 fn damaged_numbers(ours: &mut Ours, seed: u64) -> u64 {
     if ours.is_lent() || !ours.is_slow() {
         return 0;
@@ -304,15 +321,8 @@ fn damaged_numbers(ours: &mut Ours, seed: u64) -> u64 {
         if dice.percent(3) {
             bytes.truncate(dice.below(3));
         }
-        let numbers = cells_of(&bytes);
-        // A number that is malformed, or the context that is missing, is met by 14.
-        let verdict = match numbers.as_deref() {
-            Some([context, cells @ ..]) => {
-                verdict::of_cells(&mut chart, *context, cells).expect("at most one reading")
-            }
-            _ => Err(14),
-        };
-        malformed += u64::from(numbers.is_none());
+        let verdict = of_bytes(&mut chart, &bytes);
+        malformed += u64::from(cells_of(&bytes).is_none());
         if ours.read_file(&bytes) != Some(verdict) {
             different += 1;
             println!("  we read otherwise: {bytes:?}");
