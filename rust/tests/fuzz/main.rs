@@ -188,7 +188,7 @@ fn random_bytes() {
     let mut tally = Tally::default();
     for index in 0..times() {
         let dice = &mut Dice::new(1, index);
-        let length = dice.pick(&[0, 1, 2, 3, 7, 12, 17, 60, 300]);
+        let length = dice.pick(&[0, 1, 2, 3, 8, 14, 20, 62, 300]);
         let most = dice.pick(&[4, 60, 130, 256]);
         let mut file: Vec<u8> = (0..length).map(|_| dice.below(most) as u8).collect();
         if length > 2 && dice.percent(60) {
