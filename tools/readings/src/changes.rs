@@ -44,9 +44,9 @@ fn noticed(change: Change) -> (u64, u64) {
 }
 
 /// Prints what tells of each change, and gives how many changes nothing tells.
-pub fn try_all() -> u64 {
+pub fn try_all(changes: impl Iterator<Item = Change>) -> u64 {
     let mut counts = [0u64; 4];
-    for change in Change::all() {
+    for change in changes {
         let (trees, lists) = noticed(change);
         println!("{change:?}: differences in trees {trees}, in lists {lists}");
         counts[2 * usize::from(trees == 0) + usize::from(lists == 0)] += 1;

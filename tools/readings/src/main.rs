@@ -27,7 +27,7 @@ const USAGE: &str = "usage:
   readings rustc TREES PAIRS [SEED]   rustc beside the readings, so many random trees and pairs
   readings commas rustc TREES PAIRS [SEED]   the part of it with such commas
   readings conditions rustc TREES PAIRS [SEED]   the part of it in context 3
-  readings changes               each rule changed: how many trees and lists tell
+  readings changes [CHANGE ..]   each rule changed, or these: how many trees and lists tell
   readings record                writes crates/recorded/data/readings and tokens
 OURS: absent, programs (target/bin/tokens and target/bin/reading), or with the feature library
       library (the static library of answers)
@@ -58,7 +58,12 @@ fn judged(part: Option<&str>, numbers: &[&str]) -> Option<u64> {
 fn run(arguments: &[&str]) -> Option<u64> {
     let number = |text: &&str| text.parse::<u64>().ok();
     match arguments {
-        ["changes"] => Some(changes::try_all()),
+        ["changes"] => Some(changes::try_all(Change::all())),
+        ["changes", names @ ..] => {
+            let changes: Option<Vec<Change>> =
+                names.iter().map(|name| Change::named(name)).collect();
+            Some(changes::try_all(changes?.into_iter()))
+        }
         ["record"] => {
             record::record();
             Some(0)
