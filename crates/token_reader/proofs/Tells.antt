@@ -5,7 +5,7 @@ use mathlib.Core.List.{List}
 use Prim.Native.Nat.{ℕ, _+_, _*_, _≤_, _<_}
 use native.Mathlib.Omega.{arith}
 use lib.ListN.{length}
-use Rattle.tree.specs.Sizes.{nodeCells, tokenCells, mostTokens}
+use Rattle.tree.specs.Sizes.{nodeCells, mostTokens}
 use Rattle.token_grammar.specs.Tokens.{Token}
 use Rattle.token_grammar.specs.Codes.{areTokens}
 use Rattle.token_grammar.specs.Parser.{Out, fail, ok, then}
@@ -31,8 +31,8 @@ tells-then Is Be tokens to to₂ (ok a rest) k t g f = subst (λ q. Tells Be tok
 
 -- ---- where reading can go on
 
-pub ready-start : (tokens own : List ℕ) → length tokens ≤ tokenCells * mostTokens → areTokens tokens ≡ true → length own ≡ nodeCells * mostTokens → Ready tokens own 0 mostTokens
-ready-start tokens own h k e = record { short = omega arith; known = k; cells = e; room = omega arith; most = omega arith; within = omega arith }
+pub ready-start : {tokens own : List ℕ} {free : ℕ} → many tokens ≤ free → free ≤ mostTokens → areTokens tokens ≡ true → nodeCells * free ≤ length own → Ready tokens own 0 free
+ready-start h m k e = record { short = omega arith; known = k; cells = e; room = omega arith; most = m; within = omega arith }
 
 pub ready-on : {tokens own : List ℕ} {at free : ℕ} (to : ℕ) → at ≤ to → to ≤ many tokens → Ready tokens own at free → Ready tokens own to free
 ready-on to h k r =
@@ -43,7 +43,7 @@ ready-grew to₂ h k r g =
     record {
       short = r .short;
       known = r .known;
-      cells = g .same ∙ r .cells;
+      cells = omega (arith, r .cells, g .same, g .less);
       room = omega (arith, r .room, g .room);
       most = omega (arith, r .most, g .less);
       within = k;

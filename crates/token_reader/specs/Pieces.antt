@@ -4,7 +4,7 @@ use mathlib.Core.Bool.{Bool, true, false, _&&_}
 use mathlib.Core.List.{List}
 use Prim.Native.Nat.{ℕ, _+_, _*_, _/_, _≤_, _<_}
 use lib.ListN.{length, drop, getD}
-use Rattle.tree.specs.Sizes.{nodeCells, tokenCells, mostTokens}
+use Rattle.tree.specs.Sizes.{nodeCells, tokenCells, mostNodes, mostTokens}
 use Rattle.tree.specs.Table.{firstAt, secondAt}
 use Rattle.tree.specs.Trees.{Tree, none, node, labelAt}
 use Rattle.token_grammar.specs.Tokens.{Token, Operator, operator, Lt, LeftParen, RightBracket, RightParen, operatorOf}
@@ -25,7 +25,7 @@ use Rattle.token_reader.specs.declared.Reply.the-variants.{Refused, Node
 use Rattle.token_reader.specs.declared.piece.Piece.{Piece}
 use Rattle.token_reader.specs.declared.piece.Parsed.{Parsed}
 
--- ---- the reader's own table: 24,576 nodes, the first `free` of which are not yet taken
+-- ---- the reader's own table: as many nodes as tokens or more, the first `free` of which are not yet taken
 
 -- the nodes that are taken are as they were
 abbrev pub Kept : List ℕ → List ℕ → ℕ → Type 0
@@ -49,12 +49,16 @@ pub record Stored (own now : List ℕ) (free left form detail first second symbo
 abbrev pub many : List ℕ → ℕ
 many tokens = length tokens / tokenCells
 
+-- tokens that can be read into a table
+abbrev pub Readable : List ℕ → List ℕ → Type 0
+Readable tokens table = (nodeCells * mostNodes ≤ length table) × (length tokens ≤ tokenCells * mostTokens) × (areTokens tokens ≡ true)
+
 -- where reading goes on: there are no fewer free nodes than unread tokens
 pub record Ready (tokens own : List ℕ) (at free : ℕ) : Type 0 where
   pub short : many tokens ≤ mostTokens
   pub known : areTokens tokens ≡ true
-  pub cells : length own ≡ nodeCells * mostTokens
-  pub room : mostTokens ≤ at + free
+  pub cells : nodeCells * free ≤ length own
+  pub room : many tokens ≤ at + free
   pub most : free ≤ mostTokens
   pub within : at ≤ many tokens
 

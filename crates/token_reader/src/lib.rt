@@ -12,9 +12,12 @@ use tree::sizes;
 use tree_numbering::Renumbered;
 use tree_numbering::renumber;
 ghost use mathlib.Core.Path.{_≡_};
+ghost use Prim.Native.Nat.{_*_, _≤_};
+ghost use lib.ListN.{length};
+ghost use Rattle.tree.specs.Sizes.{nodeCells, tokenCells, mostTokens};
 ghost use Rattle.token_grammar.specs.Codes.{areTokens};
 ghost use Rattle.token_reader.specs.Reading.{AnswersIn, Answers};
-ghost use Rattle.token_reader.specs.Pieces.{standsIn, replyOf};
+ghost use Rattle.token_reader.specs.Pieces.{standsIn, Readable, many, replyOf};
 
 // The cells of the most nodes, which a lent table must have.
 const TABLE: usize = sizes::NODE_CELLS * (sizes::MOST_NODES as usize);
@@ -22,8 +25,13 @@ const TABLE: usize = sizes::NODE_CELLS * (sizes::MOST_NODES as usize);
 // The cells of the most tokens.
 const TOKENS: usize = sizes::TOKEN_CELLS * sizes::MOST_TOKENS;
 
-// The nodes of the reader's own table: a node has a token of its own, so that one for each token is enough.
+// The most nodes of the reader's own table: a node has a token of its own, so that one for each token is enough.
 const OWN: u16 = sizes::MOST_TOKENS as u16;
+
+// The nodes of one that is quickly made, and the cells of as many tokens.
+const FEW: u16 = 512;
+
+const FEW_TOKENS: usize = sizes::TOKEN_CELLS * (FEW as usize);
 
 // The contexts that the reader takes.
 const NONE: u16 = 0;
@@ -66,6 +74,36 @@ fn reply_of(renumbered: Renumbered) -> Reply
     }
 }
 
+// The reading of tokens, in a condition or not, by way of a lent table of the reader's own.
+fn read_by(tokens: &[u16], own: &mut [u16], nodes: u16, table: &mut [u16], condition: bool) -> Reply
+    requires { ⌜ Readable (now tokens) (now table) × (many (now tokens) ≤ nodes) × (nodes ≤ mostTokens) × (nodeCells * nodes ≤ length (now own)) ⌝ }
+    ensures { λ r. ⌜ AnswersIn (standsIn condition) (now (tokens .entry)) (now (table .entry)) r (now (table .exit)) ⌝ }
+{
+    let whole = expr(tokens, own, 0, nodes, level::LOOSEST, condition);
+    if whole.at != tokens.len() / sizes::TOKEN_CELLS {
+        return Reply::Refused(15);
+    }
+    reply_of(renumber(own, OWN, whole.free + 1, table))
+}
+
+// The same for few tokens, with an array that is quickly made.
+fn read_small(tokens: &[u16], table: &mut [u16], condition: bool) -> Reply
+    requires { ⌜ Readable (now tokens) (now table) × (length (now tokens) ≤ tokenCells * 512) ⌝ }
+    ensures { λ r. ⌜ AnswersIn (standsIn condition) (now (tokens .entry)) (now (table .entry)) r (now (table .exit)) ⌝ }
+{
+    let mut own = [0u16; sizes::NODE_CELLS * (FEW as usize)];
+    read_by(tokens, &mut own, FEW, table, condition)
+}
+
+// The same for any number of tokens.
+fn read_large(tokens: &[u16], table: &mut [u16], condition: bool) -> Reply
+    requires { ⌜ Readable (now tokens) (now table) ⌝ }
+    ensures { λ r. ⌜ AnswersIn (standsIn condition) (now (tokens .entry)) (now (table .entry)) r (now (table .exit)) ⌝ }
+{
+    let mut own = [0u16; sizes::NODE_CELLS * sizes::MOST_TOKENS];
+    read_by(tokens, &mut own, OWN, table, condition)
+}
+
 // The reading of a token list, in a condition or not.
 fn read_in(tokens: &[u16], table: &mut [u16], condition: bool) -> Reply
     ensures { λ r. ⌜ AnswersIn (standsIn condition) (now (tokens .entry)) (now (table .entry)) r (now (table .exit)) ⌝ }
@@ -79,12 +117,10 @@ fn read_in(tokens: &[u16], table: &mut [u16], condition: bool) -> Reply
     if !are_tokens(tokens) {
         return Reply::Refused(14);
     }
-    let mut own = [0u16; sizes::NODE_CELLS * sizes::MOST_TOKENS];
-    let whole = expr(tokens, &mut own, 0, OWN, level::LOOSEST, condition);
-    if whole.at != tokens.len() / sizes::TOKEN_CELLS {
-        return Reply::Refused(15);
+    if tokens.len() <= FEW_TOKENS {
+        return read_small(tokens, table, condition);
     }
-    reply_of(renumber(&own, OWN, whole.free + 1, table))
+    read_large(tokens, table, condition)
 }
 
 // The reading of a token list into a lent table: how many nodes it has, or the first refusal that applies.
