@@ -12,36 +12,38 @@ use Rattle.expr.specs.Handed.{neither}
 use Rattle.expr.specs.Expr.{firstLines, handsFirst, secondLines, handsSecond}
 use Rattle.row.specs.Rows.{isExpression, outerPair, rowOf, ownContext, present, rowsOf}
 
+-- what stands in NONE and is tested by nobody: an index, an item of a list, what stands in parentheses of the tree's own
+module _ (l : Label) (a b : Tree) (x : FixupContext) where
+  pub index-handed : l .form ≡ ExprIndex → handsSecond x (node l a b) ≡ neither NONE b
+  unfolding handsSecond secondLines lookup pick
+  index-handed e = rw e
+
+  pub item-handed : l .form ≡ Link → handsFirst x (node l a b) ≡ neither NONE a
+  unfolding handsFirst firstLines lookup pick
+  item-handed e = rw e
+
+  pub paren-handed : l .form ≡ ExprParen → handsFirst x (node l a b) ≡ neither NONE a
+  unfolding handsFirst firstLines lookup pick
+  paren-handed e = rw e
+
 module _ (h : Handed) (l : Label) (a b : Tree) where
   abbrev here : Tree
   here = node l a b
 
-  index-handed : (x : FixupContext) → l .form ≡ ExprIndex → handsSecond x here ≡ neither NONE b
-  unfolding handsSecond secondLines lookup pick
-  index-handed x e = rw e
-
-  item-handed : (x : FixupContext) → l .form ≡ Link → handsFirst x here ≡ neither NONE a
-  unfolding handsFirst firstLines lookup pick
-  item-handed x e = rw e
-
-  paren-handed : (x : FixupContext) → l .form ≡ ExprParen → handsFirst x here ≡ neither NONE a
-  unfolding handsFirst firstLines lookup pick
-  paren-handed x e = rw e
-
   -- the rows of an index depend on the index alone
   pub index-local : l .form ≡ ExprIndex → rowsOf h here ≡ present (rowOf h here) (rowsOf (handsFirst (ownContext h here) here) a) (rowsOf (neither NONE b) b)
   unfolding rowsOf
-  index-local e = rw (index-handed (ownContext h here) e)
+  index-local e = rw (index-handed l a b (ownContext h here) e)
 
   -- the rows of an item of a list depend on the item alone
   pub item-local : l .form ≡ Link → rowsOf h here ≡ present (rowOf h here) (rowsOf (neither NONE a) a) (rowsOf (handsSecond (ownContext h here) here) b)
   unfolding rowsOf
-  item-local e = rw (item-handed (ownContext h here) e)
+  item-local e = rw (item-handed l a b (ownContext h here) e)
 
   -- the rows of what stands in parentheses of the tree's own depend on it alone
   pub paren-local : l .form ≡ ExprParen → rowsOf h here ≡ present (rowOf h here) (rowsOf (neither NONE a) a) (rowsOf (handsSecond (ownContext h here) here) b)
   unfolding rowsOf
-  paren-local e = rw (paren-handed (ownContext h here) e)
+  paren-local e = rw (paren-handed l a b (ownContext h here) e)
 
   own-reset : isExpression here ≡ true → outerPair h here ≡ true → ownContext h here ≡ NONE
   unfolding ownContext

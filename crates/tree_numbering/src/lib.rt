@@ -37,7 +37,7 @@ pub enum Renumbered {
 // ---- how large a tree is
 
 // How much of a room for nodes a tree leaves. The walk ends where the room does, also where nodes have several owners.
-fn room_after(table: &[u16], count: u16, node: u16, room: u16) -> u16
+pub fn room_after(table: &[u16], count: u16, node: u16, room: u16) -> u16
     ensures { λ r. ⌜ r ≡ room - size (treeAt (now (table .entry)) count node) ⌝ }
 {
     if node == 0 {
@@ -64,7 +64,7 @@ fn room_after(table: &[u16], count: u16, node: u16, room: u16) -> u16
 }
 
 // How many nodes the longest path from a node holds, list links not counted.
-fn levels_at(table: &[u16], count: u16, node: u16) -> u16
+pub fn levels_at(table: &[u16], count: u16, node: u16) -> u16
     ensures { λ r. ⌜ r ≡ levels (treeAt (now (table .entry)) count node) ⌝ }
 {
     if node == 0 {
@@ -89,7 +89,7 @@ fn levels_at(table: &[u16], count: u16, node: u16) -> u16
 // ---- numbering
 
 // The number that an operand gets after so many nodes; 0 where it is absent.
-fn number_after(operand: u16, done: u16) -> u16
+pub fn number_after(operand: u16, done: u16) -> u16
     requires { ⌜ done < 65535 ⌝ }
     ensures { λ r. ⌜ r ≡ pick (eqb operand 0) 0 (suc done) ⌝ }
 {
@@ -100,7 +100,7 @@ fn number_after(operand: u16, done: u16) -> u16
 }
 
 // A node of the table into the six cells after so many nodes, with its operands' new numbers.
-fn store(table: &[u16], node: u16, done: u16, first: u16, second: u16, out: &mut [u16])
+pub fn store(table: &[u16], node: u16, done: u16, first: u16, second: u16, out: &mut [u16])
     requires { ⌜ nodeCells * done + nodeCells ≤ length (now out) ⌝ }
     ensures { λ _. ⌜ now (out .exit) ≡ sets (now (out .entry)) (nodeCells * done) (formAt (now (table .entry)) node ∷ attributesAt (now (table .entry)) node ∷ detailAt (now (table .entry)) node ∷ first ∷ second ∷ symbolAt (now (table .entry)) node ∷ []) ⌝ }
 {
@@ -114,7 +114,7 @@ fn store(table: &[u16], node: u16, done: u16, first: u16, second: u16, out: &mut
 }
 
 // The nodes of the tree at a node after so many others; how many there are then. A node's own cells are known once its first operand has its numbers.
-fn number_from(table: &[u16], count: u16, node: u16, done: u16, out: &mut [u16]) -> u16
+pub fn number_from(table: &[u16], count: u16, node: u16, done: u16, out: &mut [u16]) -> u16
     requires { ⌜ (done + size (treeAt (now table) count node) ≤ mostNodes) × (nodeCells * (done + size (treeAt (now table) count node)) ≤ length (now out)) ⌝ }
     ensures nodes { λ r. ⌜ r ≡ done + size (treeAt (now (table .entry)) count node) ⌝ }
     ensures out { λ _. ⌜ now (out .exit) ≡ sets (now (out .entry)) (nodeCells * done) (cellsFrom (suc done) (treeAt (now (table .entry)) count node)) ⌝ }

@@ -102,6 +102,10 @@ unfoldable pub refusal : ℕ → ℕ → List ℕ → ℕ
 refusal context count cells =
     firstOf (refuse 3 (refusal3 context) ∷ refuse 4 (refusal4 count (length cells)) ∷ nodeRefusals count cells)
 
+-- the same, and after it other refusals: the number of the first that applies, or 0
+unfoldable pub refusalThen : ℕ → ℕ → List ℕ → ℕ → ℕ
+refusalThen context count cells others = pick (eqb (refusal context count cells) 0) others (refusal context count cells)
+
 -- "A tree is accepted when .. none of 3, 4 and 6 to 11 [applies] to its node table."
 abbrev pub Accepted : ℕ → ℕ → List ℕ → Type 0
 Accepted context count cells = refusal context count cells ≡ 0

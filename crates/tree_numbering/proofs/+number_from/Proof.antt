@@ -2,9 +2,10 @@
 use native.Mathlib.Omega.{arith}
 use borrow.Author.Needs.{needs}
 use Rattle.laws.proofs.Calls.{free, given-at, given-below}
-use Rattle.tree.proofs.Unfold.{left, left-falls, tree-zero, tree-past}
+use Rattle.tree.specs.Trees.{treeAt}
+use Rattle.tree.proofs.Unfold.{left, left-falls, tree-zero, tree-past, unfolds}
 use Rattle.tree_numbering.proofs.Sizes.{size-node}
-use Rattle.tree_numbering.proofs.Nodes.{written-none, written-by}
+use Rattle.tree_numbering.proofs.Nodes.{trees-stand, written-none, written-by}
 use Prim.Native.Nat.{ℕ}
 use borrow.Fn.PlainCycle.{Measures}
 use Rattle.tree_numbering.proofs.number_from.Reads as number-from
@@ -26,12 +27,12 @@ number-from-claims t = (operand-number-reads.Asked, operand-number-reads.Learnt,
 number-from-returns : (t : ℕ) → number-from-lts.Need-returns (number-from-claims t) (given-at 2 number-from-kinds.ps μ-number-from number-from.Pre t) number-from.Post
 number-from-returns t c =
     let a = c .before .before .before .args in
-    written-none (a .table .now) (a .count) (a .node) (a .done) (a .out .now) (rw (c .if1 .taken) (tree-zero _ _))
+    written-none (treeAt (a .table .now) (a .count)) (a .table .now) (a .count) (a .node) (a .done) (a .out .now) (rw (c .if1 .taken) (tree-zero _ _))
 
 number-from-returns-2 : (t : ℕ) → number-from-lts.Need-returns-2 (number-from-claims t) (given-at 2 number-from-kinds.ps μ-number-from number-from.Pre t) number-from.Post
 number-from-returns-2 t c =
     let a = c .before .before .before .before .args in
-    written-none (a .table .now) (a .count) (a .node) (a .done) (a .out .now) (tree-past _ _ _ (c .if2 .taken))
+    written-none (treeAt (a .table .now) (a .count)) (a .table .now) (a .count) (a .node) (a .done) (a .out .now) (tree-past _ _ _ (c .if2 .taken))
 
 number-from-add-number-from : (t : ℕ) → number-from-lts.Need-add-number-from (number-from-claims t) (given-at 2 number-from-kinds.ps μ-number-from number-from.Pre t) number-from.Post
 number-from-add-number-from t c =
@@ -100,7 +101,7 @@ number-from-returns-3 t c =
     let a = c .before .before .before .before .before .before .before .before .before .before .before .before .before .before .before .before .before .before .before .before .args in
     let u = c .before .before .before .before .before .before .before .before .before .before .before .before .before .before .before .before .before .if1 .left in
     let v = c .before .before .before .before .before .before .before .before .before .before .before .before .before .before .before .before .if2 .left in
-    written-by (a .table .now) (a .count) (a .node) (a .done) (a .out .now) (omega arith) (omega arith) _ (c .before .before .before .before .before .before .before .before .before .before .before .before .before .before .before .operand-number .ensures) _ (c .before .before .before .before .before .before .before .before .before .before .before .before .before .before .operand-number2 .ensures) _ _ (c .before .before .before .before .before .before .before .before .before .before .before .before .number-from .ensures) _ (c .before .before .before .before .before .before .before .before .before .number-after .ensures) _ (c .before .before .before .before .before .before .before .before .number-after2 .ensures) _ (c .before .before .before .before .before .before .store .ensures) _ _ (c .before .before .number-from2 .ensures)
+    written-by (treeAt (a .table .now) (a .count)) (a .table .now) (a .count) (a .node) (a .done) (a .out .now) (trees-stand _ _) (unfolds _ _ _ (omega arith) (omega arith)) _ (c .before .before .before .before .before .before .before .before .before .before .before .before .before .before .before .operand-number .ensures) _ (c .before .before .before .before .before .before .before .before .before .before .before .before .before .before .operand-number2 .ensures) _ _ (c .before .before .before .before .before .before .before .before .before .before .before .before .number-from .ensures) _ (c .before .before .before .before .before .before .before .before .before .number-after .ensures) _ (c .before .before .before .before .before .before .before .before .number-after2 .ensures) _ (c .before .before .before .before .before .before .store .ensures) _ _ (c .before .before .number-from2 .ensures)
 
 pub +number-from-spec : {M : Type 1} → statement M
 +number-from-spec =
