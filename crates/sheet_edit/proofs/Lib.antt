@@ -1,0 +1,9 @@
+pub mod Replaced
+pub mod Shelters
+pub mod Results
+pub mod Outputs
+pub mod Sizes
+pub mod Replies
+pub mod Own
+pub mod Runs
+pub mod Cases

@@ -1,0 +1,88 @@
+-- After any run of edits an open sheet is accepted, and its rows are those worked out afresh. Assumes nothing.
+use mathlib.Core.Path.{_≡_, refl, sym, ap, _∙_}
+use mathlib.Core.Bool.{Bool, true, false}
+use mathlib.Core.List.{List, [], _∷_, _++_}
+use Prim.Native.Nat.{ℕ, _+_, _*_, _≤_}
+use native.Mathlib.Omega.{arith}
+use lib.Dec.{eqb}
+use lib.ListN.{length, drop}
+use borrow.Author.Tests.{eq-eqb, eqb-true, ltb-false}
+use Rattle.laws.specs.Choice.{pick}
+use Rattle.laws.specs.Lists.{over}
+use Rattle.laws.proofs.Choice.{pick-true, pick-zero, or-false}
+use Rattle.tree.specs.Sizes.{rowCells}
+use Rattle.tree.specs.Trees.{Tree, treeAt}
+use Rattle.tree_rules.specs.Refusals.{refusalThen, Accepted}
+use Rattle.tree_rules.proofs.First.{none-applied}
+use Rattle.tree_rules.proofs.Accepted.{count-bounds}
+use Rattle.tree_numbering.specs.Numbered.{size, numbered}
+use Rattle.tree_numbering.proofs.Holds.{over-numbered}
+use Rattle.row.specs.Rows.{rowsOf, rowOf}
+use Rattle.row_walk.specs.Walk.{rootHanded, placed, decideRefusal12, decided, rowsAfter}
+use Rattle.row_walk.specs.Paths.{Branch, numberAt, treeBy, handedBy, rowIn}
+use Rattle.row_walk.proofs.Placed.{length-placed}
+use Rattle.row_walk.proofs.Paths.{row-at}
+use Rattle.sheet_edit.specs.Edits.{result, editRefusal, freshRows, tableAfter, editedRows}
+use Rattle.sheet_edit.specs.Runs.{Sheet, opened, Change, editOn, changed, ran, Right}
+use Rattle.sheet_edit.proofs.Replaced.{edited-accepted}
+use Rattle.sheet_edit.proofs.Replies.{Allowed, allowed}
+
+module _ (s : Sheet) (c : Change) where
+  -- the sheet after an edit that is not refused: whatever rows were handed in
+  abbrev Done : Sheet
+  Done =
+      record {
+        context = s .context;
+        count = size (result (editOn s c));
+        table = over (numbered (result (editOn s c))) (s .table);
+        rows = freshRows (s .context) (result (editOn s c)) (over (numbered (result (editOn s c))) (s .table)) (s .rows);
+      }
+
+  done-right : editRefusal (editOn s c) (length (s .table)) (length (s .rows)) ≡ 0 → Right Done
+  unfolding over
+  done-right z =
+      let w = allowed (editOn s c) (s .rows) z in
+      let a : Accepted (s .context) (size (result (editOn s c))) (over (numbered (result (editOn s c))) (s .table)) = edited-accepted (editOn s c) (w .sheet) (w .other) (w .named) (w .fits) (drop (length (numbered (result (editOn s c)))) (s .table)) in
+      let k = count-bounds (s .context) (size (result (editOn s c))) (over (numbered (result (editOn s c))) (s .table)) a in
+      let m = k .1 in
+      let t = over-numbered (result (editOn s c)) (s .table) (omega arith) in
+      let r = w .rows-room in
+      record {
+        accepted = a;
+        room = rw (length-placed (over (numbered (result (editOn s c))) (s .table)) (size (result (editOn s c))) 1 (rowsOf (rootHanded (s .context) (result (editOn s c))) (result (editOn s c))) (s .rows)) r;
+        rows-right = λ q there.
+            ap (λ (u : Tree). rowIn (placed (over (numbered (result (editOn s c))) (s .table)) (size (result (editOn s c))) 1 (rowsOf (rootHanded (s .context) u) u) (s .rows)) (numberAt (over (numbered (result (editOn s c))) (s .table)) (size (result (editOn s c))) 1 q)) (sym t)
+            ∙ row-at (over (numbered (result (editOn s c))) (s .table)) (size (result (editOn s c))) (s .context) a 1 q (rootHanded (s .context) (treeAt (over (numbered (result (editOn s c))) (s .table)) (size (result (editOn s c))) 1)) (s .rows) (omega arith) (k .0) r there;
+      }
+
+  pub changed-right : Right s → Right (changed s c)
+  unfolding changed tableAfter editedRows pick
+  changed-right right = go (eqb (editRefusal (editOn s c) (length (s .table)) (length (s .rows))) 0) refl
+    where
+      go : (b : Bool) → eqb (editRefusal (editOn s c) (length (s .table)) (length (s .rows))) 0 ≡ b → Right (changed s c)
+      go true e = rw e (done-right (eqb-true _ _ e))
+      go false e = rw e right
+
+pub ran-right : (s : Sheet) (cs : List Change) → Right s → Right (ran s cs)
+unfolding ran
+ran-right s [] right = right
+ran-right s (c ∷ cs) right = ran-right (changed s c) cs (changed-right s c right)
+
+-- a sheet that `decide` does not refuse is right once it is opened
+pub opened-right : (context count : ℕ) (cells rows scratch : List ℕ) → decided context count cells (length rows) (length scratch) ≡ 0
+    → Right (opened context count cells rows scratch)
+unfolding decided decideRefusal12 refusalThen rowsAfter
+opened-right context count cells rows scratch taken =
+    let p = none-applied context count cells (pick (decideRefusal12 count (length rows) (length scratch)) 12 0) taken in
+    let room = ltb-false _ _ (or-false _ _ (pick-zero _ 12 0 (omega arith) (p .1) .0) .0) in
+    rw (pick-true (placed cells count 1 (rowsOf (rootHanded context (treeAt cells count 1)) (treeAt cells count 1)) rows) rows (eq-eqb _ 0 taken))
+    (record {
+      accepted = p .0;
+      room = rw (length-placed cells count 1 (rowsOf (rootHanded context (treeAt cells count 1)) (treeAt cells count 1)) rows) room;
+      rows-right = λ q there. row-at cells count context (p .0) 1 q (rootHanded context (treeAt cells count 1)) rows (omega arith) (count-bounds context count cells (p .0) .0) room there;
+    })
+
+-- an opened sheet after any list of edits, refused ones among them
+pub edits : (context count : ℕ) (cells rows scratch : List ℕ) → decided context count cells (length rows) (length scratch) ≡ 0
+    → (cs : List Change) → Right (ran (opened context count cells rows scratch) cs)
+edits context count cells rows scratch taken cs = ran-right (opened context count cells rows scratch) cs (opened-right context count cells rows scratch taken)

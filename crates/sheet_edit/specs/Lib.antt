@@ -1,0 +1,5 @@
+pub mod Edits
+pub mod Steps
+pub mod Shelters
+pub mod Runs
+pub mod Cases

@@ -1,0 +1,58 @@
+-- Document 02, Paper 6: an open sheet, and what it is after any run of edits.
+use mathlib.Core.List.{List, [], _∷_}
+use mathlib.Core.Path.{_≡_}
+use Prim.Native.Nat.{ℕ, _*_, _≤_}
+use lib.Dec.{eqb}
+use lib.ListN.{length}
+use Rattle.laws.specs.Choice.{pick}
+use Rattle.tree.specs.Sizes.{rowCells}
+use Rattle.tree.specs.Trees.{treeAt}
+use Rattle.tree_rules.specs.Refusals.{Accepted}
+use Rattle.tree_numbering.specs.Numbered.{size}
+use Rattle.row.specs.Rows.{rowOf}
+use Rattle.row_walk.specs.Walk.{rootHanded, rowsAfter}
+use Rattle.row_walk.specs.Paths.{Branch, numberAt, treeBy, handedBy, rowIn}
+use Rattle.sheet_edit.specs.Edits.{Edit, editOf, result, editRefusal, tableAfter, editedRows}
+
+-- "a tree with its rows"
+pub record Sheet : Type 0 where
+  pub context : ℕ
+  pub count : ℕ
+  pub table : List ℕ
+  pub rows : List ℕ
+
+-- an opened sheet: a table, and the rows that `decide` gives it
+abbrev pub opened : ℕ → ℕ → List ℕ → List ℕ → List ℕ → Sheet
+opened context count cells rows scratch = record { context = context; count = count; table = cells; rows = rowsAfter context count cells rows scratch }
+
+-- a node, and the second tree's context, count and table
+pub record Change : Type 0 where
+  pub place : ℕ
+  pub second-context : ℕ
+  pub second-count : ℕ
+  pub second : List ℕ
+
+abbrev pub editOn : Sheet → Change → Edit
+editOn s c = editOf (s .context) (s .count) (s .table) (c .place) (c .second-context) (c .second-count) (c .second)
+
+-- the sheet after an edit, refused or not
+unfoldable pub changed : Sheet → Change → Sheet
+changed s c =
+    record {
+      context = s .context;
+      count = pick (eqb (editRefusal (editOn s c) (length (s .table)) (length (s .rows))) 0) (size (result (editOn s c))) (s .count);
+      table = tableAfter (editOn s c) (length (s .rows));
+      rows = editedRows (editOn s c) (s .rows);
+    }
+
+-- after edits one after the other
+unfoldable pub ran : Sheet → List Change → Sheet
+ran s [] = s
+ran s (c ∷ cs) = ran (changed s c) cs
+
+-- the tree is accepted, and each node, at whatever path it stands, has the row that the walk gives it
+pub record Right (s : Sheet) : Type 0 where
+  pub accepted : Accepted (s .context) (s .count) (s .table)
+  pub room : rowCells * s .count ≤ length (s .rows)
+  pub rows-right : (q : List Branch) → 1 ≤ numberAt (s .table) (s .count) 1 q
+      → rowIn (s .rows) (numberAt (s .table) (s .count) 1 q) ≡ rowOf (handedBy (rootHanded (s .context) (treeAt (s .table) (s .count) 1)) (treeAt (s .table) (s .count) 1) q) (treeBy (treeAt (s .table) (s .count) 1) q)

@@ -1,0 +1,342 @@
+// An open sheet's edit: the expression at a named node is replaced by another accepted tree.
+use row_walk::root_handed;
+use row_walk::walk_from;
+use tree::columns;
+use tree::forms;
+use tree::sizes;
+use tree::table::cell;
+use tree::table::form_at;
+use tree::table::operand_number;
+use tree_labels::form::class_of;
+use tree_labels::level::larger;
+use tree_labels::level::own_level;
+use tree_numbering::levels_at;
+use tree_numbering::number_after;
+use tree_numbering::number_from;
+use tree_numbering::room_after;
+use tree_numbering::store;
+use tree_one_pass::check;
+use tree_rules::refusal::is_plain_block;
+ghost use mathlib.Core.Path.{_≡_};
+ghost use mathlib.Core.Bool.{not, _&&_};
+ghost use Prim.Native.Nat.{suc, _+_, _*_, _≤_};
+ghost use lib.ListN.{length, take};
+ghost use lib.Seq.{sets};
+ghost use Rattle.laws.specs.Each.{some};
+ghost use Rattle.laws.specs.Lists.{over};
+ghost use Rattle.tree.specs.Sizes.{nodeCells, mostNodes};
+ghost use Rattle.tree.specs.Trees.{treeAt, levels};
+ghost use Rattle.tree_rules.specs.Refusals.{plainBlock};
+ghost use Rattle.tree_numbering.specs.Numbered.{size, cellsFrom, numbered};
+ghost use Rattle.sheet_edit.specs.Edits.{replacedAt, editOf, editRefusal, editReply, freshRows, tableAfter, editedRows};
+ghost use Rattle.sheet_edit.specs.Steps.{joined, ownsOutput, Fits};
+
+// What an edit answers.
+pub enum Edited {
+    // The number of the first refusal that applies.
+    Refused(u16),
+    // How many nodes the sheet now has.
+    Nodes(u16),
+}
+
+// ---- how deep the result is
+
+// How many nodes the longest path of the result from a node holds, list links not counted; `deep` is that of the second tree.
+fn levels_edited(
+    table: &[u16],
+    count: u16,
+    place: u16,
+    second: &[u16],
+    nodes: u16,
+    deep: u16,
+    node: u16,
+) -> u16
+    requires { ⌜ (count ≤ mostNodes) × (deep ≤ mostNodes) × (deep ≡ levels (treeAt (now second) nodes 1)) ⌝ }
+    ensures { λ r. ⌜ r ≡ levels (replacedAt (now (table .entry)) count place (treeAt (now (second .entry)) nodes 1) node) ⌝ }
+{
+    if node == 0 {
+        return 0;
+    }
+    if count < node {
+        return 0;
+    }
+    if node == place {
+        return deep;
+    }
+    let first = operand_number(table, count, node, columns::FIRST);
+    let one = levels_edited(table, count, place, second, nodes, deep, first);
+    let other = operand_number(table, count, node, columns::SECOND);
+    let two = levels_edited(table, count, place, second, nodes, deep, other);
+    own_level(table, node) + larger(one, two)
+}
+
+// ---- numbering
+
+// The nodes of the result below a node after so many others; how many there are then.
+fn number_edited(
+    table: &[u16],
+    count: u16,
+    place: u16,
+    second: &[u16],
+    nodes: u16,
+    node: u16,
+    done: u16,
+    out: &mut [u16],
+) -> u16
+    requires { ⌜ (1 ≤ nodes) × (done + size (replacedAt (now table) count place (treeAt (now second) nodes 1) node) ≤ mostNodes) × (nodeCells * (done + size (replacedAt (now table) count place (treeAt (now second) nodes 1) node)) ≤ length (now out)) ⌝ }
+    ensures reply { λ r. ⌜ r ≡ done + size (replacedAt (now (table .entry)) count place (treeAt (now (second .entry)) nodes 1) node) ⌝ }
+    ensures out { λ _. ⌜ now (out .exit) ≡ sets (now (out .entry)) (nodeCells * done) (cellsFrom (suc done) (replacedAt (now (table .entry)) count place (treeAt (now (second .entry)) nodes 1) node)) ⌝ }
+{
+    if node == 0 {
+        return done;
+    }
+    if count < node {
+        return done;
+    }
+    if node == place {
+        return number_from(second, nodes, 1, done, out);
+    }
+    let first = operand_number(table, count, node, columns::FIRST);
+    let other = operand_number(table, count, node, columns::SECOND);
+    let after = number_edited(table, count, place, second, nodes, first, done + 1, out);
+    store(
+        table,
+        node,
+        done,
+        number_after(first, done + 1),
+        number_after(other, after),
+        out,
+    );
+    number_edited(table, count, place, second, nodes, other, after, out)
+}
+
+// The first cells of the own array, over the start of the lent table.
+fn copy(own: &[u16], cells: usize, table: &mut [u16])
+    requires { ⌜ (cells ≤ length (now own)) × (cells ≤ length (now table)) ⌝ }
+    ensures { λ _. ⌜ now (table .exit) ≡ over (take cells (now (own .entry))) (now (table .entry)) ⌝ }
+{
+    let mut done = 0;
+    while done < cells {
+        table[done] = own[done];
+        done += 1;
+    }
+}
+
+// ---- 10, of the result
+
+// Whether a node is a closure with a written output that has the named node for its body.
+fn owns_output(table: &[u16], place: u16, node: u16) -> bool
+    ensures { λ r. ⌜ r ≡ ownsOutput (now (table .entry)) place node ⌝ }
+{
+    if cell(table, node, columns::FORM) != forms::EXPR_CLOSURE {
+        return false;
+    }
+    if cell(table, node, columns::DETAIL) != 1 {
+        return false;
+    }
+    cell(table, node, columns::FIRST) == place
+}
+
+fn some_output(table: &[u16], count: u16, place: u16) -> bool
+    ensures { λ r. ⌜ r ≡ some (ownsOutput (now (table .entry)) place) count ⌝ }
+{
+    let mut done: u16 = 0;
+    while done < count {
+        if owns_output(table, place, done + 1) {
+            return true;
+        }
+        done += 1;
+    }
+    false
+}
+
+// Whether the result has a closure with a written output and another body than a plain block: only the named node's owner can be one.
+fn breaks_output(table: &[u16], count: u16, place: u16, second: &[u16]) -> bool
+    ensures { λ r. ⌜ r ≡ (some (ownsOutput (now (table .entry)) place) count && not (plainBlock (now (second .entry)) 1)) ⌝ }
+{
+    if !some_output(table, count, place) {
+        return false;
+    }
+    !is_plain_block(second, 1)
+}
+
+// ---- the edit
+
+// The first refusal that applies to an edit, or 0, where the table for the result and its rows have so many cells. The result's size is known from the two counts and what is replaced.
+fn first_refusal(
+    context: u16,
+    count: u16,
+    table: &[u16],
+    place: u16,
+    other: u16,
+    nodes: u16,
+    second: &[u16],
+    cells: usize,
+    rows: usize,
+) -> u16
+    ensures { λ r. ⌜ r ≡ editRefusal (editOf context count (now (table .entry)) place other nodes (now (second .entry))) cells rows ⌝ }
+{
+    let one = check(context, count, table);
+    if one != 0 {
+        return one;
+    }
+    let two = check(other, nodes, second);
+    if two != 0 {
+        return two;
+    }
+    if class_of(form_at(table, count, place)) != 1 {
+        return 17;
+    }
+    let result = room_after(table, count, place, count) + nodes;
+    if result > sizes::MOST_NODES {
+        return 18;
+    }
+    if breaks_output(table, count, place, second) {
+        return 18;
+    }
+    let deep = levels_at(second, nodes, 1);
+    if levels_edited(table, count, place, second, nodes, deep, 1) > sizes::MOST_LEVELS {
+        return 18;
+    }
+    if cells < sizes::NODE_CELLS * (result as usize) {
+        return 12;
+    }
+    if rows < sizes::ROW_CELLS * (result as usize) {
+        return 12;
+    }
+    0
+}
+
+// The result over the table, numbered, and its rows; how many nodes there are. It is numbered into an array of its own, since the sheet is read meanwhile.
+fn replace(
+    context: u16,
+    count: u16,
+    table: &mut [u16],
+    rows: &mut [u16],
+    place: u16,
+    nodes: u16,
+    second: &[u16],
+    own: &mut [u16],
+) -> u16
+    requires { ⌜ Fits (joined (now table) count place (now second) nodes) nodes (length (now own)) (length (now table)) (length (now rows)) ⌝ }
+    ensures reply { λ r. ⌜ r ≡ size (joined (now (table .entry)) count place (now (second .entry)) nodes) ⌝ }
+    ensures table { λ _. ⌜ now (table .exit) ≡ over (numbered (joined (now (table .entry)) count place (now (second .entry)) nodes)) (now (table .entry)) ⌝ }
+    ensures rows { λ _. ⌜ now (rows .exit) ≡ freshRows context (joined (now (table .entry)) count place (now (second .entry)) nodes) (over (numbered (joined (now (table .entry)) count place (now (second .entry)) nodes)) (now (table .entry))) (now (rows .entry)) ⌝ }
+{
+    let done = number_edited(table, count, place, second, nodes, 1, 0, own);
+    copy(own, sizes::NODE_CELLS * (done as usize), table);
+    walk_from(root_handed(context, table, done), table, done, 1, rows);
+    done
+}
+
+// The same for a result of fewer than 64 nodes, with an array that is quickly made.
+fn replace_small(
+    context: u16,
+    count: u16,
+    table: &mut [u16],
+    rows: &mut [u16],
+    place: u16,
+    nodes: u16,
+    second: &[u16],
+) -> u16
+    requires { ⌜ Fits (joined (now table) count place (now second) nodes) nodes (nodeCells * 64) (length (now table)) (length (now rows)) ⌝ }
+    ensures reply { λ r. ⌜ r ≡ size (joined (now (table .entry)) count place (now (second .entry)) nodes) ⌝ }
+    ensures table { λ _. ⌜ now (table .exit) ≡ over (numbered (joined (now (table .entry)) count place (now (second .entry)) nodes)) (now (table .entry)) ⌝ }
+    ensures rows { λ _. ⌜ now (rows .exit) ≡ freshRows context (joined (now (table .entry)) count place (now (second .entry)) nodes) (over (numbered (joined (now (table .entry)) count place (now (second .entry)) nodes)) (now (table .entry))) (now (rows .entry)) ⌝ }
+{
+    let mut own = [0u16; sizes::NODE_CELLS * 64];
+    replace(context, count, table, rows, place, nodes, second, &mut own)
+}
+
+// The same for fewer than 512.
+fn replace_medium(
+    context: u16,
+    count: u16,
+    table: &mut [u16],
+    rows: &mut [u16],
+    place: u16,
+    nodes: u16,
+    second: &[u16],
+) -> u16
+    requires { ⌜ Fits (joined (now table) count place (now second) nodes) nodes (nodeCells * 512) (length (now table)) (length (now rows)) ⌝ }
+    ensures reply { λ r. ⌜ r ≡ size (joined (now (table .entry)) count place (now (second .entry)) nodes) ⌝ }
+    ensures table { λ _. ⌜ now (table .exit) ≡ over (numbered (joined (now (table .entry)) count place (now (second .entry)) nodes)) (now (table .entry)) ⌝ }
+    ensures rows { λ _. ⌜ now (rows .exit) ≡ freshRows context (joined (now (table .entry)) count place (now (second .entry)) nodes) (over (numbered (joined (now (table .entry)) count place (now (second .entry)) nodes)) (now (table .entry))) (now (rows .entry)) ⌝ }
+{
+    let mut own = [0u16; sizes::NODE_CELLS * 512];
+    replace(context, count, table, rows, place, nodes, second, &mut own)
+}
+
+// The same for any number of nodes that a table may have.
+fn replace_large(
+    context: u16,
+    count: u16,
+    table: &mut [u16],
+    rows: &mut [u16],
+    place: u16,
+    nodes: u16,
+    second: &[u16],
+) -> u16
+    requires { ⌜ Fits (joined (now table) count place (now second) nodes) nodes (nodeCells * mostNodes) (length (now table)) (length (now rows)) ⌝ }
+    ensures reply { λ r. ⌜ r ≡ size (joined (now (table .entry)) count place (now (second .entry)) nodes) ⌝ }
+    ensures table { λ _. ⌜ now (table .exit) ≡ over (numbered (joined (now (table .entry)) count place (now (second .entry)) nodes)) (now (table .entry)) ⌝ }
+    ensures rows { λ _. ⌜ now (rows .exit) ≡ freshRows context (joined (now (table .entry)) count place (now (second .entry)) nodes) (over (numbered (joined (now (table .entry)) count place (now (second .entry)) nodes)) (now (table .entry))) (now (rows .entry)) ⌝ }
+{
+    let mut own = [0u16; sizes::NODE_CELLS * (sizes::MOST_NODES as usize)];
+    replace(context, count, table, rows, place, nodes, second, &mut own)
+}
+
+// The expression at a node of an open sheet replaced by another accepted tree: the sheet's context, count, table and rows, the node, and the second tree.
+pub fn edit(
+    context: u16,
+    count: u16,
+    table: &mut [u16],
+    rows: &mut [u16],
+    node: u16,
+    second_context: u16,
+    second_count: u16,
+    second: &[u16],
+) -> Edited
+    ensures reply { λ r. ⌜ r ≡ editReply (editOf context count (now (table .entry)) node «second_context» «second_count» (now (second .entry))) (length (now (table .entry))) (length (now (rows .entry))) ⌝ }
+    ensures table { λ _. ⌜ now (table .exit) ≡ tableAfter (editOf context count (now (table .entry)) node «second_context» «second_count» (now (second .entry))) (length (now (rows .entry))) ⌝ }
+    ensures rows { λ _. ⌜ now (rows .exit) ≡ editedRows (editOf context count (now (table .entry)) node «second_context» «second_count» (now (second .entry))) (now (rows .entry)) ⌝ }
+{
+    let refused = first_refusal(
+        context,
+        count,
+        table,
+        node,
+        second_context,
+        second_count,
+        second,
+        table.len(),
+        rows.len(),
+    );
+    if refused != 0 {
+        return Edited::Refused(refused);
+    }
+    let most = count + second_count;
+    if most < 64 {
+        return Edited::Nodes(replace_small(
+            context,
+            count,
+            table,
+            rows,
+            node,
+            second_count,
+            second,
+        ));
+    }
+    if most < 512 {
+        return Edited::Nodes(replace_medium(
+            context,
+            count,
+            table,
+            rows,
+            node,
+            second_count,
+            second,
+        ));
+    }
+    Edited::Nodes(replace_large(context, count, table, rows, node, second_count, second))
+}
