@@ -22,9 +22,9 @@ use Rattle.row_walk.specs.Walk.{contexts, contextNumbered, rowStored, placed, d
 use Rattle.tree.specs.Operands.{formIn}
 use Rattle.laws.specs.Lists.{over}
 use Rattle.tree_numbering.specs.Numbered.{size, numberOf, cellsFrom, numbered}
-use Rattle.sheet_edit.specs.Edits.{replaced, refusal17, refusal18, editRefusal12, editRefusal, tableAfter, editedRows}
+use Rattle.sheet_edit.specs.Edits.{replaced, refusal17, refusal18, editRefusal12, editRefusal, resultTable, resultRows}
 use Rattle.sheet_edit.specs.Cases.{allHold}
 
 pub computed : allHold ≡ true
-unfolding pick lookup some classOf highestAttributes details highestDetail symbols highestSymbol allowed firstPlaces firstPlace secondPlaces secondPlace wrongClass wrongList wrongItem wrongNext wrongAt refusal3 refusal4 badNumbers refusal6 badOperands refusal7 misplaced badOrder owners badOwner refusal8 empty refusal9 plainBlock badOutput refusal10 refusal11 firstOf nodeRefusals refusal cellAt labelAt operandOf treeTo treeAt ownLevel levels follow walk atRoot operators ofBinop prefixAttrs ofLines closedBy precedenceOf commaLines requiresComma requiresSemi lastTypeInPath pathLines trailingPath labelLines leadingLabel parenthesize effective leftOfBinary scanLeftLines scanLeft binds consumes consumeBy loose scanned rightBy scanRight rightmostPrecedence bailsOut leftmostPrecedence canBeginExpr canBeginGenerics leftNeedsGroup rightNeedsGroup binaryLeft binaryRight callNeedsGroup firstLines handsFirst secondLines handsSecond groupedBy ungrouped neither ofBits flagsOf outerPair innerLines expressionRow rowOf ownContext rowsOf contexts contextNumbered rowStored placed decideRefusal12 decided rowsAfter assign binary prefix range jump bareJump lets closed scanLines isLet isStruct isBareReturn isOpenEnded isPlainBlock isBareJump isOpenAhead isCastToPath formIn over size numberOf cellsFrom numbered replaced refusalThen refusal17 refusal18 editRefusal12 editRefusal tableAfter editedRows
+unfolding pick lookup some classOf highestAttributes details highestDetail symbols highestSymbol allowed firstPlaces firstPlace secondPlaces secondPlace wrongClass wrongList wrongItem wrongNext wrongAt refusal3 refusal4 badNumbers refusal6 badOperands refusal7 misplaced badOrder owners badOwner refusal8 empty refusal9 plainBlock badOutput refusal10 refusal11 firstOf nodeRefusals refusal cellAt labelAt operandOf treeTo treeAt ownLevel levels follow walk atRoot operators ofBinop prefixAttrs ofLines closedBy precedenceOf commaLines requiresComma requiresSemi lastTypeInPath pathLines trailingPath labelLines leadingLabel parenthesize effective leftOfBinary scanLeftLines scanLeft binds consumes consumeBy loose scanned rightBy scanRight rightmostPrecedence bailsOut leftmostPrecedence canBeginExpr canBeginGenerics leftNeedsGroup rightNeedsGroup binaryLeft binaryRight callNeedsGroup firstLines handsFirst secondLines handsSecond groupedBy ungrouped neither ofBits flagsOf outerPair innerLines expressionRow rowOf ownContext rowsOf contexts contextNumbered rowStored placed decideRefusal12 decided rowsAfter assign binary prefix range jump bareJump lets closed scanLines isLet isStruct isBareReturn isOpenEnded isPlainBlock isBareJump isOpenAhead isCastToPath formIn over size numberOf cellsFrom numbered replaced refusalThen refusal17 refusal18 editRefusal12 editRefusal resultTable resultRows
 computed = refl

@@ -5,5 +5,6 @@ pub mod Outputs
 pub mod Sizes
 pub mod Replies
 pub mod Own
+pub mod Previews
 pub mod Runs
 pub mod Cases

@@ -20,7 +20,7 @@ use Rattle.tree_numbering.specs.Numbered.{size, numbered}
 use Rattle.tree_numbering.specs.Accepting.{numberingRefusal12, numberingRefusal, numberedAfter}
 use Rattle.tree_numbering.proofs.Sizes.{size-accepted}
 use Rattle.tree_sound.proofs.Accepts.{numbered-10, numbered-11, accepted-outputs}
-use Rattle.sheet_edit.specs.Edits.{replaced, refusal17, refusal18, editRefusal12, Edit, result, editRefusal, tableAfter}
+use Rattle.sheet_edit.specs.Edits.{replaced, refusal17, refusal18, editRefusal12, Edit, result, editRefusal, resultTable, tableAfter}
 use Rattle.sheet_edit.proofs.Replaced.{Node, node-here}
 use Rattle.sheet_edit.proofs.Results.{after-here}
 use Rattle.sheet_edit.proofs.Replies.{both-accepted}
@@ -85,7 +85,7 @@ module _ (e : Edit) (sheet : Accepted (e .context) (e .count) (e .cells)) (other
         ∙ no-more
 
     pub edit-own : (rows : ℕ) → rowCells * e .count ≤ rows → tableAfter e rows ≡ numberedAfter (e .context) (e .count) (e .cells) (e .cells)
-    unfolding tableAfter numberedAfter numberingRefusal numberingRefusal12
+    unfolding resultTable numberedAfter numberingRefusal numberingRefusal12
     edit-own rows room =
         pick-true _ _ (eq-eqb _ 0 (own-taken rows room))
         ∙ ap (λ (t : Tree). over (numbered t) (e .cells)) own-result

@@ -196,3 +196,8 @@ module _ (e : Edit) (sheet : Accepted (e .context) (e .count) (e .cells)) (other
 
       outputs : someNode (λ l a b. outputBroken l a) (result e) ≡ false
       outputs = sym (numbered-10 (result e) []) ∙ rw bare (both .0)
+
+  -- written over the start of a longer table
+  pub over-accepted : (cells : List ℕ) → Accepted (e .context) (size (result e)) (over (numbered (result e)) cells)
+  unfolding over
+  over-accepted cells = edited-accepted (drop (length (numbered (result e))) cells)

@@ -28,7 +28,7 @@ use Rattle.row.specs.Rows.{rowsOf}
 use Rattle.row_walk.specs.Walk.{rootHanded, placed}
 use Rattle.sheet_edit.specs.declared.Edited.{Edited}
 use Rattle.sheet_edit.specs.declared.Edited.the-variants.{Refused, Nodes}
-use Rattle.sheet_edit.specs.Edits.{refusal17, refusal18, editRefusal12, Edit, result, editRefusal, editReply, freshRows, tableAfter, editedRows}
+use Rattle.sheet_edit.specs.Edits.{refusal17, refusal18, editRefusal12, Edit, result, editRefusal, editReply, freshRows, resultTable, resultRows}
 use Rattle.sheet_edit.specs.Steps.{ownsOutput}
 use Rattle.tree_sound.proofs.Sound.{isPlainBlock, outputBroken, someNode}
 use Rattle.tree_sound.proofs.Tables.{plain-block}
@@ -144,6 +144,26 @@ module _ (t : Tree) (cells rows : List ℕ) (context : ℕ) where
   abbrev pub Replaces : ℕ → List ℕ → List ℕ → Type 0
   Replaces n table after = (n ≡ size t) × ((table ≡ over (numbered t) cells) × (after ≡ freshRows context t (over (numbered t) cells) rows))
 
+  -- a table that holds the result, and the rows that the walk writes from it
+  walked : size t ≤ mostNodes → (n : ℕ) → n ≡ size t
+      → (table : List ℕ) → table ≡ over (numbered t) cells
+      → (h : Handed) → h ≡ rootHanded context (treeAt table n 1)
+      → (after : List ℕ) → after ≡ placed table n 1 (rowsOf h (treeAt table n 1)) rows
+      → Replaces n table after
+  walked few n m table u h eh after ea = (m, (u, ea ∙ rw (eh, u, m, over-numbered t cells (omega arith))))
+
+  -- the result is numbered into the table itself
+  pub shows : size t ≤ mostNodes → nodeCells * size t ≤ length cells → (n : ℕ) → n ≡ 0 + size t
+      → (table : List ℕ) → table ≡ sets cells (nodeCells * 0) (cellsFrom (suc 0) t)
+      → (h : Handed) → h ≡ rootHanded context (treeAt table n 1)
+      → (after : List ℕ) → after ≡ placed table n 1 (rowsOf h (treeAt table n 1)) rows
+      → Replaces n table after
+  unfolding numbered
+  shows few room n en table et h eh after ea =
+      let l = length-numbered t in
+      walked few n (omega arith) table (et ∙ sets-over (numbered t) cells (omega arith)) h eh after ea
+
+  -- the result is numbered into an array of its own, which is copied
   pub replaces : size t ≤ mostNodes → (n : ℕ) → n ≡ 0 + size t
       → (base own : List ℕ) → nodeCells * size t ≤ length base → own ≡ sets base (nodeCells * 0) (cellsFrom (suc 0) t)
       → (table : List ℕ) → table ≡ over (take (nodeCells * n) own) cells
@@ -153,8 +173,7 @@ module _ (t : Tree) (cells rows : List ℕ) (context : ℕ) where
   unfolding numbered over
   replaces few n en base own room eo table et h eh after ea =
       let m : n ≡ size t = omega arith in
-      let u = et ∙ ap (λ xs. over xs cells) (stored m) in
-      (m, (u, ea ∙ rw (eh, u, m, over-numbered t cells (omega arith))))
+      walked few n m table (et ∙ ap (λ xs. over xs cells) (stored m)) h eh after ea
     where
       stored : n ≡ size t → take (nodeCells * n) own ≡ numbered t
       stored m =
@@ -163,15 +182,15 @@ module _ (t : Tree) (cells rows : List ℕ) (context : ℕ) where
 
 -- ---- a refused edit, and an edit that is done
 
-module _ (e : Edit) (rows : List ℕ) where
+module _ (e : Edit) (long wide : ℕ) where
   -- what the three clauses of the contract say of an answer, the table and the rows
-  abbrev pub Edits : Edited → List ℕ → List ℕ → Type 0
-  Edits r table after = (r ≡ editReply e (length (e .cells)) (length rows)) × ((table ≡ tableAfter e (length rows)) × (after ≡ editedRows e rows))
+  abbrev pub Gives : List ℕ → List ℕ → Edited → List ℕ → List ℕ → Type 0
+  Gives cells rows r table after = (r ≡ editReply e long wide) × ((table ≡ resultTable e long wide cells) × (after ≡ resultRows e long wide cells rows))
 
-  pub refused : (r : ℕ) → r ≡ editRefusal e (length (e .cells)) (length rows) → (r ≡ 0 → ⊥) → Edits (Refused r) (e .cells) rows
-  unfolding editReply tableAfter editedRows
-  refused r q n =
-      let f = ne-eqb (editRefusal e (length (e .cells)) (length rows)) 0 (λ z. n (q ∙ z)) in
+  pub refused : (cells rows : List ℕ) (r : ℕ) → r ≡ editRefusal e long wide → (r ≡ 0 → ⊥) → Gives cells rows (Refused r) cells rows
+  unfolding editReply resultTable resultRows
+  refused cells rows r q n =
+      let f = ne-eqb (editRefusal e long wide) 0 (λ z. n (q ∙ z)) in
       (ap Refused q ∙ sym (pick-false _ _ f), (sym (pick-false _ _ f), sym (pick-false _ _ f)))
 
   pub record Allowed : Type 0 where
@@ -181,10 +200,10 @@ module _ (e : Edit) (rows : List ℕ) where
     pub fits : refusal18 (result e) ≡ false
     pub few : size (result e) ≤ mostNodes
     pub most : size (result e) ≤ e .count + e .second-count
-    pub table-room : nodeCells * size (result e) ≤ length (e .cells)
-    pub rows-room : rowCells * size (result e) ≤ length rows
+    pub table-room : nodeCells * size (result e) ≤ long
+    pub rows-room : rowCells * size (result e) ≤ wide
 
-  pub allowed : editRefusal e (length (e .cells)) (length rows) ≡ 0 → Allowed
+  pub allowed : editRefusal e long wide ≡ 0 → Allowed
   unfolding editRefusal refusal18 editRefusal12
   allowed z =
       let p = none-applied (e .context) (e .count) (e .cells) _ z in
@@ -212,8 +231,8 @@ module _ (e : Edit) (rows : List ℕ) where
           omega arith
 
   -- where nothing is refused: the result numbered over the table, and its rows
-  pub done : editRefusal e (length (e .cells)) (length rows) ≡ 0 → (n : ℕ) (table after : List ℕ) → Replaces (result e) (e .cells) rows (e .context) n table after → Edits (Nodes n) table after
-  unfolding editReply tableAfter editedRows
-  done z n table after w =
-      let f = eq-eqb (editRefusal e (length (e .cells)) (length rows)) 0 z in
+  pub done : (cells rows : List ℕ) → editRefusal e long wide ≡ 0 → (n : ℕ) (table after : List ℕ) → Replaces (result e) cells rows (e .context) n table after → Gives cells rows (Nodes n) table after
+  unfolding editReply resultTable resultRows
+  done cells rows z n table after w =
+      let f = eq-eqb (editRefusal e long wide) 0 z in
       (rw (w .0) (sym (pick-true _ _ f)), (w .1 .0 ∙ sym (pick-true _ _ f), w .1 .1 ∙ sym (pick-true _ _ f)))

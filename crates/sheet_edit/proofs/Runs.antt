@@ -22,9 +22,9 @@ use Rattle.row_walk.specs.Walk.{rootHanded, placed, decideRefusal12, decided, r
 use Rattle.row_walk.specs.Paths.{Branch, numberAt, treeBy, handedBy, rowIn}
 use Rattle.row_walk.proofs.Placed.{length-placed}
 use Rattle.row_walk.proofs.Paths.{row-at}
-use Rattle.sheet_edit.specs.Edits.{result, editRefusal, freshRows, tableAfter, editedRows}
+use Rattle.sheet_edit.specs.Edits.{result, editRefusal, freshRows, resultTable, resultRows}
 use Rattle.sheet_edit.specs.Runs.{Sheet, opened, Change, editOn, changed, ran, Right}
-use Rattle.sheet_edit.proofs.Replaced.{edited-accepted}
+use Rattle.sheet_edit.proofs.Replaced.{over-accepted}
 use Rattle.sheet_edit.proofs.Replies.{Allowed, allowed}
 
 module _ (s : Sheet) (c : Change) where
@@ -39,10 +39,9 @@ module _ (s : Sheet) (c : Change) where
       }
 
   done-right : editRefusal (editOn s c) (length (s .table)) (length (s .rows)) ≡ 0 → Right Done
-  unfolding over
   done-right z =
-      let w = allowed (editOn s c) (s .rows) z in
-      let a : Accepted (s .context) (size (result (editOn s c))) (over (numbered (result (editOn s c))) (s .table)) = edited-accepted (editOn s c) (w .sheet) (w .other) (w .named) (w .fits) (drop (length (numbered (result (editOn s c)))) (s .table)) in
+      let w = allowed (editOn s c) (length (s .table)) (length (s .rows)) z in
+      let a : Accepted (s .context) (size (result (editOn s c))) (over (numbered (result (editOn s c))) (s .table)) = over-accepted (editOn s c) (w .sheet) (w .other) (w .named) (w .fits) (s .table) in
       let k = count-bounds (s .context) (size (result (editOn s c))) (over (numbered (result (editOn s c))) (s .table)) a in
       let m = k .1 in
       let t = over-numbered (result (editOn s c)) (s .table) (omega arith) in
@@ -56,7 +55,7 @@ module _ (s : Sheet) (c : Change) where
       }
 
   pub changed-right : Right s → Right (changed s c)
-  unfolding changed tableAfter editedRows pick
+  unfolding changed resultTable resultRows pick
   changed-right right = go (eqb (editRefusal (editOn s c) (length (s .table)) (length (s .rows))) 0) refl
     where
       go : (b : Bool) → eqb (editRefusal (editOn s c) (length (s .table)) (length (s .rows))) 0 ≡ b → Right (changed s c)

@@ -93,17 +93,22 @@ editReply e table rows = pick (eqb (editRefusal e table rows) 0) (Nodes (size (r
 abbrev pub freshRows : ℕ → Tree → List ℕ → List ℕ → List ℕ
 freshRows context t cells rows = placed cells (size t) 1 (rowsOf (rootHanded context t) t) rows
 
--- "A refused edit changes nothing." Otherwise the sheet's table has "the tree .. numbered as in Paper 2" over its start; what lies behind it stays
-unfoldable pub tableAfter : Edit → ℕ → List ℕ
-tableAfter e rows = pick (eqb (editRefusal e (length (e .cells)) rows) 0) (over (numbered (result e)) (e .cells)) (e .cells)
+-- buffers for the result, where the table and the rows count as so long. "A refused edit changes nothing."
+-- Otherwise the table has "the tree .. numbered as in Paper 2" over its start; what lies behind it stays
+unfoldable pub resultTable : Edit → ℕ → ℕ → List ℕ → List ℕ
+resultTable e long wide table = pick (eqb (editRefusal e long wide) 0) (over (numbered (result e)) table) table
 
--- "all rows equal those worked out afresh, whatever rows were handed in"; "The sheet's context stays"
-unfoldable pub editedRows : Edit → List ℕ → List ℕ
-editedRows e rows =
-    pick
-    (eqb (editRefusal e (length (e .cells)) (length rows)) 0)
-    (freshRows (e .context) (result e) (over (numbered (result e)) (e .cells)) rows)
-    rows
+-- and "all rows equal those worked out afresh, whatever rows were handed in"; "The sheet's context stays"
+unfoldable pub resultRows : Edit → ℕ → ℕ → List ℕ → List ℕ → List ℕ
+resultRows e long wide table rows =
+    pick (eqb (editRefusal e long wide) 0) (freshRows (e .context) (result e) (over (numbered (result e)) table) rows) rows
+
+-- the sheet's table after an edit, where its rows have so many cells, and its rows
+abbrev pub tableAfter : Edit → ℕ → List ℕ
+tableAfter e rows = resultTable e (length (e .cells)) rows (e .cells)
+
+abbrev pub editedRows : Edit → List ℕ → List ℕ
+editedRows e rows = resultRows e (length (e .cells)) (length rows) (e .cells) rows
 
 -- "When an answer is an enum, a definition gives this paper's number and values for each of its cases." The reply number, 0 for done, and behind it the value
 abbrev pub editedInNumbers : Edited → List ℕ

@@ -1,4 +1,5 @@
 pub mod Edits
+pub mod Previews
 pub mod Steps
 pub mod Shelters
 pub mod Runs

@@ -1,4 +1,4 @@
-// An open sheet's edit: the expression at a named node is replaced by another accepted tree.
+// An open sheet's edit: the expression at a named node is replaced by another accepted tree. And a look before the edit.
 use row_walk::root_handed;
 use row_walk::walk_from;
 use tree::columns;
@@ -19,7 +19,7 @@ use tree_one_pass::check;
 use tree_rules::refusal::is_plain_block;
 ghost use mathlib.Core.Path.{_≡_};
 ghost use mathlib.Core.Bool.{not, _&&_};
-ghost use Prim.Native.Nat.{suc, _+_, _*_, _≤_};
+ghost use Prim.Native.Nat.{suc, _+_, _*_, _≤_, min};
 ghost use lib.ListN.{length, take};
 ghost use lib.Seq.{sets};
 ghost use Rattle.laws.specs.Each.{some};
@@ -29,6 +29,7 @@ ghost use Rattle.tree.specs.Trees.{treeAt, levels};
 ghost use Rattle.tree_rules.specs.Refusals.{plainBlock};
 ghost use Rattle.tree_numbering.specs.Numbered.{size, cellsFrom, numbered};
 ghost use Rattle.sheet_edit.specs.Edits.{replacedAt, editOf, editRefusal, editReply, freshRows, tableAfter, editedRows};
+ghost use Rattle.sheet_edit.specs.Previews.{previewReply, previewTable, previewRows};
 ghost use Rattle.sheet_edit.specs.Steps.{joined, ownsOutput, Fits};
 
 // What an edit answers.
@@ -339,4 +340,78 @@ pub fn edit(
         ));
     }
     Edited::Nodes(replace_large(context, count, table, rows, node, second_count, second))
+}
+
+// ---- the preview
+
+fn smaller(a: usize, b: usize) -> usize
+    ensures { λ r. ⌜ r ≡ min a b ⌝ }
+{
+    if a < b { a } else { b }
+}
+
+// The result over a lent table, numbered, and its rows over lent ones; how many nodes there are. The sheet is another table, so that nothing is copied.
+fn show(
+    context: u16,
+    count: u16,
+    table: &[u16],
+    place: u16,
+    nodes: u16,
+    second: &[u16],
+    out: &mut [u16],
+    rows: &mut [u16],
+) -> u16
+    requires { ⌜ Fits (joined (now table) count place (now second) nodes) nodes (length (now out)) (length (now out)) (length (now rows)) ⌝ }
+    ensures reply { λ r. ⌜ r ≡ size (joined (now (table .entry)) count place (now (second .entry)) nodes) ⌝ }
+    ensures out { λ _. ⌜ now (out .exit) ≡ over (numbered (joined (now (table .entry)) count place (now (second .entry)) nodes)) (now (out .entry)) ⌝ }
+    ensures rows { λ _. ⌜ now (rows .exit) ≡ freshRows context (joined (now (table .entry)) count place (now (second .entry)) nodes) (over (numbered (joined (now (table .entry)) count place (now (second .entry)) nodes)) (now (out .entry))) (now (rows .entry)) ⌝ }
+{
+    let done = number_edited(table, count, place, second, nodes, 1, 0, out);
+    walk_from(root_handed(context, out, done), out, done, 1, rows);
+    done
+}
+
+// What an edit would give: the same answer, and the result's table and rows in lent buffers. The open sheet is only read.
+pub fn preview(
+    context: u16,
+    count: u16,
+    table: &[u16],
+    rows: &[u16],
+    node: u16,
+    second_context: u16,
+    second_count: u16,
+    second: &[u16],
+    result_table: &mut [u16],
+    result_rows: &mut [u16],
+) -> Edited
+    ensures reply { λ r. ⌜ r ≡ previewReply (editOf context count (now (table .entry)) node «second_context» «second_count» (now (second .entry))) (length (now (rows .entry))) (length (now («result_table» .entry))) (length (now («result_rows» .entry))) ⌝ }
+    ensures table { λ _. ⌜ now («result_table» .exit) ≡ previewTable (editOf context count (now (table .entry)) node «second_context» «second_count» (now (second .entry))) (length (now (rows .entry))) (now («result_table» .entry)) (length (now («result_rows» .entry))) ⌝ }
+    ensures rows { λ _. ⌜ now («result_rows» .exit) ≡ previewRows (editOf context count (now (table .entry)) node «second_context» «second_count» (now (second .entry))) (length (now (rows .entry))) (now («result_table» .entry)) (now («result_rows» .entry)) ⌝ }
+{
+    let cells = smaller(table.len(), result_table.len());
+    let lent = smaller(rows.len(), result_rows.len());
+    let refused = first_refusal(
+        context,
+        count,
+        table,
+        node,
+        second_context,
+        second_count,
+        second,
+        cells,
+        lent,
+    );
+    if refused != 0 {
+        return Edited::Refused(refused);
+    }
+    Edited::Nodes(show(
+        context,
+        count,
+        table,
+        node,
+        second_count,
+        second,
+        result_table,
+        result_rows,
+    ))
 }

@@ -1,0 +1,81 @@
+-- A preview gives what the edit would give on a copy of the sheet. Assumes nothing.
+use mathlib.Core.Path.{_≡_, refl, sym, ap, _∙_}
+use mathlib.Core.List.{List, [], _∷_, _++_}
+use Prim.Native.Nat.{ℕ, _*_, _≤_, min}
+use native.Mathlib.Omega.{arith}
+use lib.Dec.{ltb}
+use lib.ListN.{length, take, drop}
+use lib.Seq.{take-at}
+use borrow.Author.Tests.{eq-eqb, le-ltb}
+use Rattle.laws.specs.Lists.{over}
+use Rattle.laws.proofs.Choice.{pick-true, or-next}
+use Rattle.tree.specs.Sizes.{nodeCells, rowCells}
+use Rattle.tree.specs.Trees.{treeAt}
+use Rattle.tree_rules.specs.Refusals.{Accepted}
+use Rattle.tree_rules.proofs.First.{skip, no-more}
+use Rattle.tree_numbering.specs.Numbered.{size, numbered}
+use Rattle.tree_numbering.proofs.Holds.{length-numbered, over-numbered}
+use Rattle.row_walk.specs.Paths.{Branch, numberAt, rowIn}
+use Rattle.row_walk.proofs.Paths.{renumbered}
+use Rattle.sheet_edit.specs.Edits.{editRefusal12, Edit, result, editRefusal, editReply, freshRows, resultTable, resultRows, tableAfter, editedRows}
+use Rattle.sheet_edit.specs.Previews.{long, previewReply, previewTable, previewRows}
+use Rattle.sheet_edit.proofs.Replaced.{over-accepted}
+use Rattle.sheet_edit.proofs.Replies.{both-accepted, Allowed, allowed}
+
+-- in buffers that are as long as the sheet's own, or longer, it answers what the edit answers
+pub same-reply : (e : Edit) (rows table lent : ℕ) → length (e .cells) ≤ table → rows ≤ lent → previewReply e rows table lent ≡ editReply e (length (e .cells)) rows
+same-reply e rows table lent h k =
+    let x : min (length (e .cells)) table ≡ length (e .cells) = omega arith in
+    let y : min rows lent ≡ rows = omega arith in
+    rw (x, y)
+
+-- where it is not refused, the edit would not be, and the result's cells and rows are those that the edit gives
+module _ (e : Edit) (rows table lent : List ℕ) (taken : editRefusal e (long e (length table)) (min (length rows) (length lent)) ≡ 0) where
+  may : Allowed e (long e (length table)) (min (length rows) (length lent))
+  may = allowed e (long e (length table)) (min (length rows) (length lent)) taken
+
+  pub edit-taken : editRefusal e (length (e .cells)) (length rows) ≡ 0
+  unfolding editRefusal12
+  edit-taken =
+      let t = may .table-room in
+      let r = may .rows-room in
+      both-accepted e (length (e .cells)) (length rows) (may .sheet) (may .other)
+      ∙ skip 17 _ (may .named)
+      ∙ skip 18 _ (may .fits)
+      ∙ skip 12 _ (or-next _ (le-ltb (length (e .cells)) (nodeCells * size (result e)) (omega arith)) ∙ le-ltb (length rows) (rowCells * size (result e)) (omega arith))
+      ∙ no-more
+
+  shown : previewTable e (length rows) table (length lent) ≡ over (numbered (result e)) table
+  unfolding resultTable
+  shown = pick-true _ _ (eq-eqb _ 0 taken)
+
+  shown-rows : previewRows e (length rows) table lent ≡ freshRows (e .context) (result e) (over (numbered (result e)) table) lent
+  unfolding resultRows
+  shown-rows = pick-true _ _ (eq-eqb _ 0 taken)
+
+  given : tableAfter e (length rows) ≡ over (numbered (result e)) (e .cells)
+  unfolding resultTable
+  given = pick-true _ _ (eq-eqb _ 0 edit-taken)
+
+  given-rows : editedRows e rows ≡ freshRows (e .context) (result e) (over (numbered (result e)) (e .cells)) rows
+  unfolding resultRows
+  given-rows = pick-true _ _ (eq-eqb _ 0 edit-taken)
+
+  start : (cells : List ℕ) → take (nodeCells * size (result e)) (over (numbered (result e)) cells) ≡ numbered (result e)
+  unfolding over
+  start cells = take-at (numbered (result e)) _ (nodeCells * size (result e)) (length-numbered (result e))
+
+  pub same-table : take (nodeCells * size (result e)) (previewTable e (length rows) table (length lent)) ≡ take (nodeCells * size (result e)) (tableAfter e (length rows))
+  same-table = rw (shown, given) (start table ∙ sym (start (e .cells)))
+
+  -- however the buffers go on: at each path of the result
+  pub same-rows : (q : List Branch) → 1 ≤ numberAt (previewTable e (length rows) table (length lent)) (size (result e)) 1 q → 1 ≤ numberAt (tableAfter e (length rows)) (size (result e)) 1 q
+      → rowIn (previewRows e (length rows) table lent) (numberAt (previewTable e (length rows) table (length lent)) (size (result e)) 1 q)
+      ≡ rowIn (editedRows e rows) (numberAt (tableAfter e (length rows)) (size (result e)) 1 q)
+  same-rows q = rw (shown, shown-rows, given, given-rows) (λ there there′. rw (whole table, whole (e .cells)) at (renumbered (e .context) (size (result e)) (size (result e)) (over (numbered (result e)) table) (over (numbered (result e)) (e .cells)) (accepted table) (accepted (e .cells)) (whole table ∙ sym (whole (e .cells))) lent rows (let r = may .rows-room in omega arith) (let r = may .rows-room in omega arith) q there there′))
+    where
+      whole : (cells : List ℕ) → treeAt (over (numbered (result e)) cells) (size (result e)) 1 ≡ result e
+      whole cells = over-numbered (result e) cells (let f = may .few in omega arith)
+
+      accepted : (cells : List ℕ) → Accepted (e .context) (size (result e)) (over (numbered (result e)) cells)
+      accepted cells = over-accepted e (may .sheet) (may .other) (may .named) (may .fits) cells
