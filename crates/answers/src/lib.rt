@@ -4,4 +4,5 @@ pub mod archive; // archive.rt: one file for one tree, and the order on files
 pub mod rows; // rows.rt: the rows of all nodes
 pub mod plain; // plain.rt: the tokens of plain trees, and their readings
 pub mod sheets; // sheets.rt: open sheets
+pub mod previews; // previews.rt: a look before an edit
 pub mod operators; // operators.rt: how operators bind
