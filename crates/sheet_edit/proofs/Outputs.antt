@@ -1,24 +1,23 @@
 -- Refusal 10 of the result: only the owner of the named node can break it. Assumes nothing.
-use mathlib.Core.Path.{_≡_, refl, sym, ap, _∙_}
+use mathlib.Core.Path.{_≡_, refl, sym, _∙_}
 use mathlib.Core.Bool.{Bool, true, false, not, _&&_, _||_}
-use mathlib.Core.List.{List, [], _∷_, _++_, append-nil}
+use mathlib.Core.List.{List, [], _∷_}
 use mathlib.Core.Logic.{_⊎_, inl, inr}
-use Prim.Native.Nat.{ℕ, zero, suc, _+_, _*_, _≤_, _<_}
+use Prim.Native.Nat.{ℕ, zero, suc, _≤_, _<_}
 use native.Mathlib.Omega.{arith}
 use native.Mathlib.Decide.{ℕ-discrete}
 use lib.Dec.{eqb}
 use borrow.Author.Tests.{eqb-true, eq-eqb, ne-eqb}
 use Rattle.laws.specs.Choice.{pick}
 use Rattle.laws.specs.Each.{some}
-use Rattle.laws.proofs.Choice.{true-not-false, and-true, or-false, or-here}
+use Rattle.laws.proofs.Choice.{true-not-false, and-true, or-false}
 use Rattle.laws.proofs.Each.{some-none}
-use Rattle.tree.specs.Forms.{ExprBlock, ExprClosure}
+use Rattle.tree.specs.Forms.{ExprClosure}
 use Rattle.tree.specs.Table.{formAt, detailAt, firstAt, firstColumn, secondColumn}
 use Rattle.tree.specs.Trees.{Label, Tree, none, node, labelAt, operandAt, treeAt}
 use Rattle.tree.proofs.Unfold.{unfolds}
-use Rattle.tree_rules.specs.Refusals.{refusal10, Accepted}
+use Rattle.tree_rules.specs.Refusals.{Accepted}
 use Rattle.tree_rules.proofs.Accepted.{count-bounds, first-standing, first-operand}
-use Rattle.tree_numbering.specs.Numbered.{size, numbered}
 use Rattle.row_walk.specs.Paths.{Branch, first, second, numberAt}
 use Rattle.row_walk.proofs.Below.{owns, path-below, below-least, operand-most}
 use Rattle.row_walk.proofs.Paths.{reached}

@@ -4,15 +4,15 @@ use mathlib.Core.Bool.{Bool, true, false}
 use mathlib.Core.List.{List, [], _∷_, append-nil}
 use Prim.Native.Nat.{ℕ, _*_, _≤_}
 use native.Mathlib.Omega.{arith}
-use lib.Dec.{eqb, ltb}
+use lib.Dec.{eqb}
 use lib.ListN.{length}
 use borrow.Author.Tests.{eq-eqb, eqb-true, le-ltb}
 use Rattle.laws.specs.Choice.{pick}
 use Rattle.laws.specs.Lists.{over}
 use Rattle.laws.proofs.Choice.{pick-true, or-next}
-use Rattle.tree.specs.Sizes.{nodeCells, rowCells, mostNodes, mostLevels}
+use Rattle.tree.specs.Sizes.{rowCells, mostNodes}
 use Rattle.tree.specs.Table.{firstColumn, secondColumn}
-use Rattle.tree.specs.Trees.{Tree, none, node, operandAt, treeAt, levels}
+use Rattle.tree.specs.Trees.{Tree, none, node, operandAt, treeAt}
 use Rattle.tree_rules.specs.Refusals.{refusal, refusal10, refusal11, refuse, firstOf, Accepted}
 use Rattle.tree_rules.proofs.Accepted.{count-bounds, levels-bound}
 use Rattle.tree_rules.proofs.First.{skip, no-more}
@@ -21,7 +21,7 @@ use Rattle.tree_numbering.specs.Accepting.{numberingRefusal12, numberingRefusal
 use Rattle.tree_numbering.proofs.Sizes.{size-accepted}
 use Rattle.tree_sound.proofs.Accepts.{numbered-10, numbered-11, accepted-outputs}
 use Rattle.sheet_edit.specs.Edits.{replaced, refusal17, refusal18, editRefusal12, Edit, result, editRefusal, resultTable, tableAfter}
-use Rattle.sheet_edit.proofs.Replaced.{Node, node-here}
+use Rattle.sheet_edit.proofs.Replaced.{node-here}
 use Rattle.sheet_edit.proofs.Results.{after-here}
 use Rattle.sheet_edit.proofs.Replies.{both-accepted}
 

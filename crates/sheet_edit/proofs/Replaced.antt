@@ -1,18 +1,18 @@
 -- An accepted sheet with an expression replaced by another accepted tree's breaks none of 3 and 6 to 9, whatever the numbering was. Assumes nothing.
 use mathlib.Core.Path.{_≡_, refl, sym, ap, _∙_}
-use mathlib.Core.Bool.{Bool, true, false, not, _&&_, _||_}
+use mathlib.Core.Bool.{Bool, true, false, not}
 use mathlib.Core.List.{List, [], _++_, append-nil}
-use Prim.Native.Nat.{ℕ, zero, suc, _+_, _*_, _≤_, _<_}
+use Prim.Native.Nat.{ℕ, _+_, _≤_}
 use native.Mathlib.Omega.{arith}
 use native.Mathlib.Decide.{decLe}
 use lib.Dec.{eqb, ltb}
 use lib.ListN.{length, drop}
-use borrow.Author.Tests.{eqb-true, eqb-false, eq-eqb, ltb-false, not-false}
+use borrow.Author.Tests.{eqb-true, ltb-false, not-false}
 use Rattle.laws.specs.Choice.{pick}
 use Rattle.laws.specs.Lists.{over}
 use Rattle.laws.proofs.Choice.{or-false}
 use Rattle.tree.specs.Sizes.{mostNodes, mostLevels}
-use Rattle.tree.specs.Forms.{anExpression, aType, aLink, classOf}
+use Rattle.tree.specs.Forms.{anExpression, aLink, classOf}
 use Rattle.tree.specs.Operands.{formIn}
 use Rattle.tree.specs.Table.{classAt, firstColumn, secondColumn}
 use Rattle.tree.specs.Trees.{Label, Tree, none, node, operandAt, treeAt, levels}
@@ -26,7 +26,7 @@ use Rattle.tree_rules.specs.Refusals.{refusal10, refusal11, Accepted}
 use Rattle.tree_rules.proofs.Accepted.{context-most}
 use Rattle.tree_numbering.specs.Numbered.{size, numbered}
 use Rattle.sheet_edit.specs.Edits.{replaced, edited, refusal17, refusal18, Edit, result}
-use Rattle.tree_sound.proofs.Sound.{rootClass, itemClass, otherClass, otherList, otherPresent, otherAt, otherOperands, badLabel, emptyLabel, outputBroken, someNode, Sound}
+use Rattle.tree_sound.proofs.Sound.{rootClass, itemClass, otherList, otherPresent, otherAt, otherOperands, badLabel, emptyLabel, outputBroken, someNode, Sound}
 use Rattle.tree_sound.proofs.Tables.{class-at}
 use Rattle.tree_sound.proofs.Accepts.{numbered-10, numbered-11, numbered-accepted, accepted-ordered, accepted-sound, accepted-root}
 

@@ -1,17 +1,16 @@
 -- The first refusal of an edit, and what follows where there is none. Assumes nothing.
-use mathlib.Core.Path.{_≡_, refl, sym, ap, _∙_}
-use mathlib.Core.Bool.{Bool, true, false, not, _&&_, _||_}
-use mathlib.Core.List.{List, [], _∷_, _++_, append-nil}
+use mathlib.Core.Path.{_≡_, sym, ap, _∙_}
+use mathlib.Core.Bool.{Bool, true, false, not, _&&_}
+use mathlib.Core.List.{List, [], _∷_, append-nil}
 use Prim.Native.Nat.{ℕ, suc, _+_, _*_, _-_, _≤_, _<_}
 use native.Mathlib.Omega.{arith}
-use lib.Dec.{eqb, ltb}
-use lib.ListN.{length, take, drop}
+use lib.Dec.{ltb}
+use lib.ListN.{length, take}
 use lib.Seq.{sets, take-at}
-use borrow.Author.Tests.{eq-eqb, ne-eqb, eqb-true, eqb-false, lt-ltb, le-ltb, ltb-false}
-use Rattle.laws.specs.Choice.{pick}
+use borrow.Author.Tests.{eq-eqb, ne-eqb, lt-ltb, le-ltb, ltb-false}
 use Rattle.laws.specs.Each.{some}
 use Rattle.laws.specs.Lists.{over}
-use Rattle.laws.proofs.Choice.{pick-true, pick-false, pick-zero, or-false, or-here, or-next}
+use Rattle.laws.proofs.Choice.{pick-true, pick-false, or-false, or-here, or-next}
 use Rattle.tree.specs.Sizes.{nodeCells, rowCells, mostNodes, mostLevels}
 use Rattle.tree.specs.Forms.{anExpression, classOf}
 use Rattle.tree.specs.Operands.{formIn}
@@ -30,10 +29,9 @@ use Rattle.sheet_edit.specs.declared.Edited.{Edited}
 use Rattle.sheet_edit.specs.declared.Edited.the-variants.{Refused, Nodes}
 use Rattle.sheet_edit.specs.Edits.{refusal17, refusal18, editRefusal12, Edit, result, editRefusal, editReply, freshRows, resultTable, resultRows}
 use Rattle.sheet_edit.specs.Steps.{ownsOutput}
-use Rattle.tree_sound.proofs.Sound.{isPlainBlock, outputBroken, someNode}
 use Rattle.tree_sound.proofs.Tables.{plain-block}
 use Rattle.tree_sound.proofs.Accepts.{numbered-10, numbered-11, accepted-ordered, accepted-outputs}
-use Rattle.sheet_edit.proofs.Replaced.{named-here, result-few}
+use Rattle.sheet_edit.proofs.Replaced.{named-here}
 use Rattle.sheet_edit.proofs.Outputs.{edited-output}
 use Rattle.sheet_edit.proofs.Sizes.{part-size, edited-size}
 

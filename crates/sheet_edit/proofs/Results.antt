@@ -1,14 +1,13 @@
 -- The tree at a node after the edit, a node at a time: its size and its levels. Assumes nothing.
-use mathlib.Core.Path.{_≡_, refl, sym, ap, _∙_}
+use mathlib.Core.Path.{_≡_, refl, sym}
 use mathlib.Core.Bool.{Bool, true, false}
-use mathlib.Core.List.{List, [], _∷_, _++_}
-use Prim.Native.Nat.{ℕ, zero, suc, _+_, _*_, _-_, _≤_, _<_, max}
+use mathlib.Core.List.{List}
+use Prim.Native.Nat.{ℕ, suc, _+_, _-_, _≤_, _<_, max}
 use native.Mathlib.Omega.{arith}
 use native.Mathlib.Decide.{ℕ-discrete}
 use lib.Dec.{eqb}
 use borrow.Author.Tests.{eq-eqb, ne-eqb}
 use Rattle.laws.specs.Choice.{pick}
-use Rattle.laws.proofs.Choice.{pick-true, pick-false}
 use Rattle.tree.specs.Table.{formAt, firstColumn, secondColumn}
 use Rattle.tree.specs.Trees.{Tree, none, node, labelAt, operandAt, treeAt, ownLevel, levels}
 use Rattle.tree.proofs.Unfold.{tree-zero, tree-past, unfolds, levels-most}

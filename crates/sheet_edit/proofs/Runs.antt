@@ -1,31 +1,30 @@
 -- After any run of edits an open sheet is accepted, and its rows are those worked out afresh. Assumes nothing.
 use mathlib.Core.Path.{_≡_, refl, sym, ap, _∙_}
 use mathlib.Core.Bool.{Bool, true, false}
-use mathlib.Core.List.{List, [], _∷_, _++_}
-use Prim.Native.Nat.{ℕ, _+_, _*_, _≤_}
+use mathlib.Core.List.{List, [], _∷_}
+use Prim.Native.Nat.{ℕ}
 use native.Mathlib.Omega.{arith}
 use lib.Dec.{eqb}
-use lib.ListN.{length, drop}
+use lib.ListN.{length}
 use borrow.Author.Tests.{eq-eqb, eqb-true, ltb-false}
 use Rattle.laws.specs.Choice.{pick}
 use Rattle.laws.specs.Lists.{over}
 use Rattle.laws.proofs.Choice.{pick-true, pick-zero, or-false}
-use Rattle.tree.specs.Sizes.{rowCells}
 use Rattle.tree.specs.Trees.{Tree, treeAt}
 use Rattle.tree_rules.specs.Refusals.{refusalThen, Accepted}
 use Rattle.tree_rules.proofs.First.{none-applied}
 use Rattle.tree_rules.proofs.Accepted.{count-bounds}
 use Rattle.tree_numbering.specs.Numbered.{size, numbered}
 use Rattle.tree_numbering.proofs.Holds.{over-numbered}
-use Rattle.row.specs.Rows.{rowsOf, rowOf}
+use Rattle.row.specs.Rows.{rowsOf}
 use Rattle.row_walk.specs.Walk.{rootHanded, placed, decideRefusal12, decided, rowsAfter}
-use Rattle.row_walk.specs.Paths.{Branch, numberAt, treeBy, handedBy, rowIn}
+use Rattle.row_walk.specs.Paths.{numberAt, rowIn}
 use Rattle.row_walk.proofs.Placed.{length-placed}
 use Rattle.row_walk.proofs.Paths.{row-at}
 use Rattle.sheet_edit.specs.Edits.{result, editRefusal, freshRows, resultTable, resultRows}
 use Rattle.sheet_edit.specs.Runs.{Sheet, opened, Change, editOn, changed, ran, Right}
 use Rattle.sheet_edit.proofs.Replaced.{over-accepted}
-use Rattle.sheet_edit.proofs.Replies.{Allowed, allowed}
+use Rattle.sheet_edit.proofs.Replies.{allowed}
 
 module _ (s : Sheet) (c : Change) where
   -- the sheet after an edit that is not refused: whatever rows were handed in

@@ -1,38 +1,37 @@
 -- Rows that an edit elsewhere leaves as they are. Assumes nothing.
-use mathlib.Core.Path.{_≡_, refl, sym, ap, _∙_}
+use mathlib.Core.Path.{_≡_, refl, sym, _∙_}
 use mathlib.Core.Bool.{Bool, true, false, _||_}
-use mathlib.Core.List.{List, [], _∷_, _++_, append-nil}
-use mathlib.Core.Logic.{_⊎_, inl, inr}
-use Prim.Native.Nat.{ℕ, zero, suc, _+_, _*_, _≤_, _<_}
+use mathlib.Core.List.{List, [], _∷_, _++_}
+use Prim.Native.Nat.{ℕ, _+_, _*_, _≤_}
 use native.Mathlib.Omega.{arith}
 use lib.Dec.{eqb}
 use lib.ListN.{length}
-use borrow.Author.Tests.{eqb-true, eqb-false, ne-eqb}
-use Rattle.laws.specs.Choice.{pick, lookup, isOneOf}
+use borrow.Author.Tests.{eqb-true, ne-eqb}
+use Rattle.laws.specs.Choice.{pick, lookup}
 use Rattle.laws.proofs.Choice.{true-not-false}
 use Rattle.tree.specs.Sizes.{rowCells}
 use Rattle.tree.specs.Forms.{ExprIndex, ExprParen, Link}
 use Rattle.tree.specs.Table.{firstColumn, secondColumn}
 use Rattle.tree.specs.Trees.{Label, Tree, none, node, operandAt, treeAt}
-use Rattle.tree.specs.Walks.{atRoot, isThere}
+use Rattle.tree.specs.Walks.{isThere}
 use Rattle.tree.proofs.Unfold.{operand-most, unfolds}
 use Rattle.fixup.specs.declared.context.FixupContext.{FixupContext}
 use Rattle.fixup.specs.Contexts.{NONE}
 use Rattle.expr.specs.declared.Handed.{Handed}
-use Rattle.expr.specs.Handed.{neither}
+use Rattle.expr.specs.Handed.{ungrouped, neither}
 use Rattle.expr.specs.Expr.{handsFirst, handsSecond}
-use Rattle.row.specs.Rows.{rowOf, ownContext, present, rowsOf}
+use Rattle.row.specs.Rows.{isExpression, outerPair, rowOf, ownContext, present, rowsOf}
 use Rattle.tree_rules.specs.Refusals.{Accepted}
 use Rattle.tree_rules.proofs.Accepted.{count-bounds}
 use Rattle.tree_numbering.specs.Numbered.{size, numbered}
 use Rattle.tree_numbering.proofs.Holds.{numbered-tree}
 use Rattle.row_walk.specs.Walk.{rootHanded, contextNumbered, contexts, placed}
 use Rattle.row_walk.specs.Paths.{Branch, first, second, numberAt, treeBy, handedBy, rowIn}
-use Rattle.row_walk.proofs.Local.{index-handed, item-handed, paren-handed}
+use Rattle.row_walk.proofs.Local.{index-handed, item-handed, paren-handed, outer-local}
 use Rattle.row_walk.proofs.Paths.{tree-at, there-at, row-at, one-path}
 use Rattle.sheet_edit.specs.Edits.{replaced, refusal17, refusal18, Edit, result, freshRows}
 use Rattle.sheet_edit.specs.Shelters.{shelters, passes, sheltered}
-use Rattle.sheet_edit.proofs.Replaced.{Node, node-here, named-here, result-few, edited-accepted}
+use Rattle.sheet_edit.proofs.Replaced.{node-here, named-here, result-few, edited-accepted}
 
 -- ---- what stands in NONE and is tested by nobody has the rows of its own tree
 
@@ -63,6 +62,23 @@ module _ (h : Handed) (l : Label) (a b : Tree) where
   pub second-local : shelters l second ≡ true → rowsOf h (node l a b) ≡ present (rowOf h (node l a b)) (rowsOf (handsFirst (ownContext h (node l a b)) (node l a b)) a) (rowsOf (rootHanded 0 b) b)
   unfolding rowsOf
   second-local e = rw (hands-second l a b (ownContext h (node l a b)) e, root-none b)
+
+-- the root of a tree in context 0 is printed in NONE, whether it has a pair or not
+none-own : (t : Tree) → ownContext (rootHanded 0 t) t ≡ NONE
+unfolding ownContext neither ungrouped contextNumbered contexts lookup pick
+none-own t = go (isExpression t) (outerPair (rootHanded 0 t) t)
+  where
+    go : (x y : Bool) → pick x (pick y NONE NONE) NONE ≡ NONE
+    go true true = refl
+    go true false = refl
+    go false y = refl
+
+-- so that what stands below an outer pair has the rows that it has where the pair's expression is a tree of its own in context 0
+pub pair-local : (h : Handed) (l : Label) (a b : Tree) → isExpression (node l a b) ≡ true → outerPair h (node l a b) ≡ true
+    → (rowsOf h (node l a b) ≡ present (rowOf h (node l a b)) (rowsOf (handsFirst NONE (node l a b)) a) (rowsOf (handsSecond NONE (node l a b)) b))
+    × (rowsOf (rootHanded 0 (node l a b)) (node l a b) ≡ present (rowOf (rootHanded 0 (node l a b)) (node l a b)) (rowsOf (handsFirst NONE (node l a b)) a) (rowsOf (handsSecond NONE (node l a b)) b))
+unfolding rowsOf
+pair-local h l a b e o = (outer-local h l a b e o, rw (none-own (node l a b)))
 
 -- the step at which a path enters an operand, where the operand's owner and what it is handed may differ
 enter-first : (l : Label) (a b d : Tree) (x y : FixupContext) (q : List Branch) → (shelters l first || passes a q) ≡ true

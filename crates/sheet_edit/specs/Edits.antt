@@ -1,5 +1,5 @@
 -- Document 02, Paper 6: the expression at a named node of an open sheet is replaced by another accepted tree's root and all under it.
-use mathlib.Core.Bool.{Bool, not, _&&_, _||_}
+use mathlib.Core.Bool.{Bool, not, _||_}
 use mathlib.Core.List.{List, [], _∷_}
 use Prim.Native.Nat.{ℕ, _*_}
 use lib.Dec.{eqb, ltb}

@@ -1,5 +1,5 @@
 -- Document 02, Paper 6: places whose rows an edit elsewhere leaves as they are, "inside an index, an argument or a Paren that does not contain the edited place".
-use mathlib.Core.Bool.{Bool, true, false, _||_}
+use mathlib.Core.Bool.{Bool, false, _||_}
 use mathlib.Core.List.{List, [], _∷_}
 use lib.Dec.{eqb}
 use Rattle.laws.specs.Choice.{isOneOf}

@@ -16,7 +16,6 @@ use tree_numbering::number_from;
 use tree_numbering::room_after;
 use tree_numbering::store;
 use tree_one_pass::check;
-use tree_rules::refusal::is_plain_block;
 ghost use mathlib.Core.Path.{_≡_};
 ghost use mathlib.Core.Bool.{not, _&&_};
 ghost use Prim.Native.Nat.{suc, _+_, _*_, _≤_, min};
@@ -124,6 +123,18 @@ fn copy(own: &[u16], cells: usize, table: &mut [u16])
 }
 
 // ---- 10, of the result
+
+fn is_plain_block(table: &[u16], node: u16) -> bool
+    ensures { λ r. ⌜ r ≡ plainBlock (now (table .entry)) node ⌝ }
+{
+    if cell(table, node, columns::FORM) != forms::EXPR_BLOCK {
+        return false;
+    }
+    if cell(table, node, columns::ATTRIBUTES) != 0 {
+        return false;
+    }
+    cell(table, node, columns::DETAIL) == 0
+}
 
 // Whether a node is a closure with a written output that has the named node for its body.
 fn owns_output(table: &[u16], place: u16, node: u16) -> bool

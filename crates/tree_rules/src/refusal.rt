@@ -96,7 +96,7 @@ fn is_empty(table: &[u16], node: u16) -> bool
     }
 }
 
-pub fn is_plain_block(table: &[u16], node: u16) -> bool
+fn is_plain_block(table: &[u16], node: u16) -> bool
     ensures { λ r. ⌜ r ≡ plainBlock (now (table .entry)) node ⌝ }
 {
     if cell(table, node, columns::FORM) != forms::EXPR_BLOCK {

@@ -1,9 +1,9 @@
 -- `sheet_edit::number_edited` meets its contract: with each call there are fewer numbers above the node, and none are counted where an operand is absent. Assumes nothing.
-use mathlib.Core.Path.{ap, sym, _∙_}
+use mathlib.Core.Path.{ap}
 use native.Mathlib.Omega.{arith}
 use borrow.Author.Needs.{needs}
 use Rattle.laws.proofs.Calls.{free, given-at, given-below}
-use Rattle.tree.specs.Trees.{Tree, treeAt, levels}
+use Rattle.tree.specs.Trees.{treeAt}
 use Rattle.tree.proofs.Unfold.{left, left-falls}
 use Rattle.tree_numbering.specs.Numbered.{size}
 use Rattle.tree_numbering.proofs.Nodes.{written-none, written-by}
