@@ -40,6 +40,15 @@ placed cells count i absent rows = rows
 placed cells count i (present r a b) rows =
     placed cells count (operandAt cells count i secondColumn) b (placed cells count (operandAt cells count i firstColumn) a (rowStored i r rows))
 
+-- the rows of a tree under a context, in the cells of the nodes that a table gives it
+abbrev pub treeRows : ℕ → ℕ → Tree → List ℕ → List ℕ → List ℕ
+treeRows context count t cells rows = placed cells count 1 (rowsOf (rootHanded context t) t) rows
+
+-- those of the table's own tree. "Cells past the answer keep theirs"; rows that are too short are kept whole
+unfoldable pub walkedAfter : ℕ → ℕ → List ℕ → List ℕ → List ℕ
+walkedAfter context count cells rows =
+    pick (ltb (length rows) (rowCells * count)) rows (treeRows context count (treeAt cells count 1) cells rows)
+
 -- 12. "A lent buffer is too short: five cells a node for rows, three for the walk's scratch"
 unfoldable pub decideRefusal12 : ℕ → ℕ → ℕ → Bool
 decideRefusal12 count rows scratch = ltb rows (rowCells * count) || ltb scratch (scratchCells * count)
@@ -54,7 +63,7 @@ unfoldable pub rowsAfter : ℕ → ℕ → List ℕ → List ℕ → List ℕ �
 rowsAfter context count cells rows scratch =
     pick
     (eqb (decided context count cells (length rows) (length scratch)) 0)
-    (placed cells count 1 (rowsOf (rootHanded context (treeAt cells count 1)) (treeAt cells count 1)) rows)
+    (treeRows context count (treeAt cells count 1) cells rows)
     rows
 
 -- the scratch afterwards. "On 0 the walk's scratch holds zeros in the three cells of each node."

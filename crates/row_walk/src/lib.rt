@@ -22,7 +22,7 @@ ghost use Rattle.tree.specs.Sizes.{rowCells};
 ghost use Rattle.tree.specs.Trees.{treeAt};
 ghost use Rattle.row.specs.Rows.{zeros, rowsOf};
 ghost use Rattle.row_walk.specs.Steps.{placedFirst, placedBelow, placedAlone};
-ghost use Rattle.row_walk.specs.Walk.{contextNumbered, rootHanded, rowStored, placed, decided, rowsAfter, scratchAfter};
+ghost use Rattle.row_walk.specs.Walk.{contextNumbered, rootHanded, rowStored, placed, walkedAfter, decided, rowsAfter, scratchAfter};
 
 // The row of a type or a link.
 fn no_row() -> Row
@@ -155,6 +155,16 @@ pub fn root_handed(context: u16, table: &[u16], count: u16) -> Handed
     }
 }
 
+// The rows of all nodes of a table whose rules nobody checks here; where `rows` is too short for them, it stays.
+pub fn walk(context: u16, count: u16, table: &[u16], rows: &mut [u16])
+    ensures { λ _. ⌜ now (rows .exit) ≡ walkedAfter context count (now (table .entry)) (now (rows .entry)) ⌝ }
+{
+    if rows.len() < sizes::ROW_CELLS * (count as usize) {
+        return;
+    }
+    walk_from(root_handed(context, table, count), table, count, 1, rows);
+}
+
 // Zeros over the start of a buffer.
 fn clear(buffer: &mut [u16], cells: usize)
     requires { ⌜ cells ≤ length (now buffer) ⌝ }
@@ -184,7 +194,7 @@ pub fn decide(context: u16, count: u16, table: &[u16], rows: &mut [u16], scratch
     if scratch.len() < sizes::SCRATCH_CELLS * nodes {
         return 12;
     }
-    walk_from(root_handed(context, table, count), table, count, 1, rows);
+    walk(context, count, table, rows);
     clear(scratch, sizes::SCRATCH_CELLS * nodes);
     0
 }

@@ -24,12 +24,12 @@ returns-3 c =
 
 returns-4 : tie.Need-returns-4
 returns-4 c =
-    let u = c .before .before .before .before .before .before .before .before .before .before .if2 .left in
-    let v = c .before .before .before .before .before .before .before .before .before .if3 .left in
-    let a = c .before .before .before .before .before .before .before .before .before .before .before .before .before .before .before .before .args in
-    done (a .context) (a .count) (a .table .now) (a .rows .now) (a .scratch .now) (sym (c .before .before .before .before .before .before .before .before .before .before .before .before .check .ensures) ∙ c .before .before .before .before .before .before .before .before .before .before .before .if1 .left) (omega arith) (omega arith) _ (c .before .before .before .before .before .before .before .before .root-handed .ensures) _ (c .before .before .before .before .before .before .walk-from .ensures) _ (c .before .before .clear .ensures)
+    let u = c .before .before .before .before .before .before .before .before .before .if2 .left in
+    let v = c .before .before .before .before .before .before .before .before .if3 .left in
+    let a = c .before .before .before .before .before .before .before .before .before .before .before .before .before .before .before .args in
+    done (a .context) (a .count) (a .table .now) (a .rows .now) (a .scratch .now) (sym (c .before .before .before .before .before .before .before .before .before .before .before .check .ensures) ∙ c .before .before .before .before .before .before .before .before .before .before .if1 .left) (omega arith) (omega arith) _ (c .before .before .before .before .before .before .walk .ensures) _ (c .before .before .clear .ensures)
 
 pub decide-spec : {M : Type 1} → statement M
 decide-spec =
     tie.close (tie.spec free returns (λ c. search needs) returns-2 (λ c. search needs) returns-3 free
-    (λ c κs. search needs) (λ c. search needs) (λ c κs. search needs) (λ c. search needs) (λ c. search needs) returns-4)
+    (λ c. search needs) (λ c κs. search needs) (λ c. search needs) (λ c. search needs) returns-4)
