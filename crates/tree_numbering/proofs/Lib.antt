@@ -7,4 +7,5 @@ pub mod Spans
 pub mod InOrder
 pub mod Placing
 pub mod Replies
+pub mod Replaced
 pub mod Accepting

@@ -7,6 +7,7 @@ use native.Mathlib.Omega.{arith}
 use lib.ListN.{length}
 use lib.Seq.{sets}
 use borrow.Author.Tests.{lt-ltb, le-ltb}
+use Rattle.laws.specs.Lists.{over}
 use Rattle.laws.proofs.Choice.{pick-true, pick-false, or-here, or-next}
 use Rattle.tree.specs.Trees.{Tree, levels}
 use Rattle.tree_numbering.specs.declared.Renumbered.{Renumbered}
@@ -16,6 +17,11 @@ use Rattle.tree_numbering.specs.Renumbering.{tooShort, renumbered, renum
 use Rattle.tree_numbering.proofs.Holds.{length-numbered}
 use Rattle.laws.proofs.Lists.{sets-over}
 use Rattle.tree.specs.Sizes.{nodeCells, mostNodes, mostLevels}
+
+-- a lent table with room for a tree whose cells are stored from its start on
+pub stored-over : (t : Tree) (out : List ℕ) → nodeCells * size t ≤ length out → (after : List ℕ) → after ≡ sets out 0 (cellsFrom 1 t) → after ≡ over (numbered t) out
+unfolding numbered
+stored-over t out h after e = let l = length-numbered t in e ∙ sets-over (numbered t) out (omega arith)
 
 module _ (t : Tree) (out : List ℕ) where
   -- what the two clauses of the contract say of an answer and of the lent table afterwards
@@ -47,11 +53,10 @@ module _ (t : Tree) (out : List ℕ) where
           (sym (pick-false _ _ not-large ∙ pick-true _ _ e), sym (pick-true _ _ (or-next _ not-large ∙ e)))
 
       pub all-stored : nodeCells * size t ≤ length out → (n : ℕ) (after : List ℕ) → (n ≡ 0 + size t) × (after ≡ sets out 0 (cellsFrom 1 t)) → Renumbers (Nodes n) after
-      unfolding renumbered renumberedAfter tooShort numbered
+      unfolding renumbered renumberedAfter tooShort
       all-stored h n after e =
           let s : tooShort t (length out) ≡ false = le-ltb _ _ h in
-          let z : n ≡ size t = e .0 ∙ omega arith in
-          let l = length-numbered t in (
+          let z : n ≡ size t = e .0 ∙ omega arith in (
             rw z (sym (pick-false _ _ not-large ∙ pick-false _ _ s)),
-            e .1 ∙ sets-over (numbered t) out (omega arith) ∙ sym (pick-false _ _ (or-next _ not-large ∙ s)),
+            stored-over t out h after (e .1) ∙ sym (pick-false _ _ (or-next _ not-large ∙ s)),
           )

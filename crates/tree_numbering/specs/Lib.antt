@@ -1,4 +1,5 @@
 pub mod Numbered
 pub mod Renumbering
+pub mod Replaced
 pub mod Accepting
 pub mod Passes

@@ -1,5 +1,6 @@
 // Trees numbered anew.
 pub mod accepted; // accepted.rt: the trees of accepted tables
+pub mod edited; // edited.rt: trees with a node replaced
 
 use tree::columns;
 use tree::offsets;
