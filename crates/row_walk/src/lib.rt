@@ -51,7 +51,7 @@ fn store(rows: &mut [u16], node: u16, row: Row)
 }
 
 // The rows of a node and of all below it.
-pub fn walk_from(handed: Handed, table: &[u16], count: u16, node: u16, rows: &mut [u16])
+fn walk_from(handed: Handed, table: &[u16], count: u16, node: u16, rows: &mut [u16])
     requires { ⌜ rowCells * count ≤ length (now rows) ⌝ }
     ensures { λ _. ⌜ now (rows .exit) ≡ placed (now (table .entry)) count node (rowsOf handed (treeAt (now (table .entry)) count node)) (now (rows .entry)) ⌝ }
 {
@@ -144,7 +144,7 @@ fn context_numbered(context: u16) -> FixupContext
 }
 
 // The root has no owner, and no test.
-pub fn root_handed(context: u16, table: &[u16], count: u16) -> Handed
+fn root_handed(context: u16, table: &[u16], count: u16) -> Handed
     ensures { λ r. ⌜ r ≡ rootHanded context (treeAt (now (table .entry)) count 1) ⌝ }
 {
     let fixup = context_numbered(context);

@@ -22,7 +22,8 @@ use Rattle.row_walk.specs.Walk.{contexts, contextNumbered, rowStored, placed, d
 use Rattle.tree.specs.Operands.{formIn}
 use Rattle.laws.specs.Lists.{over}
 use Rattle.tree_numbering.specs.Numbered.{size, numberOf, cellsFrom, numbered}
-use Rattle.sheet_edit.specs.Edits.{replaced, refusal17, refusal18, editRefusal12, editRefusal, resultTable, resultRows}
+use Rattle.tree_numbering.specs.Replaced.{replaced}
+use Rattle.sheet_edit.specs.Edits.{refusal17, refusal18, editRefusal12, editRefusal, resultTable, resultRows}
 use Rattle.sheet_edit.specs.Cases.{allHold}
 
 pub computed : allHold ≡ true

@@ -21,12 +21,13 @@ use Rattle.tree_rules.proofs.Accepted.{count-bounds, first-standing, first-oper
 use Rattle.row_walk.specs.Paths.{Branch, first, second, numberAt}
 use Rattle.row_walk.proofs.Below.{owns, path-below, below-least, operand-most}
 use Rattle.row_walk.proofs.Paths.{reached}
-use Rattle.sheet_edit.specs.Edits.{replaced, replacedAt, edited}
+use Rattle.tree_numbering.specs.Replaced.{replaced, replacedAt}
+use Rattle.sheet_edit.specs.Edits.{edited}
 use Rattle.sheet_edit.specs.Steps.{ownsOutput}
 use Rattle.tree_sound.proofs.Sound.{isPlainBlock, outputBroken, someNode}
 use Rattle.tree_sound.proofs.Accepts.{accepted-outputs}
 use Rattle.sheet_edit.proofs.Replaced.{Node, node-here}
-use Rattle.sheet_edit.proofs.Results.{after-here, after-node}
+use Rattle.tree_numbering.proofs.Replaced.{after-here, after-node}
 
 record Found (f : ℕ → Bool) (n : ℕ) : Type 0 where
   number : ℕ

@@ -20,9 +20,10 @@ use Rattle.tree_numbering.specs.Numbered.{size, numbered}
 use Rattle.tree_numbering.specs.Accepting.{numberingRefusal12, numberingRefusal, numberedAfter}
 use Rattle.tree_numbering.proofs.Sizes.{size-accepted}
 use Rattle.tree_sound.proofs.Accepts.{numbered-10, numbered-11, accepted-outputs}
-use Rattle.sheet_edit.specs.Edits.{replaced, refusal17, refusal18, editRefusal12, Edit, result, editRefusal, resultTable, tableAfter}
+use Rattle.tree_numbering.specs.Replaced.{replaced}
+use Rattle.sheet_edit.specs.Edits.{refusal17, refusal18, editRefusal12, Edit, result, editRefusal, resultTable, tableAfter}
 use Rattle.sheet_edit.proofs.Replaced.{node-here}
-use Rattle.sheet_edit.proofs.Results.{after-here}
+use Rattle.tree_numbering.proofs.Replaced.{after-here}
 use Rattle.sheet_edit.proofs.Replies.{both-accepted}
 
 -- an accepted table's tree does not meet 18

@@ -4,7 +4,6 @@ use mathlib.Core.List.{List}
 use Prim.Native.Nat.{ℕ, _*_, _≤_, min}
 use native.Mathlib.Omega.{arith}
 use lib.ListN.{length, take}
-use lib.Seq.{take-at}
 use borrow.Author.Tests.{eq-eqb, le-ltb}
 use Rattle.laws.specs.Lists.{over}
 use Rattle.laws.proofs.Choice.{pick-true, or-next}
@@ -13,13 +12,13 @@ use Rattle.tree.specs.Trees.{treeAt}
 use Rattle.tree_rules.specs.Refusals.{Accepted}
 use Rattle.tree_rules.proofs.First.{skip, no-more}
 use Rattle.tree_numbering.specs.Numbered.{size, numbered}
-use Rattle.tree_numbering.proofs.Holds.{length-numbered, over-numbered}
+use Rattle.tree_numbering.proofs.Holds.{over-numbered}
 use Rattle.row_walk.specs.Paths.{Branch, numberAt, rowIn}
 use Rattle.row_walk.proofs.Paths.{renumbered}
 use Rattle.sheet_edit.specs.Edits.{editRefusal12, Edit, result, editRefusal, editReply, freshRows, resultTable, resultRows, tableAfter, editedRows}
 use Rattle.sheet_edit.specs.Previews.{long, previewReply, previewTable, previewRows}
 use Rattle.sheet_edit.proofs.Replaced.{over-accepted}
-use Rattle.sheet_edit.proofs.Replies.{both-accepted, Allowed, allowed}
+use Rattle.sheet_edit.proofs.Replies.{both-accepted, start, Allowed, allowed}
 
 -- in buffers that are as long as the sheet's own, or longer, it answers what the edit answers
 pub same-reply : (e : Edit) (rows table lent : ℕ) → length (e .cells) ≤ table → rows ≤ lent → previewReply e rows table lent ≡ editReply e (length (e .cells)) rows
@@ -60,12 +59,8 @@ module _ (e : Edit) (rows table lent : List ℕ) (taken : editRefusal e (long e 
   unfolding resultRows
   given-rows = pick-true _ _ (eq-eqb _ 0 edit-taken)
 
-  start : (cells : List ℕ) → take (nodeCells * size (result e)) (over (numbered (result e)) cells) ≡ numbered (result e)
-  unfolding over
-  start cells = take-at (numbered (result e)) _ (nodeCells * size (result e)) (length-numbered (result e))
-
   pub same-table : take (nodeCells * size (result e)) (previewTable e (length rows) table (length lent)) ≡ take (nodeCells * size (result e)) (tableAfter e (length rows))
-  same-table = rw (shown, given) (start table ∙ sym (start (e .cells)))
+  same-table = rw (shown, given) (start (result e) table ∙ sym (start (result e) (e .cells)))
 
   -- however the buffers go on: at each path of the result
   pub same-rows : (q : List Branch) → 1 ≤ numberAt (previewTable e (length rows) table (length lent)) (size (result e)) 1 q → 1 ≤ numberAt (tableAfter e (length rows)) (size (result e)) 1 q

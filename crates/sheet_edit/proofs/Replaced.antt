@@ -25,7 +25,8 @@ use Rattle.tree_places.specs.Places.{firstPlace, secondPlace}
 use Rattle.tree_rules.specs.Refusals.{refusal10, refusal11, Accepted}
 use Rattle.tree_rules.proofs.Accepted.{context-most}
 use Rattle.tree_numbering.specs.Numbered.{size, numbered}
-use Rattle.sheet_edit.specs.Edits.{replaced, edited, refusal17, refusal18, Edit, result}
+use Rattle.tree_numbering.specs.Replaced.{replaced}
+use Rattle.sheet_edit.specs.Edits.{edited, refusal17, refusal18, Edit, result}
 use Rattle.tree_sound.proofs.Sound.{rootClass, itemClass, otherList, otherPresent, otherAt, otherOperands, badLabel, emptyLabel, outputBroken, someNode, Sound}
 use Rattle.tree_sound.proofs.Tables.{class-at}
 use Rattle.tree_sound.proofs.Accepts.{numbered-10, numbered-11, numbered-accepted, accepted-ordered, accepted-sound, accepted-root}

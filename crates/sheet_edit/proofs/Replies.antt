@@ -2,11 +2,11 @@
 use mathlib.Core.Path.{_≡_, sym, ap, _∙_}
 use mathlib.Core.Bool.{Bool, true, false, not, _&&_}
 use mathlib.Core.List.{List, [], _∷_, append-nil}
-use Prim.Native.Nat.{ℕ, suc, _+_, _*_, _-_, _≤_, _<_}
+use Prim.Native.Nat.{ℕ, _+_, _*_, _-_, _≤_, _<_}
 use native.Mathlib.Omega.{arith}
 use lib.Dec.{ltb}
 use lib.ListN.{length, take}
-use lib.Seq.{sets, take-at}
+use lib.Seq.{take-at}
 use borrow.Author.Tests.{eq-eqb, ne-eqb, lt-ltb, le-ltb, ltb-false}
 use Rattle.laws.specs.Each.{some}
 use Rattle.laws.specs.Lists.{over}
@@ -18,13 +18,11 @@ use Rattle.tree.specs.Trees.{Tree, treeAt, levels}
 use Rattle.tree_rules.specs.Refusals.{refusal, refusal10, refusal11, plainBlock, refuse, firstOf, refusalThen, Accepted}
 use Rattle.tree_rules.proofs.Accepted.{count-bounds}
 use Rattle.tree_rules.proofs.First.{stop, skip, no-more, passed, table-refused, table-passed, none-applied}
-use Rattle.tree_numbering.specs.Numbered.{size, cellsFrom, numbered}
-use Rattle.expr.specs.declared.Handed.{Handed}
-use Rattle.laws.proofs.Lists.{sets-over}
+use Rattle.tree_numbering.specs.Numbered.{size, numbered}
 use Rattle.tree_numbering.proofs.Sizes.{size-accepted}
 use Rattle.tree_numbering.proofs.Holds.{length-numbered, over-numbered}
-use Rattle.row.specs.Rows.{rowsOf}
-use Rattle.row_walk.specs.Walk.{rootHanded, placed}
+use Rattle.row_walk.specs.Walk.{walkedAfter}
+use Rattle.row_walk.proofs.Replies.{walked}
 use Rattle.sheet_edit.specs.declared.Edited.{Edited}
 use Rattle.sheet_edit.specs.declared.Edited.the-variants.{Refused, Nodes}
 use Rattle.sheet_edit.specs.Edits.{refusal17, refusal18, editRefusal12, Edit, result, editRefusal, editReply, freshRows, resultTable, resultRows}
@@ -137,46 +135,32 @@ module _ (e : Edit) (table rows : ℕ) where
 
 -- ---- the result over the table, and its rows
 
+-- a table that holds a tree's cells starts with them
+pub start : (t : Tree) (cells : List ℕ) → take (nodeCells * size t) (over (numbered t) cells) ≡ numbered t
+unfolding over
+start t cells = take-at (numbered t) _ (nodeCells * size t) (length-numbered t)
+
 module _ (t : Tree) (cells rows : List ℕ) (context : ℕ) where
   -- what the three clauses of `replace` say
   abbrev pub Replaces : ℕ → List ℕ → List ℕ → Type 0
   Replaces n table after = (n ≡ size t) × ((table ≡ over (numbered t) cells) × (after ≡ freshRows context t (over (numbered t) cells) rows))
 
   -- a table that holds the result, and the rows that the walk writes from it
-  walked : size t ≤ mostNodes → (n : ℕ) → n ≡ size t
+  pub shows : size t ≤ mostNodes → rowCells * size t ≤ length rows → (n : ℕ) → n ≡ size t
       → (table : List ℕ) → table ≡ over (numbered t) cells
-      → (h : Handed) → h ≡ rootHanded context (treeAt table n 1)
-      → (after : List ℕ) → after ≡ placed table n 1 (rowsOf h (treeAt table n 1)) rows
+      → (after : List ℕ) → after ≡ walkedAfter context n table rows
       → Replaces n table after
-  walked few n m table u h eh after ea = (m, (u, ea ∙ rw (eh, u, m, over-numbered t cells (omega arith))))
-
-  -- the result is numbered into the table itself
-  pub shows : size t ≤ mostNodes → nodeCells * size t ≤ length cells → (n : ℕ) → n ≡ 0 + size t
-      → (table : List ℕ) → table ≡ sets cells (nodeCells * 0) (cellsFrom (suc 0) t)
-      → (h : Handed) → h ≡ rootHanded context (treeAt table n 1)
-      → (after : List ℕ) → after ≡ placed table n 1 (rowsOf h (treeAt table n 1)) rows
-      → Replaces n table after
-  unfolding numbered
-  shows few room n en table et h eh after ea =
-      let l = length-numbered t in
-      walked few n (omega arith) table (et ∙ sets-over (numbered t) cells (omega arith)) h eh after ea
+  shows few wide n m table u after e =
+      (m, (u, e ∙ rw (m, u) (walked context (size t) (over (numbered t) cells) rows wide ∙ rw (over-numbered t cells (omega arith)))))
 
   -- the result is numbered into an array of its own, which is copied
-  pub replaces : size t ≤ mostNodes → (n : ℕ) → n ≡ 0 + size t
-      → (base own : List ℕ) → nodeCells * size t ≤ length base → own ≡ sets base (nodeCells * 0) (cellsFrom (suc 0) t)
+  pub replaces : size t ≤ mostNodes → rowCells * size t ≤ length rows → (n : ℕ) → n ≡ size t
+      → (base own : List ℕ) → own ≡ over (numbered t) base
       → (table : List ℕ) → table ≡ over (take (nodeCells * n) own) cells
-      → (h : Handed) → h ≡ rootHanded context (treeAt table n 1)
-      → (after : List ℕ) → after ≡ placed table n 1 (rowsOf h (treeAt table n 1)) rows
+      → (after : List ℕ) → after ≡ walkedAfter context n table rows
       → Replaces n table after
-  unfolding numbered over
-  replaces few n en base own room eo table et h eh after ea =
-      let m : n ≡ size t = omega arith in
-      walked few n m table (et ∙ ap (λ xs. over xs cells) (stored m)) h eh after ea
-    where
-      stored : n ≡ size t → take (nodeCells * n) own ≡ numbered t
-      stored m =
-          let l = length-numbered t in
-          rw (m, eo) (ap (take (nodeCells * size t)) (sets-over (numbered t) base (omega arith)) ∙ take-at (numbered t) _ (nodeCells * size t) l)
+  replaces few wide n m base own eo table et after e =
+      shows few wide n m table (et ∙ rw (m, eo, start t base)) after e
 
 -- ---- a refused edit, and an edit that is done
 

@@ -29,7 +29,8 @@ use Rattle.row_walk.specs.Walk.{rootHanded, contextNumbered, contexts, placed}
 use Rattle.row_walk.specs.Paths.{Branch, first, second, numberAt, treeBy, handedBy, rowIn}
 use Rattle.row_walk.proofs.Local.{index-handed, item-handed, paren-handed, outer-local}
 use Rattle.row_walk.proofs.Paths.{tree-at, there-at, row-at, one-path}
-use Rattle.sheet_edit.specs.Edits.{replaced, refusal17, refusal18, Edit, result, freshRows}
+use Rattle.tree_numbering.specs.Replaced.{replaced}
+use Rattle.sheet_edit.specs.Edits.{refusal17, refusal18, Edit, result, freshRows}
 use Rattle.sheet_edit.specs.Shelters.{shelters, passes, sheltered}
 use Rattle.sheet_edit.proofs.Replaced.{node-here, named-here, result-few, edited-accepted}
 

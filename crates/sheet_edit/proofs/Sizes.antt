@@ -14,8 +14,9 @@ use Rattle.tree_numbering.proofs.Sizes as whole
 use Rattle.row_walk.specs.Paths.{Branch, first, second, numberAt}
 use Rattle.row_walk.proofs.Below.{owns, operand-most}
 use Rattle.row_walk.proofs.Paths.{reached}
-use Rattle.sheet_edit.specs.Edits.{replacedAt, edited}
-use Rattle.sheet_edit.proofs.Results.{after-here, size-node}
+use Rattle.tree_numbering.specs.Replaced.{replacedAt}
+use Rattle.sheet_edit.specs.Edits.{edited}
+use Rattle.tree_numbering.proofs.Replaced.{after-here, size-node}
 use Rattle.sheet_edit.proofs.Shelters.{nowhere, one, differ, here}
 
 module _ (context count : ℕ) (cells : List ℕ) (ok : Accepted context count cells) (j : ℕ) (s : Tree) (there : 1 ≤ j) where

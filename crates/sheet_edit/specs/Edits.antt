@@ -8,33 +8,16 @@ use Rattle.laws.specs.Choice.{pick}
 use Rattle.laws.specs.Lists.{over}
 use Rattle.tree.specs.Sizes.{nodeCells, rowCells, mostNodes}
 use Rattle.tree.specs.Forms.{anExpression, classOf}
-use Rattle.tree.specs.Table.{firstColumn, secondColumn}
 use Rattle.tree.specs.Operands.{formIn}
-use Rattle.tree.specs.Trees.{Tree, none, node, operandAt, treeAt}
+use Rattle.tree.specs.Trees.{Tree, treeAt}
 use Rattle.tree_rules.specs.Refusals.{refusal10, refusal11, refuse, firstOf, refusalThen}
 use Rattle.tree_numbering.specs.Numbered.{size, numbered}
-use Rattle.row.specs.Rows.{rowsOf}
-use Rattle.row_walk.specs.Walk.{rootHanded, placed}
+use Rattle.tree_numbering.specs.Replaced.{replacedAt}
+use Rattle.row_walk.specs.Walk.{treeRows}
 use Rattle.sheet_edit.specs.declared.Edited.{Edited}
 use Rattle.sheet_edit.specs.declared.Edited.the-variants.{Refused, Nodes}
 
 -- ---- the tree
-
--- the tree t at number i, with what stands at number j replaced by s: down by the operands' numbers
-unfoldable pub replaced : List ℕ → ℕ → ℕ → Tree → ℕ → Tree → Tree
-replaced cells count j s i none = none
-replaced cells count j s i (node l a b) =
-    pick
-    (eqb i j)
-    s
-    (node
-    l
-    (replaced cells count j s (operandAt cells count i firstColumn) a)
-    (replaced cells count j s (operandAt cells count i secondColumn) b))
-
--- the tree at node i so replaced
-abbrev pub replacedAt : List ℕ → ℕ → ℕ → Tree → ℕ → Tree
-replacedAt cells count j s i = replaced cells count j s i (treeAt cells count i)
 
 -- "the operand at a named node is replaced by another accepted tree's root and all under it"
 abbrev pub edited : List ℕ → ℕ → ℕ → Tree → Tree
@@ -91,7 +74,7 @@ editReply e table rows = pick (eqb (editRefusal e table rows) 0) (Nodes (size (r
 
 -- the rows of a tree under a context, worked out afresh, in the cells of the nodes that a table gives it
 abbrev pub freshRows : ℕ → Tree → List ℕ → List ℕ → List ℕ
-freshRows context t cells rows = placed cells (size t) 1 (rowsOf (rootHanded context t) t) rows
+freshRows context t cells rows = treeRows context (size t) t cells rows
 
 -- buffers for the result, where the table and the rows count as so long. "A refused edit changes nothing."
 -- Otherwise the table has "the tree .. numbered as in Paper 2" over its start; what lies behind it stays

@@ -1,6 +1,5 @@
 // An open sheet's edit: the expression at a named node is replaced by another accepted tree. And a look before the edit.
-use row_walk::root_handed;
-use row_walk::walk_from;
+use row_walk::walk;
 use tree::columns;
 use tree::forms;
 use tree::sizes;
@@ -10,24 +9,22 @@ use tree::table::operand_number;
 use tree_labels::form::class_of;
 use tree_labels::level::larger;
 use tree_labels::level::own_level;
+use tree_numbering::edited::number;
 use tree_numbering::levels_at;
-use tree_numbering::number_after;
-use tree_numbering::number_from;
 use tree_numbering::room_after;
-use tree_numbering::store;
 use tree_one_pass::check;
 ghost use mathlib.Core.Path.{_≡_};
 ghost use mathlib.Core.Bool.{not, _&&_};
-ghost use Prim.Native.Nat.{suc, _+_, _*_, _≤_, min};
+ghost use Prim.Native.Nat.{_*_, _≤_, min};
 ghost use lib.ListN.{length, take};
-ghost use lib.Seq.{sets};
 ghost use Rattle.laws.specs.Each.{some};
 ghost use Rattle.laws.specs.Lists.{over};
 ghost use Rattle.tree.specs.Sizes.{nodeCells, mostNodes};
 ghost use Rattle.tree.specs.Trees.{treeAt, levels};
 ghost use Rattle.tree_rules.specs.Refusals.{plainBlock};
-ghost use Rattle.tree_numbering.specs.Numbered.{size, cellsFrom, numbered};
-ghost use Rattle.sheet_edit.specs.Edits.{replacedAt, editOf, editRefusal, editReply, freshRows, tableAfter, editedRows};
+ghost use Rattle.tree_numbering.specs.Numbered.{size, numbered};
+ghost use Rattle.tree_numbering.specs.Replaced.{replacedAt};
+ghost use Rattle.sheet_edit.specs.Edits.{editOf, editRefusal, editReply, freshRows, tableAfter, editedRows};
 ghost use Rattle.sheet_edit.specs.Previews.{previewReply, previewTable, previewRows};
 ghost use Rattle.sheet_edit.specs.Steps.{joined, ownsOutput, Fits};
 
@@ -70,45 +67,7 @@ fn levels_edited(
     own_level(table, node) + larger(one, two)
 }
 
-// ---- numbering
-
-// The nodes of the result below a node after so many others; how many there are then.
-fn number_edited(
-    table: &[u16],
-    count: u16,
-    place: u16,
-    second: &[u16],
-    nodes: u16,
-    node: u16,
-    done: u16,
-    out: &mut [u16],
-) -> u16
-    requires { ⌜ (1 ≤ nodes) × (done + size (replacedAt (now table) count place (treeAt (now second) nodes 1) node) ≤ mostNodes) × (nodeCells * (done + size (replacedAt (now table) count place (treeAt (now second) nodes 1) node)) ≤ length (now out)) ⌝ }
-    ensures reply { λ r. ⌜ r ≡ done + size (replacedAt (now (table .entry)) count place (treeAt (now (second .entry)) nodes 1) node) ⌝ }
-    ensures out { λ _. ⌜ now (out .exit) ≡ sets (now (out .entry)) (nodeCells * done) (cellsFrom (suc done) (replacedAt (now (table .entry)) count place (treeAt (now (second .entry)) nodes 1) node)) ⌝ }
-{
-    if node == 0 {
-        return done;
-    }
-    if count < node {
-        return done;
-    }
-    if node == place {
-        return number_from(second, nodes, 1, done, out);
-    }
-    let first = operand_number(table, count, node, columns::FIRST);
-    let other = operand_number(table, count, node, columns::SECOND);
-    let after = number_edited(table, count, place, second, nodes, first, done + 1, out);
-    store(
-        table,
-        node,
-        done,
-        number_after(first, done + 1),
-        number_after(other, after),
-        out,
-    );
-    number_edited(table, count, place, second, nodes, other, after, out)
-}
+// ---- copying
 
 // The first cells of the own array, over the start of the lent table.
 fn copy(own: &[u16], cells: usize, table: &mut [u16])
@@ -235,9 +194,9 @@ fn replace(
     ensures table { λ _. ⌜ now (table .exit) ≡ over (numbered (joined (now (table .entry)) count place (now (second .entry)) nodes)) (now (table .entry)) ⌝ }
     ensures rows { λ _. ⌜ now (rows .exit) ≡ freshRows context (joined (now (table .entry)) count place (now (second .entry)) nodes) (over (numbered (joined (now (table .entry)) count place (now (second .entry)) nodes)) (now (table .entry))) (now (rows .entry)) ⌝ }
 {
-    let done = number_edited(table, count, place, second, nodes, 1, 0, own);
+    let done = number(table, count, place, second, nodes, own);
     copy(own, sizes::NODE_CELLS * (done as usize), table);
-    walk_from(root_handed(context, table, done), table, done, 1, rows);
+    walk(context, done, table, rows);
     done
 }
 
@@ -377,8 +336,8 @@ fn show(
     ensures out { λ _. ⌜ now (out .exit) ≡ over (numbered (joined (now (table .entry)) count place (now (second .entry)) nodes)) (now (out .entry)) ⌝ }
     ensures rows { λ _. ⌜ now (rows .exit) ≡ freshRows context (joined (now (table .entry)) count place (now (second .entry)) nodes) (over (numbered (joined (now (table .entry)) count place (now (second .entry)) nodes)) (now (out .entry))) (now (rows .entry)) ⌝ }
 {
-    let done = number_edited(table, count, place, second, nodes, 1, 0, out);
-    walk_from(root_handed(context, out, done), out, done, 1, rows);
+    let done = number(table, count, place, second, nodes, out);
+    walk(context, done, out, rows);
     done
 }
 

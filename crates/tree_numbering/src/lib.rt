@@ -90,7 +90,7 @@ pub fn levels_at(table: &[u16], count: u16, node: u16) -> u16
 // ---- numbering
 
 // The number that an operand gets after so many nodes; 0 where it is absent.
-pub fn number_after(operand: u16, done: u16) -> u16
+fn number_after(operand: u16, done: u16) -> u16
     requires { ⌜ done < 65535 ⌝ }
     ensures { λ r. ⌜ r ≡ pick (eqb operand 0) 0 (suc done) ⌝ }
 {
@@ -101,7 +101,7 @@ pub fn number_after(operand: u16, done: u16) -> u16
 }
 
 // A node of the table into the six cells after so many nodes, with its operands' new numbers.
-pub fn store(table: &[u16], node: u16, done: u16, first: u16, second: u16, out: &mut [u16])
+fn store(table: &[u16], node: u16, done: u16, first: u16, second: u16, out: &mut [u16])
     requires { ⌜ nodeCells * done + nodeCells ≤ length (now out) ⌝ }
     ensures { λ _. ⌜ now (out .exit) ≡ sets (now (out .entry)) (nodeCells * done) (formAt (now (table .entry)) node ∷ attributesAt (now (table .entry)) node ∷ detailAt (now (table .entry)) node ∷ first ∷ second ∷ symbolAt (now (table .entry)) node ∷ []) ⌝ }
 {
@@ -115,7 +115,7 @@ pub fn store(table: &[u16], node: u16, done: u16, first: u16, second: u16, out: 
 }
 
 // The nodes of the tree at a node after so many others; how many there are then. A node's own cells are known once its first operand has its numbers.
-pub fn number_from(table: &[u16], count: u16, node: u16, done: u16, out: &mut [u16]) -> u16
+fn number_from(table: &[u16], count: u16, node: u16, done: u16, out: &mut [u16]) -> u16
     requires { ⌜ (done + size (treeAt (now table) count node) ≤ mostNodes) × (nodeCells * (done + size (treeAt (now table) count node)) ≤ length (now out)) ⌝ }
     ensures nodes { λ r. ⌜ r ≡ done + size (treeAt (now (table .entry)) count node) ⌝ }
     ensures out { λ _. ⌜ now (out .exit) ≡ sets (now (out .entry)) (nodeCells * done) (cellsFrom (suc done) (treeAt (now (table .entry)) count node)) ⌝ }

@@ -4,7 +4,8 @@ use native.Mathlib.Omega.{arith}
 use Rattle.laws.proofs.Calls.{free, given-at, given-below}
 use Rattle.tree.specs.Trees.{treeAt, levels}
 use Rattle.tree.proofs.Unfold.{left, left-falls}
-use Rattle.sheet_edit.proofs.Results.{after-zero, after-past, after-here, none-levels, levels-bound, levels-by}
+use Rattle.tree_numbering.proofs.Replaced.{after-zero, after-past, after-here}
+use Rattle.sheet_edit.proofs.Results.{none-levels, levels-bound, levels-by}
 use Prim.Native.Nat.{ℕ}
 use borrow.Fn.PlainCycle.{Measures}
 use Rattle.sheet_edit.proofs.levels_edited.Reads as levels-edited
