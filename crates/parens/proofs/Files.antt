@@ -5,13 +5,12 @@ use Prim.Native.Nat.{ℕ, _*_, _≤_}
 use native.Mathlib.Omega.{arith}
 use lib.ListN.{length, take, replicate, length-replicate}
 use Rattle.tree.specs.Sizes.{nodeCells, rowCells, scratchCells, mostNodes}
-use Rattle.tree.specs.Trees.{treeAt}
 use Rattle.tree_rules.specs.Refusals.{refusal}
 use Rattle.file_loader.specs.declared.Loaded.the-variants.{Refused, Accepted}
 use Rattle.file_loader.specs.Files.{loaded, loadedTable}
 use Rattle.file_loader.proofs.Loading.{count-most, stored-room, stored-cells, not-refused}
-use Rattle.row_walk.specs.Walk.{rootHanded, rowsAfter}
-use Rattle.row_walk.proofs.Replies.{done}
+use Rattle.row_walk.specs.Walk.{rowsAfter}
+use Rattle.row_walk.proofs.Replies.{walked, done}
 use Rattle.text.specs.Numbers.{noLine}
 use Rattle.parens.specs.Text.{rowsIn, acceptedText, answered, printed}
 
@@ -21,7 +20,7 @@ pub rows-placed : (context count : ℕ) (cells rows scratch after : List ℕ) �
 unfolding rowsIn
 rows-placed context count cells rows scratch after ok most zeros long e =
     let room : length rows ≡ rowCells * mostNodes = rw zeros (length-replicate {A = ℕ} (rowCells * mostNodes) 0) in
-    e ∙ sym (done context count cells rows scratch ok (omega arith) (omega arith) (rootHanded context (treeAt cells count 1)) refl _ refl _ refl .1 .0) ∙ rw zeros
+    e ∙ sym (done context count cells rows scratch ok (omega arith) (omega arith) _ refl _ refl .1 .0) ∙ walked context count cells rows (omega arith) ∙ rw zeros
 
 -- ---- the answers of the loader
 

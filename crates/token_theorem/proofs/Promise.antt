@@ -21,7 +21,7 @@ use Rattle.row.specs.Rows.{rowsOf}
 use Rattle.row_walk.specs.Walk.{rootHanded, placed}
 use Rattle.row_walk.specs.Paths.{Branch, numberAt, treeBy}
 use Rattle.row_walk.proofs.Paths.{tree-at, there-at, one-path, reached}
-use Rattle.row_walk.proofs.Replies.{done}
+use Rattle.row_walk.proofs.Replies.{walked, done}
 use Rattle.token_grammar.specs.Tokens.{Token, cellsOf}
 use Rattle.token_grammar.specs.Codes.{areTokens}
 use Rattle.token_grammar.specs.Types.{one}
@@ -104,7 +104,7 @@ module _ (k : Context) (count : ℕ) (cells : List ℕ) (ok : Accepted (contextN
 
   rows-are : rowsFor context count cells ≡ rows
   unfolding rowsFor
-  rows-are = sym (done context count cells blank (replicate (scratchCells * count) 0) ok room (rw (length-replicate {A = ℕ} (scratchCells * count) 0) (omega arith)) (rootHanded context root) refl rows refl _ refl .1 .0)
+  rows-are = sym (done context count cells blank (replicate (scratchCells * count) 0) ok room (rw (length-replicate {A = ℕ} (scratchCells * count) 0) (omega arith)) _ refl _ refl .1 .0) ∙ walked context count cells blank room
 
   -- by any parse tree of the table's tree
   written-by : (e : Expr one) → treeOf e ≡ root → written context count cells ≡ write (withoutCommas (addAll k e)) []
