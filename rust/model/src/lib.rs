@@ -10,6 +10,7 @@
 //! - [`rules`], [`chart`] and [`verdict`] are the plain grammar: all readings of a
 //!   token list, found by cutting it. [`written`] says what is written for a tree, and
 //!   [`commas`] where commas stand that may follow a last item.
+//! - [`edit`] says what an edit of an open sheet gives.
 //! - [`generate`] makes accepted trees, [`recorded`] reads recorded answers, and
 //!   [`lent`] makes buffers that show what was written to them.
 
@@ -18,6 +19,7 @@ pub mod chart;
 pub mod codes;
 pub mod commas;
 pub mod contexts;
+pub mod edit;
 pub mod forms;
 pub mod generate;
 pub mod lent;

@@ -6,6 +6,7 @@
 mod curb;
 mod dice;
 mod draft;
+pub mod edits;
 mod every_spine;
 mod nests;
 mod piece;
