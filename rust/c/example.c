@@ -14,6 +14,9 @@ static const uint8_t file[] = {TEZHUKOR_NONE, 5,    /* context, count */
                                26, 0, 0, 0, 0, 2,   /* station */
                                26, 0, 0, 0, 0, 3};  /* start */
 
+/* Another tree: offset - station. */
+static const uint16_t second[] = {5, 0, 1, 2, 3, 0, 26, 0, 0, 0, 0, 1, 26, 0, 0, 0, 0, 2};
+
 static const char *const names[] = {"", "offset", "station", "start"};
 
 enum {
@@ -22,11 +25,15 @@ enum {
     ROWS = TEZHUKOR_ROW_CELLS * NODES,
     SCRATCH = TEZHUKOR_SCRATCH_CELLS * NODES,
     TOKENS = TEZHUKOR_TOKEN_CELLS * TEZHUKOR_TOKENS_PER_NODE * NODES,
-    BYTES = TEZHUKOR_FILE_BYTES(NODES)
+    BYTES = TEZHUKOR_FILE_BYTES(NODES),
+    SECOND_NODES = 3,
+    SECOND_CELLS = TEZHUKOR_NODE_CELLS * SECOND_NODES,
+    SHEET_ROWS = TEZHUKOR_ROW_CELLS * TEZHUKOR_MOST_NODES
 };
 
 static uint16_t table[CELLS];
 static uint16_t again[CELLS];
+static uint16_t sheet_rows[SHEET_ROWS];
 
 int main(void) {
     uint16_t rows[ROWS], scratch[SCRATCH], tokens[TOKENS];
@@ -67,5 +74,11 @@ int main(void) {
     /* Without a buffer: told, and nothing followed. */
     printf("refused %u\n", (unsigned)tezhukor_decide(context, count, table, cells, NULL, 0, NULL, 0));
     printf("refused %u\n", (unsigned)TEZHUKOR_REFUSAL(tezhukor_load(NULL, 0, NULL, 0)));
+    /* `start` gives way to `offset - station` in the sheet, which has room for it. */
+    uint32_t edited = tezhukor_edit(context, count, table, CELLS, sheet_rows, SHEET_ROWS, NODES,
+                                    context, SECOND_NODES, second, SECOND_CELLS);
+    printf("edited %u nodes\n", (unsigned)edited);
+    for (unsigned node = 1; node <= edited; node++)
+        if (sheet_rows[TEZHUKOR_ROW_CELLS * (node - 1)] & 1) printf("node %u needs a pair\n", node);
     return same ? 0 : 1;
 }

@@ -29,6 +29,9 @@
  *      46, or a symbol that is not 0 on a token that has none
  *   15 the plain grammar gives the tokens no reading
  *   16 the reading needs more than 4,096 nodes, or a path of more than 128
+ *   17 the named node is absent or is no expression
+ *   18 the edited tree would have more than 4,096 nodes, a path of more than 128, or a
+ *      closure with a written output over another body than a bare block
  */
 #ifndef TEZHUKOR_H
 #define TEZHUKOR_H
@@ -64,7 +67,7 @@ enum {
  * the symbol. */
 #define TEZHUKOR_FILE_BYTES(nodes) (3 + 10 * (size_t)(nodes))
 
-/* The refusal in a reply of load, save, compare, write and read; 0 if there is none. */
+/* The refusal in a reply of load, save, compare, write, read and edit; 0 if there is none. */
 #define TEZHUKOR_REFUSAL(reply) ((uint16_t)((reply) >> 16))
 /* Without a refusal: the context and the count in a reply of load. */
 #define TEZHUKOR_CONTEXT(reply) ((uint16_t)((reply) / 8192))
@@ -122,6 +125,19 @@ uint32_t tezhukor_read(uint16_t context, const uint16_t *tokens, size_t tokens_l
 #define TEZHUKOR_LEVEL(binding) ((uint16_t)((binding) / 4))
 #define TEZHUKOR_LEAN(binding) ((uint16_t)((binding) % 4))
 uint16_t tezhukor_binding(uint16_t operator_number);
+
+/* Edits an open sheet, which is a context, a count, a table and its rows: what stands at
+ * the node, with all under it, is replaced by the second tree. The result is numbered as a
+ * saved tree; its nodes go into the table and its rows, worked out afresh whatever rows
+ * were lent, into the rows. The sheet's context stays, the second tree's is checked and
+ * not used. Node 1 may be named. None of the buffers may overlap another, so a tree is not
+ * put into a sheet from the sheet's own table. Replies the refusal times 65,536 (3, 4, 6 to
+ * 11 of the sheet, then of the second tree, 17, 18, and last 12, for a table or rows too
+ * short for the result), or the result's count. */
+uint32_t tezhukor_edit(uint16_t context, uint16_t count, uint16_t *table, size_t table_length,
+                       uint16_t *rows, size_t rows_length, uint16_t node,
+                       uint16_t second_context, uint16_t second_count,
+                       const uint16_t *second, size_t second_length);
 
 #ifdef __cplusplus
 }

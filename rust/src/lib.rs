@@ -83,12 +83,15 @@
 
 mod binding;
 pub mod boundary;
+mod open_sheet;
 mod refusal;
+pub mod text;
 mod tree;
 
 pub use binding::{Binding, Lean};
 #[doc(inline)]
 pub use model::{codes, codes::Token, contexts, forms, sizes};
+pub use open_sheet::OpenSheet;
 pub use refusal::Refusal;
 use std::cmp::Ordering;
 pub use tree::{Node, Row, Tree};

@@ -46,15 +46,17 @@ refusals! {
     14 Tokens "The token list has more than 24,576 tokens, an odd number of cells, a code above 46, or a symbol on a token that has none.",
     15 NoReading "The plain grammar gives these tokens no reading.",
     16 ReadingTooLarge "The reading needs more than 4,096 nodes, or a path of more than 128.",
+    17 NamedNode "The named node is absent or is no expression.",
+    18 EditedTree "The edited tree would have more than 4,096 nodes, a path of more than 128, or a closure with a written output over another body than a block without attributes and label.",
 }
 
 impl Refusal {
-    /// The reply number, 1 to 16.
+    /// The reply number, 1 to 18.
     pub fn number(self) -> u16 {
         self as u16
     }
 
-    /// The refusal with a reply number; none for 0 and above 16.
+    /// The refusal with a reply number; none for 0 and above 18.
     pub fn numbered(number: u16) -> Option<Refusal> {
         Refusal::ALL.into_iter().find(|refusal| refusal.number() == number)
     }

@@ -81,8 +81,8 @@ impl Row {
 /// A tree that is accepted: none of refusals 1 to 11 applies to it.
 #[derive(Clone, PartialEq, Eq, Hash, Debug)]
 pub struct Tree {
-    context: u16,
-    cells: Vec<u16>,
+    pub(crate) context: u16,
+    pub(crate) cells: Vec<u16>,
 }
 
 impl Tree {

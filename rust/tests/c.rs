@@ -31,6 +31,9 @@ fn example() {
         "level 11, lean 0",
         "refused 12",
         "refused 2",
+        "edited 7 nodes",
+        "node 3 needs a pair",
+        "node 5 needs a pair",
     ];
     assert_eq!(printed.lines().collect::<Vec<_>>(), meant);
 }

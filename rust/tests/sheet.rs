@@ -406,6 +406,139 @@ fn archive() {
     let _ = std::fs::remove_dir_all(&folder.0);
 }
 
+/// Edits a file, and shows what comes of it with the names that it then has.
+fn edited(names: &Scratch, file: &[u8], node: &str, text: &str) -> (Vec<u8>, String) {
+    let output = sheet(&["edit", "--names", names.name(), "-", node, text], file);
+    let message = String::from_utf8_lossy(&output.stderr);
+    assert_eq!(output.status.code(), Some(0), "{node} {text}: {message}");
+    let shown = printed(&["show", "--names", names.name(), "-"], &output.stdout, 0);
+    (output.stdout, shown.trim_end().to_string())
+}
+
+/// An operand is replaced by an expression, and the pairs are those of the result.
+#[test]
+fn edits() {
+    let names = Scratch::new("edits");
+    let text = "offset - (station - start)";
+    let file = sheet(&["read", "--names", names.name(), text], b"").stdout;
+    for (node, text, result) in [
+        ("start", "depth", "offset - (station - depth)"),
+        ("5", "depth * 2", "offset - (station - depth * 2)"),
+        ("5", "depth - start", "offset - (station - (depth - start))"),
+        ("station", "depth = start", "offset - ((depth = start) - start)"),
+        ("station - start", "station", "offset - station"),
+        ("station-start", "station", "offset - station"),
+        ("(station - start)", "station", "offset - station"),
+        ("offset - (station - start)", "start", "start"),
+        ("1", "offset + 1", "offset + 1"),
+        ("offset", "depth as usize", "depth as usize - (station - start)"),
+    ] {
+        let (edited, shown) = edited(&names, &file, node, text);
+        assert_eq!(shown, result, "{node} {text}");
+        // The file is the one of its tree.
+        assert_eq!(sheet(&["canonical", "-"], &edited).stdout, edited);
+    }
+    // New names have new lines, behind those that were there.
+    let lines = std::fs::read_to_string(&names.0).expect("names");
+    assert_eq!(lines, "offset\nstation\nstart\ndepth\n2\n1\nusize\n");
+}
+
+/// Edits one after the other; a sheet keeps its context.
+#[test]
+fn edits_in_turn() {
+    let names = Scratch::new("turn");
+    let mut file = sheet(&["read", "--names", names.name(), "left < right"], b"").stdout;
+    file[0] = 3;
+    for (node, text, result) in [
+        ("left", "depth as usize", "(depth as usize) < right"),
+        ("depth as usize", "left + depth as usize", "left + (depth as usize) < right"),
+        ("right", "left < depth", "left + (depth as usize) < (left < depth)"),
+        ("7", "1", "left + (depth as usize) < 1"),
+    ] {
+        let shown;
+        (file, shown) = edited(&names, &file, node, text);
+        assert_eq!(shown, result);
+        assert_eq!(file[0], 3);
+    }
+}
+
+/// A struct is typed without a pair, which it has in a condition alone.
+#[test]
+fn structs_in_edits() {
+    let names = Scratch::new("struct");
+    for (options, result) in
+        [(&["read", "--condition"][..], "x == (S { .. })"), (&["read"], "x == S { .. }")]
+    {
+        let words = [options, &["--names", names.name(), "x == y"]].concat();
+        let file = sheet(&words, b"").stdout;
+        assert_eq!(edited(&names, &file, "y", "Limit { .. }").1, result);
+    }
+}
+
+/// Without a names file names are the letters shown.
+#[test]
+fn edits_by_letters() {
+    let file = tree_of("offset - (station - start)");
+    let edited = |node, text| {
+        let output = sheet(&["edit", "-", node, text], &file);
+        assert_eq!(output.status.code(), Some(0));
+        printed(&["show", "-"], &output.stdout, 0).trim_end().to_string()
+    };
+    assert_eq!(edited("c", "a"), "a - (b - a)");
+    assert_eq!(edited("b - c", "new + b"), "a - (d + b)");
+}
+
+/// A refused edit is told with its node and the reason, and nothing is written.
+#[test]
+fn refused_edits() {
+    let names = Scratch::new("refused");
+    let text = "a.f(a as T, b + b)";
+    let file = sheet(&["read", "--names", names.name(), text], b"").stdout;
+    let lines = std::fs::read(&names.0).expect("names");
+    let refused = |node: &str, text: &str| {
+        printed(&["edit", "--names", names.name(), "-", node, text], &file, 1)
+    };
+    for (node, text, message) in [
+        ("0", "new", "refused (17) at node 0 of 10: The named node is absent"),
+        ("11", "new", "refused (17) at node 11 of 10: "),
+        ("65535", "new", "refused (17) at node 65535 of 10: "),
+        ("3", "new", "refused (17) at node 3, a list link: "),
+        ("6", "new", "refused (17) at node 6, a path type: "),
+        ("b", "new", "`b` stands at the nodes 9, 10: name a node by its number"),
+        ("new", "a", "no operand of the sheet is `new`: name a node by its number"),
+        ("T", "new", "no operand of the sheet is `T`"),
+        ("4", "new +", "refused (15): the text ends where an operand must stand"),
+    ] {
+        let told = refused(node, text);
+        assert!(told.starts_with(&format!("sheet: {message}")), "{told}");
+    }
+    assert_eq!(std::fs::read(&names.0).expect("names"), lines);
+}
+
+/// What would give no tree is refused for one of three reasons.
+#[test]
+fn edits_without_a_result() {
+    // |..| -> .. { .. }
+    let closure = [0, 2, 10, 0, 1, 2, 0, 0, 6, 0, 0, 0, 0, 0];
+    let told = printed(&["edit", "-", "2", "a"], &closure, 1);
+    let reason = "the body of node 1, a closure with a written output";
+    assert!(told.starts_with(&format!("sheet: refused (18) at node 2, {reason}: ")), "{told}");
+    assert_eq!(sheet(&["edit", "-", "1", "a"], &closure).status.code(), Some(0));
+    let signs = |signs: usize| "-".repeat(signs) + "a";
+    let file = tree_of(&signs(100));
+    let told = printed(&["edit", "-", "a", &signs(28)], &file, 1);
+    let reason = "which would give a path of 129 nodes";
+    assert!(told.starts_with(&format!("sheet: refused (18) at node 101, {reason}: ")), "{told}");
+    assert_eq!(sheet(&["edit", "-", "a", &signs(27)], &file).status.code(), Some(0));
+    // A call of n arguments has 2 n + 2 nodes.
+    let call = |arguments: usize| format!("f({})", vec!["1"; arguments].join(", "));
+    let file = tree_of(&call(2_000));
+    let told = printed(&["edit", "-", "2", &call(47)], &file, 1);
+    let reason = "which would give 4097 nodes";
+    assert!(told.starts_with(&format!("sheet: refused (18) at node 2, {reason}: ")), "{told}");
+    assert_eq!(sheet(&["edit", "-", "1", &call(2_046)], &file).status.code(), Some(0));
+}
+
 #[test]
 fn usage() {
     let usage = printed(&["help"], b"", 0);
@@ -417,6 +550,8 @@ fn usage() {
         &["canonical"],
         &["compare", "a"],
         &["doubles"],
+        &["edit", "a", "1"],
+        &["edit", "--names", "a", "1", "b"],
         &["--names"],
         &["show", "--names"],
         &["rows", "--names", "a", "b"],

@@ -161,11 +161,13 @@ fn sentences_agree() {
         (Refusal::NotPlain, contexts::CONDITION.into()),
         (Refusal::ReadingTooLarge, MOST_NODES),
         (Refusal::ReadingTooLarge, MOST_LEVELS),
+        (Refusal::EditedTree, MOST_NODES),
+        (Refusal::EditedTree, MOST_LEVELS),
     ] {
         assert!(refusal.sentence().contains(&spelled(number)), "{number}: {refusal}");
     }
     assert_eq!(MOST_TOKENS, TOKENS_PER_NODE * MOST_NODES);
     assert_eq!(codes::SPELLED.len(), usize::from(LAST_CODE) + 1);
-    assert_eq!(Refusal::numbered(LAST_REFUSAL), Some(Refusal::ReadingTooLarge));
+    assert_eq!(Refusal::numbered(LAST_REFUSAL), Some(Refusal::EditedTree));
     assert_eq!(Refusal::numbered(LAST_REFUSAL + 1), None);
 }

@@ -37,7 +37,7 @@ pub const LAST_CODE: u16 = 46;
 pub const LAST_CONTEXT: u16 = 3;
 
 /// The last refusal.
-pub const LAST_REFUSAL: u16 = 16;
+pub const LAST_REFUSAL: u16 = 18;
 
 /// A reply of one number is the refusal times this, or without one what was done.
 pub const REFUSAL_UNIT: u32 = 65_536;

@@ -1,4 +1,4 @@
-//! The exports of the static libraries: of `answers` the first seven, of
+//! The exports of the static libraries: of `answers` the first eight, of
 //! `answers_asked` the others. They are declared here only.
 
 extern "C" {
@@ -54,6 +54,20 @@ extern "C" {
     ) -> u32;
 
     pub fn tezhukor_binding(operator: u16) -> u16;
+
+    pub fn tezhukor_edit(
+        context: u16,
+        count: u16,
+        table: *mut u16,
+        table_length: usize,
+        rows: *mut u16,
+        rows_length: usize,
+        node: u16,
+        second_context: u16,
+        second_count: u16,
+        second: *const u16,
+        second_length: usize,
+    ) -> u32;
 
     pub fn tezhukor_answer(
         question: u16,

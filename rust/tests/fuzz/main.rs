@@ -8,6 +8,8 @@
 //!
 //! TEZHUKOR_FUZZ says how many of each are made; 2,000 if it says nothing.
 
+mod edits;
+
 use model::chart::Chart;
 use model::codes::{self, Token, CLOSE, COMMA, EQUALS, MINUS, NAME, OPEN};
 use model::commas;

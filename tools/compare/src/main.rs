@@ -4,6 +4,7 @@
 mod contexts;
 mod decided;
 mod digest;
+mod edits;
 mod in_context;
 mod nests;
 mod record;
@@ -176,7 +177,9 @@ fn compare(
 
 const USAGE: &str = "usage:
   compare [SEED]           all questions and rows, on random and on small trees
-  compare short            the same on each 23rd of these trees, for the gate
+  compare short            the same on each 23rd of these trees, and some edits, for the gate
+  compare edits EDITS [SEED]
+                           so many edits of open sheets, in runs too, with every refusal
   compare spines [FORMS]   rows of right spines of one to five forms, or of so many
   compare record FORMS     the same of one, two or three forms, and writes crates/spines/data
   compare nests            rows of nests of 128 levels, with the crate's scans kept";
@@ -184,7 +187,13 @@ const USAGE: &str = "usage:
 fn main() -> ExitCode {
     oracle::command::run(USAGE, |words| match *words {
         [] => Some(contexts::compare() + compare_trees(1, 1)),
-        ["short"] => Some(compare_trees(1, 23)),
+        ["short"] => Some(compare_trees(1, 23) + edits::compare(10_000, 1)),
+        ["edits", edits] => edits.parse().ok().map(|edits| edits::compare(edits, 1)),
+        ["edits", edits, seed] => edits
+            .parse()
+            .ok()
+            .zip(seed.parse().ok())
+            .map(|(edits, seed)| edits::compare(edits, seed)),
         ["spines"] => Some((1..=spines::LONGEST).map(|forms| spines::compare(forms).0).sum()),
         ["spines", forms] => number(forms, spines::LONGEST).map(|forms| spines::compare(forms).0),
         ["record", forms] => number(forms, 3).map(record::record),

@@ -1,13 +1,14 @@
 //! The commands.
 
 use crate::answer::{words, Answer};
-use crate::names::Names;
-use crate::{blame, doubles, lexer, locate, show, why, USAGE};
+use crate::names::Table;
+use crate::{blame, doubles, edits, lexer, locate, show, why, USAGE};
 use std::cmp::Ordering;
 use std::ffi::{OsStr, OsString};
 use std::fmt::Write;
 use std::io::{IsTerminal, Read};
 use tezhukor::sizes::MOST_FILE_BYTES;
+use tezhukor::text::Names;
 use tezhukor::{codes, contexts, forms, Refusal, Token, Tree};
 
 /// One byte more than a tree file may have shows that it is too long.
@@ -34,6 +35,7 @@ pub fn run(arguments: &[OsString]) -> Result<Answer, Answer> {
         (Some("canonical"), [file], None) => Ok(Answer::done(load(file)?.to_file())),
         (Some("compare"), [first, second], None) => compare(first, second),
         (Some("doubles"), [_, ..], None) => doubles::listed(rest),
+        (Some("edit"), [file, node, text], names) => edits::edit(file, node, text, names),
         (Some("help" | "--help" | "-h"), _, None) => Ok(Answer::done(USAGE)),
         _ => Err(Answer::usage()),
     }
@@ -72,10 +74,20 @@ fn read_by(arguments: &[OsString]) -> Result<Answer, Answer> {
 }
 
 fn read(context: u16, text: &str, names: Option<&OsStr>) -> Result<Answer, Answer> {
+    let mut table = Table::default();
+    let tree = expression(context, text, &mut table)?;
+    if let Some(file) = names {
+        write_names(file, &table)?;
+    }
+    Ok(Answer::done(tree.to_file()))
+}
+
+/// The tree of an expression as text in a context, with the symbols of a table for its names.
+pub fn expression(context: u16, text: &str, table: &mut Table) -> Result<Tree, Answer> {
     let at = |at, message: &str| Answer::refused(locate::pointed(text, at, message));
     let tokens = lexer::tokens(text).map_err(|error| at(error.at, &error.message))?;
-    let (named, table) = lexer::named(text, &tokens);
-    let tree = Tree::read(context, &named).map_err(|refusal| match refusal {
+    let named = lexer::named(text, &tokens, table);
+    Tree::read(context, &named).map_err(|refusal| match refusal {
         Refusal::NoReading => {
             let codes: Vec<u16> = tokens.iter().map(|token| token.code).collect();
             let place = locate::unread(context, &codes);
@@ -85,11 +97,12 @@ fn read(context: u16, text: &str, names: Option<&OsStr>) -> Result<Answer, Answe
             )
         }
         _ => Answer::refused(words(refusal, "")),
-    })?;
-    if let Some(file) = names {
-        std::fs::write(file, table.lines()).map_err(|error| unreadable(file, &error))?;
-    }
-    Ok(Answer::done(tree.to_file()))
+    })
+}
+
+/// Writes a names file.
+pub fn write_names(file: &OsStr, table: &Table) -> Result<(), Answer> {
+    std::fs::write(file, table.lines()).map_err(|error| unreadable(file, &error))
 }
 
 fn show(file: &OsStr, names: Option<&OsStr>) -> Result<Answer, Answer> {
@@ -165,7 +178,7 @@ fn compare(first: &OsStr, second: &OsStr) -> Result<Answer, Answer> {
 }
 
 /// Loads a tree file, or says what is wrong with it and where.
-fn load(file: &OsStr) -> Result<Tree, Answer> {
+pub fn load(file: &OsStr) -> Result<Tree, Answer> {
     let bytes = tree_bytes(file)?;
     loaded(&bytes).map_err(Answer::refused)
 }
@@ -203,7 +216,7 @@ fn text_from(from: impl Read) -> Result<String, Answer> {
     utf8(&bytes)
 }
 
-fn utf8(bytes: &[u8]) -> Result<String, Answer> {
+pub fn utf8(bytes: &[u8]) -> Result<String, Answer> {
     if bytes.len() as u64 > TEXT_BYTES {
         return Err(Answer::refused(format!("the text is longer than {TEXT_BYTES} bytes")));
     }
@@ -214,9 +227,14 @@ fn utf8(bytes: &[u8]) -> Result<String, Answer> {
 }
 
 fn names_from(file: Option<&OsStr>) -> Result<Names, Answer> {
+    Ok(Names::new(&names_text(file)?))
+}
+
+/// The lines of a names file, none without one.
+pub fn names_text(file: Option<&OsStr>) -> Result<String, Answer> {
     let Some(file) = file else {
-        return Ok(Names::default());
+        return Ok(String::new());
     };
     let bytes = bytes_of(file, TEXT_BYTES)?;
-    Ok(Names::new(&String::from_utf8_lossy(&bytes)))
+    Ok(String::from_utf8_lossy(&bytes).into_owned())
 }

@@ -37,14 +37,13 @@ pub fn tokens(text: &str) -> Result<Vec<Lexed>, Error> {
     Ok(lexer.tokens)
 }
 
-/// The tokens with the symbols of their names and literals, and the table of these.
-pub fn named(text: &str, tokens: &[Lexed]) -> (Vec<Token>, Table) {
-    let mut table = Table::default();
+/// The tokens with the symbols that their names and literals have in a table.
+pub fn named(text: &str, tokens: &[Lexed], table: &mut Table) -> Vec<Token> {
     let named = tokens.iter().map(|&Lexed { code, at, end }| match has_symbol(code) {
         true => Token::new(code, table.symbol(&text[at..end])),
         false => code.into(),
     });
-    (named.collect(), table)
+    named.collect()
 }
 
 struct Lexer<'a> {

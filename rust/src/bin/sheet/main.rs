@@ -4,6 +4,7 @@ mod answer;
 mod blame;
 mod commands;
 mod doubles;
+mod edits;
 mod lexer;
 mod locate;
 mod names;
@@ -32,11 +33,16 @@ sheet: where a printed Rust expression needs parentheses
                                      numbers the nodes have, on standard output
   sheet compare FILE FILE            whether the first comes before the second, after
                                      it, or is equal: contexts, then number by number
+  sheet edit [--names NAMES] FILE NODE TEXT
+                                     the file with the expression TEXT in place of what
+                                     stands at a node, on standard output
   sheet doubles FILE..               the files that hold the same tree in the same
                                      context, a line each, with an empty line between
                                      trees; a folder stands for the files in it
 
-FILE is a tree file; - is standard input. Tree files hold a symbol, a number, for
+FILE is a tree file; - is standard input. NODE is a number, or the text of an operand
+that stands once in what is shown; its names, and those of TEXT, are the names shown,
+and `edit --names NAMES` adds a line to NAMES for each other one. Tree files hold a symbol, a number, for
 each name and literal, equal ones for equal names. A names file is the table of
 symbols, line n for symbol n: `read --names OUT` writes it to OUT, and `--names NAMES`
 takes names from such a file. Without a line names are called a, b, c .. (types

@@ -1,106 +1,87 @@
-//! Names and literals: what the symbols of a tree stand for.
+//! The table of symbols that names and literals get.
 
 use std::collections::HashMap;
-use std::rc::Rc;
-use tezhukor::Tree;
-
-/// What is named.
-#[derive(Copy, Clone, PartialEq, Eq, Debug)]
-pub enum Kind {
-    Name,
-    Type,
-    Literal,
-    Member,
-}
-
-/// The lines of a names file, line n for symbol n. A symbol that has none, or an empty one,
-/// has letters; a node without a symbol those that no symbol of the tree has, in order of
-/// occurrence.
-#[derive(Clone, Debug, Default)]
-pub struct Names {
-    lines: Rc<[String]>,
-    /// The symbols of the tree, in order, without 0.
-    symbols: Vec<u16>,
-    /// The letters that were tried for nodes without a symbol.
-    tried: u16,
-}
-
-impl Names {
-    pub fn new(text: &str) -> Names {
-        let clean = |line: &str| line.trim().chars().filter(|c| !c.is_control()).collect();
-        Names { lines: text.lines().map(clean).collect(), ..Names::default() }
-    }
-
-    /// The names for one tree.
-    pub fn of(self, tree: &Tree) -> Names {
-        let nodes = (1..=tree.count()).filter_map(|number| tree.node(number));
-        let mut symbols: Vec<u16> = nodes.map(|node| node.symbol).filter(|&n| n != 0).collect();
-        symbols.sort_unstable();
-        Names { symbols, tried: 0, ..self }
-    }
-
-    /// The name or literal of a symbol.
-    pub fn named(&mut self, symbol: u16, kind: Kind) -> String {
-        let Some(at) = usize::from(symbol).checked_sub(1) else {
-            return letters(kind, self.unused());
-        };
-        match self.lines.get(at).filter(|line| !line.is_empty()) {
-            Some(line) => line.clone(),
-            None => letters(kind, symbol),
-        }
-    }
-
-    /// The next symbol that the tree does not have.
-    fn unused(&mut self) -> u16 {
-        self.tried = self.tried.saturating_add(1);
-        while self.symbols.binary_search(&self.tried).is_ok() {
-            self.tried = self.tried.saturating_add(1);
-        }
-        self.tried
-    }
-}
-
-fn letters(kind: Kind, symbol: u16) -> String {
-    let first = match kind {
-        Kind::Literal => return "1".to_string(),
-        Kind::Member => return "0".to_string(),
-        Kind::Name => b'a',
-        Kind::Type => b'A',
-    };
-    let at = symbol - 1;
-    let letter = char::from(first + (at % 26) as u8);
-    match at / 26 {
-        0 => letter.to_string(),
-        round => format!("{letter}{round}"),
-    }
-}
+use tezhukor::forms::{FIELD, LIT, METHOD_CALL, PATH, TYPE_PATH};
+use tezhukor::text::{Kind, Names};
+use tezhukor::{Node, Tree};
 
 /// A table of symbols that grows: equal names have equal symbols, from 1 on.
 #[derive(Debug, Default)]
 pub struct Table {
     symbols: HashMap<String, u16>,
-    lines: String,
+    lines: Vec<String>,
+    /// Symbols that no new name gets, in order.
+    taken: Vec<u16>,
 }
 
 impl Table {
+    /// That of a names file and a tree: a name means the symbol that is shown by it, and new
+    /// names get symbols that neither has.
+    pub fn of(names: &str, tree: &Tree) -> Table {
+        let lines: Vec<String> = names.lines().map(str::to_string).collect();
+        let mut shown = Names::new(names).of(tree);
+        let mut symbols = HashMap::new();
+        for symbol in 1..=u16::try_from(lines.len()).unwrap_or(u16::MAX) {
+            if !lines[usize::from(symbol) - 1].trim().is_empty() {
+                symbols.entry(shown.named(symbol, Kind::Name)).or_insert(symbol);
+            }
+        }
+        let mut taken = Vec::new();
+        for node in (1..=tree.count()).filter_map(|number| tree.node(number)) {
+            if let Some(kind) = kind(node) {
+                symbols.entry(shown.named(node.symbol, kind)).or_insert(node.symbol);
+            }
+            taken.push(node.symbol);
+        }
+        taken.sort_unstable();
+        Table { symbols, lines, taken }
+    }
+
     /// The symbol of a name or literal, a new one if it has none yet.
     pub fn symbol(&mut self, name: &str) -> u16 {
         // A literal may hold a line break; in its line it is a blank.
         let line = name.replace(['\n', '\r'], " ");
-        // A list has fewer tokens than there are symbols, or is refused.
-        let next = u16::try_from(self.symbols.len() + 1).unwrap_or(u16::MAX);
         if let Some(&symbol) = self.symbols.get(&line) {
             return symbol;
         }
-        self.lines.push_str(&line);
-        self.lines.push('\n');
-        self.symbols.insert(line, next);
-        next
+        while self.taken.binary_search(&self.next()).is_ok() && !self.is_full() {
+            self.lines.push(String::new());
+        }
+        let symbol = self.next();
+        self.symbols.insert(line.clone(), symbol);
+        self.lines.push(line);
+        symbol
+    }
+
+    /// The symbol of the next line. A list has fewer tokens than there are symbols, or is
+    /// refused; a names file may have more lines.
+    fn next(&self) -> u16 {
+        u16::try_from(self.lines.len() + 1).unwrap_or(u16::MAX)
+    }
+
+    /// Whether there are more lines than symbols, so that a name may have got another's.
+    pub fn is_full(&self) -> bool {
+        self.lines.len() > usize::from(u16::MAX)
     }
 
     /// The names file.
-    pub fn lines(&self) -> &str {
-        &self.lines
+    pub fn lines(&self) -> String {
+        self.lines.iter().flat_map(|line| [line, "\n"]).collect()
+    }
+
+    /// How many lines it has.
+    pub fn len(&self) -> usize {
+        self.lines.len()
+    }
+}
+
+/// What a node with a symbol names, where it is shown by letters without a line.
+fn kind(node: Node) -> Option<Kind> {
+    match (node.form, node.detail, node.symbol) {
+        (_, _, 0) | (LIT, ..) | (FIELD, 1, _) => None,
+        (PATH | FIELD | METHOD_CALL, ..) => Some(Kind::Name),
+        (TYPE_PATH, ..) => Some(Kind::Type),
+        _ => None,
     }
 }
 
@@ -117,16 +98,13 @@ mod tests {
     }
 
     #[test]
-    fn symbols_without_a_line_have_letters() {
-        // a + b, the one with symbol 2, the other without.
-        let file = [0, 3, 5, 0, 0, 2, 3, 0, 26, 0, 0, 0, 0, 2, 26, 0, 0, 0, 0, 0];
+    fn names_are_those_shown() {
+        // A sum of symbol 2, which has no line, and symbol 4, which is beyond the lines.
+        let file = [0, 3, 5, 0, 0, 2, 3, 0, 26, 0, 0, 0, 0, 2, 26, 0, 0, 0, 0, 4];
         let tree = Tree::load(&file).expect("a tree");
-        let mut names = Names::new("one\n\nthree\n").of(&tree);
-        assert_eq!(names.named(1, Kind::Name), "one");
-        assert_eq!(names.named(2, Kind::Name), "b");
-        assert_eq!(names.named(3, Kind::Literal), "three");
-        assert_eq!(names.named(29, Kind::Type), "C1");
-        assert_eq!(names.named(4, Kind::Literal), "1");
-        assert_eq!([(); 3].map(|()| names.named(0, Kind::Name)), ["a", "c", "d"]);
+        let mut table = Table::of("depth\n\n1.5\n", &tree);
+        let names = ["depth", "b", "d", "1.5", "e", "f", "e"];
+        assert_eq!(names.map(|name| table.symbol(name)), [1, 2, 4, 3, 5, 6, 5]);
+        assert_eq!(table.lines(), "depth\n\n1.5\n\ne\nf\n");
     }
 }

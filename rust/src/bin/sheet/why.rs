@@ -1,10 +1,10 @@
 //! Why a pair was added: the owner's test, or a part of `parenthesize`.
 
-use crate::names::Names;
 use crate::show::{self, Shown};
 use crate::words;
 use tezhukor::boundary::questions::{self, Context, Handed, InContext, Place};
 use tezhukor::forms::{Side, *};
+use tezhukor::text::Names;
 use tezhukor::{Binding, Lean, Node, Row, Tree};
 
 /// The flag of a context that says: the next operator can begin generic arguments.

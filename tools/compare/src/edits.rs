@@ -1,0 +1,181 @@
+//! Edits of open sheets: tezhukor_edit beside the model's result, numbered from the root on,
+//! and the crate's own rows of it.
+
+use model::edit::{lent, over, reply, Asked};
+use model::generate::edits::{self, Edit, Run, FAULTS};
+use model::generate::{levels, Dice, Draft, LONGEST_NEST};
+use model::sizes::LAST_REFUSAL;
+use model::NodeTable;
+use oracle::direct::context_of_root;
+use oracle::keeping;
+use tezhukor::boundary::edits as ours;
+
+/// How many edits a run has.
+const RUN: u64 = 60;
+
+/// How many sheets are taken for one run, and for one large sheet.
+const A_RUN: u64 = 50;
+const A_LARGE_ONE: u64 = 20;
+
+/// Of so many differences all is told.
+const TOLD: u64 = 20;
+
+/// What was asked of one function.
+#[derive(Default)]
+struct Replies {
+    by_refusal: [u64; LAST_REFUSAL as usize + 1],
+    different: u64,
+}
+
+impl Replies {
+    fn all(&self) -> u64 {
+        self.by_refusal.iter().sum()
+    }
+
+    /// Counts what was done, and tells where it is not what was wanted.
+    fn count(&mut self, asked: &Asked, meant: &Result<NodeTable, u16>, done: Done, wanted: Done) {
+        self.by_refusal[usize::from(meant.as_ref().err().copied().unwrap_or(0))] += 1;
+        self.different += u64::from(done != wanted);
+        if done != wanted && self.different <= TOLD {
+            let (table, rows) = (done.table == wanted.table, done.rows == wanted.rows);
+            println!(
+                "reply {}, not {}, table as meant: {table}, rows as meant: {rows}: {asked:?}",
+                done.reply, wanted.reply
+            );
+        }
+    }
+
+    fn print(&self, name: &str) {
+        let replies: Vec<String> = (0..self.by_refusal.len())
+            .filter(|&reply| self.by_refusal[reply] > 0)
+            .map(|reply| format!("{reply}: {}", self.by_refusal[reply]))
+            .collect();
+        println!("{name} {}, by reply {}", self.all(), replies.join(", "));
+        println!("  different {}", self.different);
+    }
+}
+
+/// What came of all edits.
+#[derive(Default)]
+struct Tally {
+    edits: Replies,
+    /// Rows of results, those of types and links included.
+    rows: u64,
+    grown: u64,
+    shrunk: u64,
+    most_nodes: u16,
+}
+
+/// What a function did: its reply, and the table and the rows that it was lent.
+#[derive(PartialEq, Eq)]
+struct Done {
+    reply: u32,
+    table: Vec<u16>,
+    rows: Vec<u16>,
+}
+
+impl Done {
+    /// What must be done to a table and rows that are lent.
+    fn meant(meant: &Result<NodeTable, u16>, rows: &[u16], buffers: [Vec<u16>; 2]) -> Done {
+        let [table, lent_rows] = buffers;
+        match meant {
+            Err(_) => Done { reply: reply(meant), table, rows: lent_rows },
+            Ok(result) => Done {
+                reply: reply(meant),
+                table: over(&result.cells, table),
+                rows: over(rows, lent_rows),
+            },
+        }
+    }
+}
+
+/// The crate's rows of a tree, five cells a node.
+fn rows_of(tree: &NodeTable) -> Vec<u16> {
+    let ask = || oracle::rows(&[context_of_root(tree.context)], tree.count, &tree.cells);
+    let rows = match levels(&Draft::of(tree)) <= LONGEST_NEST {
+        true => ask(),
+        false => keeping(ask),
+    };
+    rows[0].iter().flat_map(|row| row.cells()).collect()
+}
+
+fn second(asked: &Asked) -> ours::Edit<'_> {
+    let NodeTable { context, count, cells } = &asked.second;
+    ours::Edit { node: asked.node, context: *context, count: *count, table: cells }
+}
+
+impl Tally {
+    /// Edits, and gives the result with its rows where there is one.
+    fn compare(&mut self, edit: &Edit) -> Option<(NodeTable, Vec<u16>)> {
+        let Edit { asked, .. } = edit;
+        let meant = lent(asked.result(), &[asked.lengths()]);
+        let rows = meant.as_ref().map_or(Vec::new(), rows_of);
+        let buffers = [asked.sheet.cells.clone(), asked.rows.clone()];
+        let wanted = Done::meant(&meant, &rows, buffers);
+        self.edits.count(asked, &meant, edited(asked), wanted);
+        let result = meant.ok()?;
+        self.rows += u64::from(result.count);
+        self.grown += u64::from(result.count > asked.sheet.count);
+        self.shrunk += u64::from(result.count < asked.sheet.count);
+        self.most_nodes = self.most_nodes.max(result.count);
+        Some((result, rows))
+    }
+
+    /// A run of edits of one sheet.
+    fn compare_run(&mut self, seed: u64, index: u64) {
+        let run = Run::new(seed, index);
+        let (mut sheet, mut rows) = (run.sheet.clone(), rows_of(&run.sheet));
+        for step in 0..RUN {
+            if let Some(edited) = self.compare(&run.edit(step, &sheet, &rows)) {
+                (sheet, rows) = edited;
+            }
+        }
+    }
+
+    /// Each refusal alone and with each later one.
+    fn compare_faults(&mut self, seed: u64) {
+        let dice = &mut Dice::new(seed, 0);
+        let ways = |fault: usize| (0..FAULTS[fault].1).map(move |way| (fault, way));
+        for first in (0..FAULTS.len()).flat_map(ways) {
+            self.compare(&edits::faulty(&[first], dice));
+            for later in (first.0 + 1..FAULTS.len()).flat_map(ways) {
+                self.compare(&edits::faulty(&[first, later], dice));
+            }
+        }
+    }
+
+    fn print(&self, seed: u64) {
+        self.edits.print(&format!("seed {seed}: edits"));
+        println!(
+            "  rows of results {}, results larger than their sheets {}, smaller {}, most nodes {}",
+            self.rows, self.grown, self.shrunk, self.most_nodes
+        );
+    }
+}
+
+fn edited(asked: &Asked) -> Done {
+    let (mut table, mut rows) = (asked.sheet.cells.clone(), asked.rows.clone());
+    let NodeTable { context, count, .. } = asked.sheet;
+    let reply = ours::edit(context, count, &mut table, &mut rows, second(asked));
+    Done { reply, table, rows }
+}
+
+/// So many edits or some more, and gives how many differ.
+pub fn compare(edits: u64, seed: u64) -> u64 {
+    let mut tally = Tally::default();
+    tally.compare_faults(seed);
+    for index in 0.. {
+        if tally.edits.all() >= edits {
+            break;
+        }
+        edits::edits(seed, index).iter().for_each(|edit| drop(tally.compare(edit)));
+        if index % A_LARGE_ONE == 0 {
+            tally.compare(&edits::large(seed + 10, index));
+        }
+        if index % A_RUN == 0 {
+            tally.compare_run(seed + 20, index);
+        }
+    }
+    tally.print(seed);
+    tally.edits.different
+}
