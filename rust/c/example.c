@@ -34,6 +34,7 @@ enum {
 static uint16_t table[CELLS];
 static uint16_t again[CELLS];
 static uint16_t sheet_rows[SHEET_ROWS];
+static uint16_t seen_rows[SHEET_ROWS];
 
 int main(void) {
     uint16_t rows[ROWS], scratch[SCRATCH], tokens[TOKENS];
@@ -74,10 +75,15 @@ int main(void) {
     /* Without a buffer: told, and nothing followed. */
     printf("refused %u\n", (unsigned)tezhukor_decide(context, count, table, cells, NULL, 0, NULL, 0));
     printf("refused %u\n", (unsigned)TEZHUKOR_REFUSAL(tezhukor_load(NULL, 0, NULL, 0)));
-    /* `start` gives way to `offset - station` in the sheet, which has room for it. */
+    /* `start` gives way to `offset - station` in the sheet, which has room for it: first
+     * beside it, then in it. */
+    uint32_t seen = tezhukor_preview(context, count, table, CELLS, sheet_rows, SHEET_ROWS, NODES,
+                                     context, SECOND_NODES, second, SECOND_CELLS, again, CELLS,
+                                     seen_rows, SHEET_ROWS);
     uint32_t edited = tezhukor_edit(context, count, table, CELLS, sheet_rows, SHEET_ROWS, NODES,
                                     context, SECOND_NODES, second, SECOND_CELLS);
-    printf("edited %u nodes\n", (unsigned)edited);
+    int as_seen = edited == seen && memcmp(table, again, 2 * TEZHUKOR_NODE_CELLS * edited) == 0;
+    printf("edited %u nodes, %s\n", (unsigned)edited, as_seen ? "as seen before" : "otherwise");
     for (unsigned node = 1; node <= edited; node++)
         if (sheet_rows[TEZHUKOR_ROW_CELLS * (node - 1)] & 1) printf("node %u needs a pair\n", node);
     return same ? 0 : 1;

@@ -67,7 +67,8 @@ enum {
  * the symbol. */
 #define TEZHUKOR_FILE_BYTES(nodes) (3 + 10 * (size_t)(nodes))
 
-/* The refusal in a reply of load, save, compare, write, read and edit; 0 if there is none. */
+/* The refusal in a reply of load, save, compare, write, read, edit and preview; 0 if there is
+ * none. */
 #define TEZHUKOR_REFUSAL(reply) ((uint16_t)((reply) >> 16))
 /* Without a refusal: the context and the count in a reply of load. */
 #define TEZHUKOR_CONTEXT(reply) ((uint16_t)((reply) / 8192))
@@ -138,6 +139,17 @@ uint32_t tezhukor_edit(uint16_t context, uint16_t count, uint16_t *table, size_t
                        uint16_t *rows, size_t rows_length, uint16_t node,
                        uint16_t second_context, uint16_t second_count,
                        const uint16_t *second, size_t second_length);
+
+/* Looks before the edit: what it would give on a copy of the sheet in buffers as long as
+ * the sheet's own. The result's table and rows go into two more buffers; 12 is told, last,
+ * where these are too short for it as well. The sheet is only read, so the next preview
+ * sees it as it is. Replies as tezhukor_edit does. */
+uint32_t tezhukor_preview(uint16_t context, uint16_t count, const uint16_t *table,
+                          size_t table_length, const uint16_t *rows, size_t rows_length,
+                          uint16_t node, uint16_t second_context, uint16_t second_count,
+                          const uint16_t *second, size_t second_length,
+                          uint16_t *result_table, size_t result_table_length,
+                          uint16_t *result_rows, size_t result_rows_length);
 
 #ifdef __cplusplus
 }

@@ -79,11 +79,16 @@
 //! have: that of the node that it was written for, and of the node that is read from it. What
 //! a symbol stands for is the caller's affair; the command `sheet` keeps a line for each.
 //!
+//! A tree that is edited is held open with its rows, as an [`OpenSheet`]: what stands at a
+//! node is replaced by another tree, and all rows are those of the result. A [`Preview`] says
+//! beforehand which pairs come and go, by their places in the [`text`].
+//!
 //! Nests that double prettyplease's work with each level do not double it here.
 
 mod binding;
 pub mod boundary;
 mod open_sheet;
+mod preview;
 mod refusal;
 pub mod text;
 mod tree;
@@ -92,6 +97,7 @@ pub use binding::{Binding, Lean};
 #[doc(inline)]
 pub use model::{codes, codes::Token, contexts, forms, sizes};
 pub use open_sheet::OpenSheet;
+pub use preview::{Preview, Sight};
 pub use refusal::Refusal;
 use std::cmp::Ordering;
 pub use tree::{Node, Row, Tree};

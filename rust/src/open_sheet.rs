@@ -2,7 +2,7 @@
 
 use crate::boundary::{self, edits};
 use crate::text::{Names, Text};
-use crate::{Refusal, Row, Tree};
+use crate::{Preview, Refusal, Row, Tree};
 use model::sizes::{MOST_CELLS, MOST_NODES, NODE_CELLS, ROW_CELLS};
 
 /// A tree that is held open with its rows. It has room for the most nodes.
@@ -59,6 +59,35 @@ impl OpenSheet {
         let reply = edits::edit(self.context, self.count, table, rows, edit);
         self.count = boundary::done(reply)?;
         Ok(())
+    }
+
+    /// What [`OpenSheet::edit`] would give, which changes nothing.
+    ///
+    /// ```
+    /// use tezhukor::{text::Names, OpenSheet, Refusal, Tree};
+    /// # fn main() -> Result<(), Refusal> {
+    /// // a - (b - c), and d in place of b - c.
+    /// let name = |symbol| [26, 0, 0, 0, 0, symbol];
+    /// let [outer, inner] = [[5, 0, 1, 2, 3, 0], [5, 0, 1, 4, 5, 0]];
+    /// let nodes = [outer, name(1), inner, name(2), name(3)].concat();
+    /// let sheet = OpenSheet::load(&[&[0, 5][..], &nodes].concat())?;
+    /// let second = Tree::load(&[&[0, 1][..], &name(4)].concat())?;
+    /// let sight = sheet.preview(3, &second)?.sight(&Names::default());
+    /// assert_eq!(sight.before.as_str(), "a - (b - c)");
+    /// assert_eq!(sight.after.as_str(), "a - d");
+    /// assert!(sight.come.is_empty());
+    /// assert_eq!([sight.go[0].open, sight.go[0].close], [4, 10]);
+    /// # Ok(())
+    /// # }
+    /// ```
+    pub fn preview(&self, node: u16, second: &Tree) -> Result<Preview, Refusal> {
+        let mut result = [vec![0; MOST_CELLS], vec![0; ROW_CELLS * MOST_NODES]];
+        let (own, edit) = ([&self.table[..], &self.rows], edit(node, second));
+        let lent = result.each_mut().map(|cells| &mut cells[..]);
+        let count = boundary::done(edits::preview(self.context, self.count, own, edit, lent))?;
+        let [table, rows] = result;
+        let after = OpenSheet { context: self.context, count, table, rows };
+        Ok(Preview::new(self, node, &after))
     }
 
     /// The tree as it is now.

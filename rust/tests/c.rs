@@ -31,7 +31,7 @@ fn example() {
         "level 11, lean 0",
         "refused 12",
         "refused 2",
-        "edited 7 nodes",
+        "edited 7 nodes, as seen before",
         "node 3 needs a pair",
         "node 5 needs a pair",
     ];

@@ -3,6 +3,8 @@
 use std::io::Write;
 use std::path::PathBuf;
 use std::process::{Command, Output, Stdio};
+use tezhukor::text::Names;
+use tezhukor::{OpenSheet, Tree};
 
 /// Runs `sheet` with arguments and bytes on its standard input.
 fn sheet(arguments: &[&str], input: &[u8]) -> Output {
@@ -475,6 +477,67 @@ fn structs_in_edits() {
     }
 }
 
+/// Both texts, the pairs that come and go marked and in words; nothing is written.
+#[test]
+fn previews() {
+    let names = Scratch::new("previews");
+    let text = "ring.advance(offset - (station - start), depth)";
+    let file = sheet(&["read", "--names", names.name(), text], b"").stdout;
+    let lines = std::fs::read(&names.0).expect("names");
+    let preview = |node: &str, text: &str| {
+        printed(&["preview", "--names", names.name(), "-", node, text], &file, 0)
+    };
+    assert_eq!(
+        preview("station - start", "station * grade"),
+        "before  ring.advance(offset - (station - start), depth)\n\
+         \x20                             -               -\n\
+         after   ring.advance(offset - station * grade, depth)\n\
+         goes: the pair round node 6, `station - start`, at columns 23 and 39 before\n"
+    );
+    assert_eq!(
+        preview("ring", "-ring"),
+        "before  ring.advance(offset - (station - start), depth)\n\
+         after   (-ring).advance(offset - (station - start), depth)\n\
+         \x20       +     +\n\
+         comes: the pair round node 2, `-ring`, at columns 1 and 7 after\n"
+    );
+    // What is replaced and what replaces it have a pair, and within it another one.
+    assert_eq!(
+        preview("6", "a - (b - c)"),
+        "before  ring.advance(offset - (station - start), depth)\n\
+         after   ring.advance(offset - (a - (b - c)), depth)\n\
+         \x20                                  +     +\n\
+         comes: the pair round node 8, `b - c`, at columns 28 and 34 after\n"
+    );
+    let without = preview("start", "depth").lines().last().map(str::to_string);
+    assert_eq!(without.as_deref(), Some("no pair comes or goes"));
+    // The cast has a pair, and so has the comparison in its place.
+    let file = sheet(&["read", "--names", names.name(), "(a as T) < b"], b"").stdout;
+    let told = printed(&["preview", "--names", names.name(), "-", "a as T", "a == b"], &file, 0);
+    assert!(told.ends_with("after   (a == b) < b\nno pair comes or goes\n"), "{told}");
+    std::fs::write(&names.0, &lines).expect("a file");
+    let refused = printed(&["preview", "--names", names.name(), "-", "4", "new"], &file, 1);
+    assert!(refused.starts_with("sheet: refused (17) at node 4, a path type: "), "{refused}");
+    assert_eq!(std::fs::read(&names.0).expect("names"), lines);
+}
+
+/// In a statement a pair goes beside the place that is edited.
+#[test]
+fn previews_beside_the_edit() {
+    // (a = b) .. with a range for b.
+    let name = |symbol| [26, 0, 0, 0, 0, symbol];
+    let [range, assign] = [[27, 0, 0, 2, 0, 0], [2, 0, 0, 3, 4, 0]];
+    let sheet = [&[1, 4][..], &range, &assign, &name(1), &name(2)].concat();
+    let second = [&[0, 2][..], &[27, 0, 0, 0, 2, 0], &name(3)].concat();
+    let sheet = OpenSheet::load(&sheet).expect("a sheet");
+    let second = Tree::load(&second).expect("a tree");
+    let sight = sheet.preview(4, &second).expect("an edit").sight(&Names::default());
+    assert_eq!(sight.before.as_str(), "(a = b)..");
+    assert_eq!(sight.after.as_str(), "a = ..c..");
+    assert_eq!((sight.go.len(), sight.come.len()), (1, 0));
+    assert_eq!((sight.go[0].open, sight.go[0].close), (0, 6));
+}
+
 /// Without a names file names are the letters shown.
 #[test]
 fn edits_by_letters() {
@@ -551,6 +614,7 @@ fn usage() {
         &["compare", "a"],
         &["doubles"],
         &["edit", "a", "1"],
+        &["preview", "a", "1", "b", "c"],
         &["edit", "--names", "a", "1", "b"],
         &["--names"],
         &["show", "--names"],
@@ -635,6 +699,32 @@ fn no_input_breaks_it() {
         }
     }
     println!("sheet ran: done {}, refused {}, usage {}", statuses[0], statuses[1], statuses[2]);
+}
+
+/// Nor does any node or expression of an edit.
+#[test]
+fn no_edit_breaks_it() {
+    let times = std::env::var("TEZHUKOR_FUZZ").ok().and_then(|times| times.parse().ok());
+    let (mut state, mut statuses) = (2, [0; 3]);
+    let mut file = tree_of("offset - (station - start)");
+    for index in 0..times.unwrap_or(2_000u64) / 20 {
+        let node = match index % 4 {
+            0 => text(&mut state, 0),
+            _ => (next(&mut state) % 12).to_string(),
+        };
+        let text = text(&mut state, 3 * index);
+        let [edit, preview] =
+            ["edit", "preview"].map(|command| sheet(&[command, "-", &node, &text], &file));
+        assert_eq!(edit.status.code(), preview.status.code(), "{node} {text}");
+        assert_eq!(edit.stderr, preview.stderr);
+        let status = edit.status.code().filter(|status| (0..=2).contains(status));
+        let status = status.unwrap_or_else(|| panic!("{edit:?} for {node:?} {text:?}"));
+        statuses[status as usize] += 1;
+        if status == 0 {
+            file = edit.stdout;
+        }
+    }
+    println!("sheet edited: done {}, refused {}", statuses[0], statuses[1]);
 }
 
 /// The longest texts, and bytes that are no text.

@@ -35,3 +35,36 @@ pub fn edit(context: u16, count: u16, table: &mut [u16], rows: &mut [u16], edit:
         )
     }
 }
+
+/// What [`edit`] would give on a copy of the sheet in buffers as long as its own: the reply,
+/// and the result's table and rows in buffers beside it, which must have room for it too.
+/// The sheet is only read.
+pub fn preview(
+    context: u16,
+    count: u16,
+    [table, rows]: [&[u16]; 2],
+    edit: Edit,
+    result: [&mut [u16]; 2],
+) -> u32 {
+    let [result_table, result_rows] = result;
+    // SAFETY: as above.
+    unsafe {
+        library::tezhukor_preview(
+            context,
+            count,
+            table.as_ptr(),
+            table.len(),
+            rows.as_ptr(),
+            rows.len(),
+            edit.node,
+            edit.context,
+            edit.count,
+            edit.table.as_ptr(),
+            edit.table.len(),
+            result_table.as_mut_ptr(),
+            result_table.len(),
+            result_rows.as_mut_ptr(),
+            result_rows.len(),
+        )
+    }
+}

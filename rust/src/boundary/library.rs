@@ -1,4 +1,4 @@
-//! The exports of the static libraries: of `answers` the first eight, of
+//! The exports of the static libraries: of `answers` the first nine, of
 //! `answers_asked` the others. They are declared here only.
 
 extern "C" {
@@ -67,6 +67,24 @@ extern "C" {
         second_count: u16,
         second: *const u16,
         second_length: usize,
+    ) -> u32;
+
+    pub fn tezhukor_preview(
+        context: u16,
+        count: u16,
+        table: *const u16,
+        table_length: usize,
+        rows: *const u16,
+        rows_length: usize,
+        node: u16,
+        second_context: u16,
+        second_count: u16,
+        second: *const u16,
+        second_length: usize,
+        result_table: *mut u16,
+        result_table_length: usize,
+        result_rows: *mut u16,
+        result_rows_length: usize,
     ) -> u32;
 
     pub fn tezhukor_answer(

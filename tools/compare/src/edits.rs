@@ -1,9 +1,10 @@
-//! Edits of open sheets: tezhukor_edit beside the model's result, numbered from the root on,
-//! and the crate's own rows of it.
+//! Edits of open sheets: tezhukor_edit and tezhukor_preview beside the model's result,
+//! numbered from the root on, and the crate's own rows of it.
 
 use model::edit::{lent, over, reply, Asked};
 use model::generate::edits::{self, Edit, Run, FAULTS};
 use model::generate::{levels, Dice, Draft, LONGEST_NEST};
+use model::lent::Cell;
 use model::sizes::LAST_REFUSAL;
 use model::NodeTable;
 use oracle::direct::context_of_root;
@@ -59,6 +60,7 @@ impl Replies {
 #[derive(Default)]
 struct Tally {
     edits: Replies,
+    previews: Replies,
     /// Rows of results, those of types and links included.
     rows: u64,
     grown: u64,
@@ -105,11 +107,16 @@ fn second(asked: &Asked) -> ours::Edit<'_> {
 }
 
 impl Tally {
-    /// Edits, and gives the result with its rows where there is one.
+    /// Edits and looks before, and gives the result with its rows where there is one.
     fn compare(&mut self, edit: &Edit) -> Option<(NodeTable, Vec<u16>)> {
         let Edit { asked, .. } = edit;
         let meant = lent(asked.result(), &[asked.lengths()]);
         let rows = meant.as_ref().map_or(Vec::new(), rows_of);
+        // What fits the preview's buffers as well is a result of the edit.
+        let seen = lent(meant.clone(), &[edit.lent]);
+        let buffers = lent_beside(edit);
+        let wanted = Done::meant(&seen, &rows, buffers.clone());
+        self.previews.count(asked, &seen, previewed(asked, buffers), wanted);
         let buffers = [asked.sheet.cells.clone(), asked.rows.clone()];
         let wanted = Done::meant(&meant, &rows, buffers);
         self.edits.count(asked, &meant, edited(asked), wanted);
@@ -146,6 +153,7 @@ impl Tally {
 
     fn print(&self, seed: u64) {
         self.edits.print(&format!("seed {seed}: edits"));
+        self.previews.print(&format!("seed {seed}: previews"));
         println!(
             "  rows of results {}, results larger than their sheets {}, smaller {}, most nodes {}",
             self.rows, self.grown, self.shrunk, self.most_nodes
@@ -160,7 +168,19 @@ fn edited(asked: &Asked) -> Done {
     Done { reply, table, rows }
 }
 
-/// So many edits or some more, and gives how many differ.
+/// The buffers of a preview, with something in every cell.
+fn lent_beside(edit: &Edit) -> [Vec<u16>; 2] {
+    [edit.lent.table, edit.lent.rows].map(|length| (0..length).map(Cell::pattern).collect())
+}
+
+fn previewed(asked: &Asked, [mut table, mut rows]: [Vec<u16>; 2]) -> Done {
+    let NodeTable { context, count, cells } = &asked.sheet;
+    let (own, result) = ([&cells[..], &asked.rows], [&mut table[..], &mut rows]);
+    let reply = ours::preview(*context, *count, own, second(asked), result);
+    Done { reply, table, rows }
+}
+
+/// So many edits or some more, each after its preview, and gives how many of both differ.
 pub fn compare(edits: u64, seed: u64) -> u64 {
     let mut tally = Tally::default();
     tally.compare_faults(seed);
@@ -177,5 +197,5 @@ pub fn compare(edits: u64, seed: u64) -> u64 {
         }
     }
     tally.print(seed);
-    tally.edits.different
+    tally.edits.different + tally.previews.different
 }

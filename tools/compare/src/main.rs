@@ -179,7 +179,8 @@ const USAGE: &str = "usage:
   compare [SEED]           all questions and rows, on random and on small trees
   compare short            the same on each 23rd of these trees, and some edits, for the gate
   compare edits EDITS [SEED]
-                           so many edits of open sheets, in runs too, with every refusal
+                           so many edits of open sheets and as many previews, in runs too,
+                           with every refusal
   compare spines [FORMS]   rows of right spines of one to five forms, or of so many
   compare record FORMS     the same of one, two or three forms, and writes crates/spines/data
   compare nests            rows of nests of 128 levels, with the crate's scans kept";

@@ -6,7 +6,7 @@ use crate::{blame, doubles, edits, lexer, locate, show, why, USAGE};
 use std::cmp::Ordering;
 use std::ffi::{OsStr, OsString};
 use std::fmt::Write;
-use std::io::{IsTerminal, Read};
+use std::io::Read;
 use tezhukor::sizes::MOST_FILE_BYTES;
 use tezhukor::text::Names;
 use tezhukor::{codes, contexts, forms, Refusal, Token, Tree};
@@ -36,6 +36,7 @@ pub fn run(arguments: &[OsString]) -> Result<Answer, Answer> {
         (Some("compare"), [first, second], None) => compare(first, second),
         (Some("doubles"), [_, ..], None) => doubles::listed(rest),
         (Some("edit"), [file, node, text], names) => edits::edit(file, node, text, names),
+        (Some("preview"), [file, node, text], names) => edits::preview(file, node, text, names),
         (Some("help" | "--help" | "-h"), _, None) => Ok(Answer::done(USAGE)),
         _ => Err(Answer::usage()),
     }
@@ -107,8 +108,7 @@ pub fn write_names(file: &OsStr, table: &Table) -> Result<(), Answer> {
 
 fn show(file: &OsStr, names: Option<&OsStr>) -> Result<Answer, Answer> {
     let (tree, names) = (load(file)?, names_from(names)?);
-    let colour = std::io::stdout().is_terminal() && std::env::var_os("NO_COLOR").is_none();
-    let mut text = show::shown(&tree, names).text(colour);
+    let mut text = show::shown(&tree, names).text(show::is_coloured());
     text.push('\n');
     Ok(Answer::done(text))
 }

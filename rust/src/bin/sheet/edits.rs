@@ -3,13 +3,14 @@
 use crate::answer::{words, Answer};
 use crate::commands::{expression, load, names_text, utf8, write_names};
 use crate::names::Table;
+use crate::show::{self, coloured, parentheses};
 use crate::words;
 use model::verdict::longest_path;
 use std::ffi::OsStr;
 use tezhukor::forms::{BLOCK, CLOSURE, LINK, YIELD};
 use tezhukor::sizes::MOST_NODES;
-use tezhukor::text::{Names, Text};
-use tezhukor::{contexts, OpenSheet, Refusal, Tree};
+use tezhukor::text::{Names, Pair, Text};
+use tezhukor::{contexts, OpenSheet, Refusal, Sight, Tree};
 
 /// The file with an expression in place of what stands at a node.
 pub fn edit(
@@ -25,6 +26,66 @@ pub fn edit(
         write_names(file, &asked.table)?;
     }
     Ok(Answer::done(asked.sheet.tree().to_file()))
+}
+
+/// Pairs that come are bold and green, those that go bold and red.
+const COMES: &str = "1;32";
+const GOES: &str = "1;31";
+
+/// The text before and after an edit, and which pairs come and go.
+pub fn preview(
+    file: &OsStr,
+    node: &OsStr,
+    text: &OsStr,
+    names: Option<&OsStr>,
+) -> Result<Answer, Answer> {
+    let asked = Asked::new(file, node, text, names)?;
+    let preview = asked.sheet.preview(asked.node, &asked.second);
+    let preview = preview.map_err(|refusal| asked.refused(refusal))?;
+    let sight = preview.sight(&Names::new(&asked.table.lines()));
+    Ok(Answer::done(seen(&sight, show::is_coloured())))
+}
+
+/// An edit as it is seen. Without colour a line below each text marks the pairs.
+fn seen(sight: &Sight, colour: bool) -> String {
+    let Sight { before, after, come, go } = sight;
+    let mut lines = Vec::new();
+    for (name, text, pairs, mark, in_colour) in
+        [("before", before, go, '-', GOES), ("after ", after, come, '+', COMES)]
+    {
+        let places = parentheses(pairs);
+        if colour {
+            lines.push(format!("{name}  {}", coloured(text.as_str(), places, in_colour)));
+            continue;
+        }
+        lines.push(format!("{name}  {text}"));
+        if !places.is_empty() {
+            lines.push(format!("        {}", marks(text.as_str(), &places, mark)));
+        }
+    }
+    lines.extend(go.iter().map(|pair| told("goes", before, pair, "before")));
+    lines.extend(come.iter().map(|pair| told("comes", after, pair, "after")));
+    if go.is_empty() && come.is_empty() {
+        lines.push("no pair comes or goes".to_string());
+    }
+    lines.join("\n") + "\n"
+}
+
+/// Marks below the characters at those bytes of a text.
+fn marks(text: &str, places: &[usize], mark: char) -> String {
+    let is_marked = |at: usize| places.binary_search(&at).is_ok();
+    let line: String =
+        text.char_indices().map(|(at, _)| if is_marked(at) { mark } else { ' ' }).collect();
+    line.trim_end().to_string()
+}
+
+/// A pair in words, with its columns.
+fn told(what: &str, text: &Text, pair: &Pair, when: &str) -> String {
+    let column = |at: usize| text.as_str()[..at].chars().count() + 1;
+    let [open, close] = [pair.open, pair.close].map(column);
+    let which = if pair.is_inner { "the inner pair of" } else { "the pair round" };
+    let (node, own) = (pair.node, text.of(pair.node));
+    format!("{what}: {which} node {node}, `{own}`, at columns {open} and {close} {when}")
 }
 
 /// What is asked for: a node of a sheet, and another tree for it.

@@ -36,6 +36,9 @@ sheet: where a printed Rust expression needs parentheses
   sheet edit [--names NAMES] FILE NODE TEXT
                                      the file with the expression TEXT in place of what
                                      stands at a node, on standard output
+  sheet preview [--names NAMES] FILE NODE TEXT
+                                     the text before and after that edit, and the pairs
+                                     that come and go
   sheet doubles FILE..               the files that hold the same tree in the same
                                      context, a line each, with an empty line between
                                      trees; a folder stands for the files in it

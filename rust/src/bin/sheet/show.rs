@@ -1,5 +1,6 @@
 //! Trees as text, their added pairs in colour.
 
+use std::io::IsTerminal;
 use tezhukor::text::{Names, Pair, Text};
 use tezhukor::Tree;
 
@@ -27,6 +28,11 @@ impl Shown {
 /// Shows a tree with the names of its symbols.
 pub fn shown(tree: &Tree, names: Names) -> Shown {
     Shown(Text::new(tree, &tree.rows(), &names))
+}
+
+/// Whether what is printed may have colours.
+pub fn is_coloured() -> bool {
+    std::io::stdout().is_terminal() && std::env::var_os("NO_COLOR").is_none()
 }
 
 /// Where the parentheses of pairs stand.
