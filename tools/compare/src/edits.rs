@@ -5,7 +5,7 @@ use model::edit::{lent, over, reply, Asked};
 use model::generate::edits::{self, Edit, Run, FAULTS};
 use model::generate::{levels, Dice, Draft, LONGEST_NEST};
 use model::lent::Cell;
-use model::sizes::LAST_REFUSAL;
+use model::sizes::{LAST_REFUSAL, ROW_CELLS};
 use model::NodeTable;
 use oracle::direct::context_of_root;
 use oracle::keeping;
@@ -14,9 +14,10 @@ use tezhukor::boundary::edits as ours;
 /// How many edits a run has.
 const RUN: u64 = 60;
 
-/// How many sheets are taken for one run, and for one large sheet.
+/// How many sheets are taken for one run, for one large sheet, and for all refusals once.
 const A_RUN: u64 = 50;
 const A_LARGE_ONE: u64 = 20;
+const ALL_FAULTS: u64 = 5_000;
 
 /// Of so many differences all is told.
 const TOLD: u64 = 20;
@@ -66,6 +67,10 @@ struct Tally {
     grown: u64,
     shrunk: u64,
     most_nodes: u16,
+    /// Rows that stay beside an edit in a run, within an index, an argument or a Paren, and
+    /// how many of them changed in more than their number.
+    sheltered: u64,
+    changed: u64,
 }
 
 /// What a function did: its reply, and the table and the rows that it was lent.
@@ -133,15 +138,29 @@ impl Tally {
         let run = Run::new(seed, index);
         let (mut sheet, mut rows) = (run.sheet.clone(), rows_of(&run.sheet));
         for step in 0..RUN {
-            if let Some(edited) = self.compare(&run.edit(step, &sheet, &rows)) {
-                (sheet, rows) = edited;
+            let edit = run.edit(step, &sheet, &rows);
+            if let Some((result, new)) = self.compare(&edit) {
+                self.compare_sheltered(&edit.asked.sheltered(&result), &rows, &new);
+                (sheet, rows) = (result, new);
             }
         }
     }
 
+    /// The crate's rows before and after an edit.
+    fn compare_sheltered(&mut self, nodes: &[[u16; 2]], before: &[u16], after: &[u16]) {
+        let row = |rows: &[u16], node: u16| -> [u16; ROW_CELLS] {
+            let cells = &rows[ROW_CELLS * (usize::from(node) - 1)..][..ROW_CELLS];
+            cells.try_into().expect("a row")
+        };
+        self.sheltered += nodes.len() as u64;
+        for &[old, new] in nodes {
+            self.changed += u64::from(row(before, old) != row(after, new));
+        }
+    }
+
     /// Each refusal alone and with each later one.
-    fn compare_faults(&mut self, seed: u64) {
-        let dice = &mut Dice::new(seed, 0);
+    fn compare_faults(&mut self, seed: u64, index: u64) {
+        let dice = &mut Dice::new(seed, index);
         let ways = |fault: usize| (0..FAULTS[fault].1).map(move |way| (fault, way));
         for first in (0..FAULTS.len()).flat_map(ways) {
             self.compare(&edits::faulty(&[first], dice));
@@ -158,6 +177,7 @@ impl Tally {
             "  rows of results {}, results larger than their sheets {}, smaller {}, most nodes {}",
             self.rows, self.grown, self.shrunk, self.most_nodes
         );
+        println!("  rows sheltered from an edit {}, changed {}", self.sheltered, self.changed);
     }
 }
 
@@ -183,10 +203,12 @@ fn previewed(asked: &Asked, [mut table, mut rows]: [Vec<u16>; 2]) -> Done {
 /// So many edits or some more, each after its preview, and gives how many of both differ.
 pub fn compare(edits: u64, seed: u64) -> u64 {
     let mut tally = Tally::default();
-    tally.compare_faults(seed);
     for index in 0.. {
         if tally.edits.all() >= edits {
             break;
+        }
+        if index % ALL_FAULTS == 0 {
+            tally.compare_faults(seed + 30, index);
         }
         edits::edits(seed, index).iter().for_each(|edit| drop(tally.compare(edit)));
         if index % A_LARGE_ONE == 0 {
@@ -197,5 +219,5 @@ pub fn compare(edits: u64, seed: u64) -> u64 {
         }
     }
     tally.print(seed);
-    tally.edits.different + tally.previews.different
+    tally.edits.different + tally.previews.different + tally.changed
 }
