@@ -3,14 +3,13 @@
 //! For each span of the list the chart holds all expressions, types and lists
 //! that the grammar of `rules` gives for just these tokens, each with what
 //! the rules for its neighbours ask: how tightly it holds together, and whether
-//! it ends in a type name or in the name behind a dot; and whether a Struct stands in it
-//! outside every parenthesis, bracket and argument list, which has no reading in a
-//! condition. A node has the symbol of the token
-//! that names it. An expression of a span is
-//! a shorter one at its start, what may follow that, and whatever the rest can be.
-//! Nothing is decided by looking ahead, and no cut is preferred to another: all
-//! that fit are kept, and those that give equal trees are one. One chart holds the readings
-//! in every context.
+//! it ends in a type name or in the name behind a dot; and with whether a Struct stands in
+//! it outside every parenthesis, bracket and argument list, which has no reading in a
+//! condition: one chart holds the readings in every context. A node has the symbol of the
+//! token that names it. An expression of a span is a shorter one at its start, what may
+//! follow that, and whatever the rest can be. Nothing is decided by looking ahead, and no
+//! cut is preferred to another: all that fit are kept, and those that give equal trees are
+//! one.
 
 use crate::codes::*;
 use crate::contexts;
