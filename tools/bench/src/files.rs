@@ -43,7 +43,7 @@ const SIDES: [(&str, fn(&Filed, &mut Lent) -> u32); 5] = [
     }),
     ("compare", |tree, _| boundary::compare(&tree.file, &tree.file)),
     ("write", |tree, lent| write(&tree.table, &mut lent.tokens)),
-    ("read", |tree, lent| boundary::read_here(&tree.tokens, &mut lent.cells)),
+    ("read", |tree, lent| boundary::read_here(tree.table.context, &tree.tokens, &mut lent.cells)),
 ];
 
 const LOAD: usize = 0;
