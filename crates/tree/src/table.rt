@@ -3,7 +3,7 @@ use crate::columns;
 use crate::sizes;
 ghost use mathlib.Core.Path.{_≡_};
 ghost use Rattle.tree.specs.Table.{cellAt};
-ghost use Rattle.tree.specs.Trees.{operandAt};
+ghost use Rattle.tree.specs.Trees.{operandOf, operandAt};
 ghost use Rattle.tree.specs.Operands.{presence, formIn};
 
 // An operand of a node: its number, or nothing.
@@ -36,15 +36,21 @@ pub fn form_at(table: &[u16], count: u16, node: u16) -> u16
     cell(table, node, columns::FORM)
 }
 
-// The number of the operand at a place, 0 where it is absent.
-pub fn operand_number(table: &[u16], count: u16, node: u16, place: u16) -> u16
-    ensures { λ r. ⌜ r ≡ operandAt (now (table .entry)) count node place ⌝ }
+// A number as an operand of a node: 0 unless it is above the node's and at most the count.
+pub fn operand_of(count: u16, node: u16, operand: u16) -> u16
+    ensures { λ r. ⌜ r ≡ operandOf count node operand ⌝ }
 {
-    let operand = cell(table, node, place);
     if operand <= node {
         return 0;
     }
     if operand <= count { operand } else { 0 }
+}
+
+// The number of the operand at a place, 0 where it is absent.
+pub fn operand_number(table: &[u16], count: u16, node: u16, place: u16) -> u16
+    ensures { λ r. ⌜ r ≡ operandAt (now (table .entry)) count node place ⌝ }
+{
+    operand_of(count, node, cell(table, node, place))
 }
 
 // The operand at a place: present where its number is above the node's and at most the count.

@@ -14,12 +14,15 @@ pub fn larger(a: u16, b: u16) -> u16
 }
 
 // 1 for an expression or a type, 0 for a link.
+pub fn level_of(form: u16) -> u16
+    ensures { λ r. ⌜ r ≡ ownLevel form ⌝ }
+{
+    if class_of(form) == 3 { 0 } else { 1 }
+}
+
+// That of a node of a table.
 pub fn own_level(table: &[u16], node: u16) -> u16
     ensures { λ r. ⌜ r ≡ ownLevel (formAt (now (table .entry)) node) ⌝ }
 {
-    if class_of(cell(table, node, columns::FORM)) == 3 {
-        0
-    } else {
-        1
-    }
+    level_of(cell(table, node, columns::FORM))
 }

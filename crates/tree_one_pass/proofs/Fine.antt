@@ -302,9 +302,9 @@ module _ (cells : List ℕ) (count : ℕ) where
       go (no s) = rw (above s (decLe (suc n) j), getD-set-other zs n j r 0 s)
 
   module _ (n : ℕ) (xs : List ℕ) (m : Marked cells count n xs) (low : 1 ≤ n) (high : n ≤ count) (most : count ≤ mostNodes)
-      (one : ℕ) (ys : List ℕ) (first-taken : Takes count (getD cells (nodeCells * (n - 1) + firstColumn) 0) xs one ys) (f : one ≡ 7 → ⊥) where
+      (o : ℕ) (is-first : o ≡ firstAt cells n) (one : ℕ) (ys : List ℕ) (first-taken : Takes count o xs one ys) (f : one ≡ 7 → ⊥) where
     t : Took count n (firstAt cells n) xs one ys
-    t = took-after count n _ (cellAt cells n firstColumn) xs one ys (cell-other cells n firstColumn low) (m .fresh) first-taken
+    t = took-after count n o (firstAt cells n) xs one ys is-first (m .fresh) first-taken
 
     tells-first : Tells n low high most (m .sound) (firstAt cells n) one
     tells-first = go one ys t f
@@ -320,9 +320,9 @@ module _ (cells : List ℕ) (count : ℕ) where
     pub first-size : count < length ys
     first-size = let e = took-length n (firstAt cells n) xs one ys t in let s = m .size in omega arith
 
-    module _ (two : ℕ) (zs : List ℕ) (second-taken : Takes count (getD cells (nodeCells * (n - 1) + secondColumn) 0) ys two zs) (g : two ≡ 7 → ⊥) where
+    module _ (p : ℕ) (is-second : p ≡ secondAt cells n) (two : ℕ) (zs : List ℕ) (second-taken : Takes count p ys two zs) (g : two ≡ 7 → ⊥) where
       u : Took count n (secondAt cells n) ys two zs
-      u = took-after count n _ (cellAt cells n secondColumn) ys two zs (cell-other cells n secondColumn low) (took-fresh n (firstAt cells n) xs one ys t (m .fresh)) second-taken
+      u = took-after count n p (secondAt cells n) ys two zs is-second (took-fresh n (firstAt cells n) xs one ys t (m .fresh)) second-taken
 
       tells-second : Tells n low high most (m .sound) (secondAt cells n) two
       tells-second = go two zs u g

@@ -1,4 +1,4 @@
-// The refusals 3, 4 and 6 to 11 of a context, a count and a node table: nothing is refused in most tables, which one pass over the nodes finds out.
+// The refusals 3, 4 and 6 to 11 of a context, a count and the nodes of a source: nothing is refused in most, which one pass over the nodes finds out.
 mod marks; // marks.rt: what the pass knows of a node
 mod rows; // rows.rt: what the pass knows of a form
 
@@ -10,25 +10,47 @@ use rows::row_of;
 use tree::offsets;
 use tree::sizes;
 use tree_labels::form::is_symbol_allowed;
-use tree_rules::refusal::is_bad_count;
+use tree_rules::refusal::has_bad_count;
+use tree_source::Node;
+use tree_source::node_at;
 ghost use mathlib.Core.Path.{_≡_};
 ghost use mathlib.Core.Bool.{true};
 ghost use Prim.Native.Nat.{ℕ, _+_, _*_, _≤_, _<_};
 ghost use lib.ListN.{length, getD};
 ghost use Rattle.tree.specs.Sizes.{nodeCells, mostNodes};
 ghost use Rattle.tree_rules.specs.Refusals.{firstOf, nodeRefusals, refusal};
+ghost use Rattle.tree_source.specs.Source.{cellsOf};
+ghost use Rattle.tree_source.specs.Nodes.{NodeAt};
 ghost use Rattle.tree_one_pass.specs.Marks.{Marks};
 
-// The mark of a node whose operands have these marks; 0 where a rule is broken.
-fn mark_at(table: &[u16], node: u16, one: u16, two: u16) -> u16
-    requires { ⌜ (1 ≤ node) × (nodeCells * node ≤ length (now table)) × (one ≤ 40000) × (two ≤ 40000) ⌝ }
-    ensures { λ r. ⌜ ((r ≡ 0 → ⊥) → Marks (now (table .entry)) node one two r) ⌝ }
+// The numbers of a node that is there; those of a table without a look at its length.
+fn numbers_at(file: &[u8], held: &[u16], node: u16) -> Node
+    requires { ⌜ (1 ≤ node) × (nodeCells * node ≤ length (cellsOf (now file) (now held))) ⌝ }
+    ensures { λ r. ⌜ NodeAt (cellsOf (now (file .entry)) (now (held .entry))) node r ⌝ }
 {
+    if file.len() != 0 {
+        return node_at(file, held, node);
+    }
     let at = sizes::NODE_CELLS * ((node - 1) as usize);
-    let form = table[at];
-    let attributes = table[at + offsets::ATTRIBUTES];
-    let detail = table[at + offsets::DETAIL];
-    if !is_symbol_allowed(form, detail, table[at + offsets::SYMBOL]) {
+    Node {
+        form: held[at],
+        attributes: held[at + offsets::ATTRIBUTES],
+        detail: held[at + offsets::DETAIL],
+        first: held[at + offsets::FIRST],
+        second: held[at + offsets::SECOND],
+        symbol: held[at + offsets::SYMBOL],
+    }
+}
+
+// The mark of a node with these numbers whose operands have these marks; 0 where a rule is broken.
+fn mark_at(file: &[u8], held: &[u16], node: u16, numbers: Node, one: u16, two: u16) -> u16
+    requires { ⌜ NodeAt (cellsOf (now file) (now held)) node numbers × (one ≤ 40000) × (two ≤ 40000) ⌝ }
+    ensures { λ r. ⌜ ((r ≡ 0 → ⊥) → Marks (cellsOf (now (file .entry)) (now (held .entry))) node one two r) ⌝ }
+{
+    let form = numbers.form;
+    let attributes = numbers.attributes;
+    let detail = numbers.detail;
+    if !is_symbol_allowed(form, detail, numbers.symbol) {
         return 0;
     }
     let mark = mark_with(row_of(form), attributes, detail, one, two);
@@ -36,7 +58,7 @@ fn mark_at(table: &[u16], node: u16, one: u16, two: u16) -> u16
         return mark;
     }
     mark_with(
-        rare_row(table, node, form, detail),
+        rare_row(file, held, node, form, detail),
         attributes,
         detail,
         one,
@@ -84,22 +106,22 @@ fn all_taken(marks: &[u16], count: u16) -> bool
 }
 
 // Whether it is certain that none of 6 to 11 applies: from the last node to the first, as operands come after their owners.
-fn is_fine(table: &[u16], count: u16, marks: &mut [u16]) -> bool
-    requires { ⌜ (1 ≤ count) × (count ≤ mostNodes) × (nodeCells * count ≤ length (now table)) × (count < length (now marks)) × ((j : ℕ) → getD (now marks) j 0 ≡ 0) ⌝ }
-    ensures { λ r. ⌜ (r ≡ true → firstOf (nodeRefusals count (now (table .entry))) ≡ 0) ⌝ }
+fn is_fine(file: &[u8], held: &[u16], count: u16, marks: &mut [u16]) -> bool
+    requires { ⌜ (1 ≤ count) × (count ≤ mostNodes) × (nodeCells * count ≤ length (cellsOf (now file) (now held))) × (count < length (now marks)) × ((j : ℕ) → getD (now marks) j 0 ≡ 0) ⌝ }
+    ensures { λ r. ⌜ (r ≡ true → firstOf (nodeRefusals count (cellsOf (now (file .entry)) (now (held .entry)))) ≡ 0) ⌝ }
 {
     let mut node = count;
     while 0 < node {
-        let cells = sizes::NODE_CELLS * ((node - 1) as usize);
-        let one = take(marks, count, table[cells + offsets::FIRST]);
+        let numbers = numbers_at(file, held, node);
+        let one = take(marks, count, numbers.first);
         if one == TAKEN {
             return false;
         }
-        let two = take(marks, count, table[cells + offsets::SECOND]);
+        let two = take(marks, count, numbers.second);
         if two == TAKEN {
             return false;
         }
-        let mark = mark_at(table, node, one, two);
+        let mark = mark_at(file, held, node, numbers, one, two);
         if mark == 0 {
             return false;
         }
@@ -118,45 +140,52 @@ fn is_fine(table: &[u16], count: u16, marks: &mut [u16]) -> bool
 }
 
 // The same for fewer than 64 nodes, with an array that is quickly made.
-fn is_small_fine(table: &[u16], count: u16) -> bool
-    requires { ⌜ (1 ≤ count) × (count < 64) × (nodeCells * count ≤ length (now table)) ⌝ }
-    ensures { λ r. ⌜ (r ≡ true → firstOf (nodeRefusals count (now (table .entry))) ≡ 0) ⌝ }
+fn is_small_fine(file: &[u8], held: &[u16], count: u16) -> bool
+    requires { ⌜ (1 ≤ count) × (count < 64) × (nodeCells * count ≤ length (cellsOf (now file) (now held))) ⌝ }
+    ensures { λ r. ⌜ (r ≡ true → firstOf (nodeRefusals count (cellsOf (now (file .entry)) (now (held .entry)))) ≡ 0) ⌝ }
 {
     let mut marks = [0u16; 64];
-    is_fine(table, count, &mut marks)
+    is_fine(file, held, count, &mut marks)
 }
 
 // The same for up to 4,096 nodes.
-fn is_large_fine(table: &[u16], count: u16) -> bool
-    requires { ⌜ (1 ≤ count) × (count ≤ mostNodes) × (nodeCells * count ≤ length (now table)) ⌝ }
-    ensures { λ r. ⌜ (r ≡ true → firstOf (nodeRefusals count (now (table .entry))) ≡ 0) ⌝ }
+fn is_large_fine(file: &[u8], held: &[u16], count: u16) -> bool
+    requires { ⌜ (1 ≤ count) × (count ≤ mostNodes) × (nodeCells * count ≤ length (cellsOf (now file) (now held))) ⌝ }
+    ensures { λ r. ⌜ (r ≡ true → firstOf (nodeRefusals count (cellsOf (now (file .entry)) (now (held .entry)))) ≡ 0) ⌝ }
 {
     let mut marks = [0u16; sizes::MOST_NODES as usize + 1];
-    is_fine(table, count, &mut marks)
+    is_fine(file, held, count, &mut marks)
 }
 
 // Whether it is certain that nothing is refused.
-fn is_accepted(context: u16, count: u16, table: &[u16]) -> bool
-    ensures { λ r. ⌜ (r ≡ true → refusal context count (now (table .entry)) ≡ 0) ⌝ }
+fn is_accepted(context: u16, count: u16, file: &[u8], held: &[u16]) -> bool
+    ensures { λ r. ⌜ (r ≡ true → refusal context count (cellsOf (now (file .entry)) (now (held .entry))) ≡ 0) ⌝ }
 {
     if context > 3 {
         return false;
     }
-    if is_bad_count(count, table.len()) {
+    if has_bad_count(file, held, count) {
         return false;
     }
     if count < 64 {
-        return is_small_fine(table, count);
+        return is_small_fine(file, held, count);
     }
-    is_large_fine(table, count)
+    is_large_fine(file, held, count)
+}
+
+// The number of the first refusal that applies to a context, a count and the nodes of a source, or 0.
+pub fn check_source(context: u16, count: u16, file: &[u8], held: &[u16]) -> u16
+    ensures { λ r. ⌜ r ≡ refusal context count (cellsOf (now (file .entry)) (now (held .entry))) ⌝ }
+{
+    if is_accepted(context, count, file, held) {
+        return 0;
+    }
+    tree_rules::refusal::check(context, count, file, held)
 }
 
 // The number of the first refusal that applies to a context, a count and a table, or 0.
 pub fn check(context: u16, count: u16, table: &[u16]) -> u16
     ensures { λ r. ⌜ r ≡ refusal context count (now (table .entry)) ⌝ }
 {
-    if is_accepted(context, count, table) {
-        return 0;
-    }
-    tree_rules::refusal::check(context, count, table)
+    check_source(context, count, b"", table)
 }

@@ -9,6 +9,7 @@ ghost use Prim.Native.Nat.{ℕ, _<_};
 ghost use lib.Dec.{eqb};
 ghost use Rattle.tree.specs.Forms.{ExprClosure, TypeImplTrait, TypePath, TypeTraitObject};
 ghost use Rattle.tree.specs.Table.{formAt, detailAt};
+ghost use Rattle.tree_source.specs.Source.{cellsOf};
 ghost use Rattle.tree_one_pass.specs.Rows.{fitsBy, suits, RowAt};
 
 // The kinds that fit a place, by its code: byte n of it has a bit for each kind that fits code n. The codes are 0 nothing,
@@ -102,14 +103,20 @@ fn bounds_row(detail: u16) -> u16
 }
 
 // The row of a node whose form alone does not say it; 0 where there is none.
-pub(crate) fn rare_row(table: &[u16], node: u16, form: u16, detail: u16) -> u16
-    requires { ⌜ (form ≡ formAt (now table) node) × (detail ≡ detailAt (now table) node) ⌝ }
-    ensures { λ r. ⌜ ((r ≡ 0 → ⊥) → RowAt (now (table .entry)) node r) ⌝ }
+pub(crate) fn rare_row(file: &[u8], held: &[u16], node: u16, form: u16, detail: u16) -> u16
+    requires { ⌜ (form ≡ formAt (cellsOf (now file) (now held)) node) × (detail ≡ detailAt (cellsOf (now file) (now held)) node) ⌝ }
+    ensures { λ r. ⌜ ((r ≡ 0 → ⊥) → RowAt (cellsOf (now (file .entry)) (now (held .entry))) node r) ⌝ }
 {
     match form {
         forms::TYPE_PATH => path_row(detail),
         forms::TYPE_IMPL_TRAIT | forms::TYPE_TRAIT_OBJECT => bounds_row(detail),
-        forms::EXPR_CLOSURE => { if has_bad_output(table, node) { 0 } else { 1049 } }
+        forms::EXPR_CLOSURE => {
+            if has_bad_output(file, held, node) {
+                0
+            } else {
+                1049
+            }
+        }
         _ => 0,
     }
 }

@@ -4,27 +4,20 @@ mod place; // place.rt: the places of each form, and whether an operand does not
 use place::first_place;
 use place::is_wrong;
 use place::second_place;
-use tree::columns;
-use tree::table::cell;
+use tree_source::node_at;
 ghost use mathlib.Core.Path.{_≡_};
+ghost use Rattle.tree_source.specs.Source.{cellsOf};
 ghost use Rattle.tree_places.specs.Places.{badOperands};
 
 // Whether an operand of a node is absent where required, present where forbidden, or of the wrong class (7).
-pub fn has_bad_operands(table: &[u16], count: u16, node: u16) -> bool
-    ensures { λ r. ⌜ r ≡ badOperands (now (table .entry)) count node ⌝ }
+pub fn has_bad_operands(file: &[u8], held: &[u16], count: u16, node: u16) -> bool
+    ensures { λ r. ⌜ r ≡ badOperands (cellsOf (now (file .entry)) (now (held .entry))) count node ⌝ }
 {
-    let form = cell(table, node, columns::FORM);
-    let detail = cell(table, node, columns::DETAIL);
-    let first = first_place(form, detail);
-    if is_wrong(table, count, node, first, cell(table, node, columns::FIRST)) {
+    let numbers = node_at(file, held, node);
+    let first = first_place(numbers.form, numbers.detail);
+    if is_wrong(file, held, count, node, first, numbers.first) {
         return true;
     }
-    let second = second_place(form, detail);
-    is_wrong(
-        table,
-        count,
-        node,
-        second,
-        cell(table, node, columns::SECOND),
-    )
+    let second = second_place(numbers.form, numbers.detail);
+    is_wrong(file, held, count, node, second, numbers.second)
 }

@@ -1,9 +1,10 @@
 // What may stand at the two operand places of a node, and whether an operand does not fit its place.
-use tree::columns;
 use tree::forms;
-use tree::table::cell;
 use tree_labels::form::class_of;
+use tree_source::form_at;
+use tree_source::node_at;
 ghost use mathlib.Core.Path.{_≡_};
+ghost use Rattle.tree_source.specs.Source.{cellsOf};
 ghost use Rattle.tree_places.specs.Places.{firstPlace, secondPlace, wrongClass, wrongList, wrongItem, wrongNext, wrongAt};
 ghost use Rattle.tree_places.specs.Steps.{outputPlace, argumentsPlace, isRequired, wrongPresent};
 
@@ -90,51 +91,53 @@ pub fn second_place(form: u16, detail: u16) -> Place
 }
 
 // An operand within the count that is of another class.
-fn wrong_class(table: &[u16], count: u16, class: u16, operand: u16) -> bool
-    ensures { λ r. ⌜ r ≡ wrongClass (now (table .entry)) count class operand ⌝ }
+fn wrong_class(file: &[u8], held: &[u16], count: u16, class: u16, operand: u16) -> bool
+    ensures { λ r. ⌜ r ≡ wrongClass (cellsOf (now (file .entry)) (now (held .entry))) count class operand ⌝ }
 {
     if operand > count {
         return false;
     }
-    class_of(cell(table, operand, columns::FORM)) != class
+    class_of(form_at(file, held, operand)) != class
 }
 
 // An operand within the count that is no link, or a link whose item is of another class.
-fn wrong_list(table: &[u16], count: u16, class: u16, operand: u16) -> bool
-    ensures { λ r. ⌜ r ≡ wrongList (now (table .entry)) count class operand ⌝ }
+fn wrong_list(file: &[u8], held: &[u16], count: u16, class: u16, operand: u16) -> bool
+    ensures { λ r. ⌜ r ≡ wrongList (cellsOf (now (file .entry)) (now (held .entry))) count class operand ⌝ }
 {
     if operand > count {
         return false;
     }
-    if class_of(cell(table, operand, columns::FORM)) != 3 {
+    let link = node_at(file, held, operand);
+    if class_of(link.form) != 3 {
         return true;
     }
-    wrong_class(table, count, class, cell(table, operand, columns::FIRST))
+    wrong_class(file, held, count, class, link.first)
 }
 
 // An item that is neither an expression nor a type.
-fn wrong_item(table: &[u16], count: u16, operand: u16) -> bool
-    ensures { λ r. ⌜ r ≡ wrongItem (now (table .entry)) count operand ⌝ }
+fn wrong_item(file: &[u8], held: &[u16], count: u16, operand: u16) -> bool
+    ensures { λ r. ⌜ r ≡ wrongItem (cellsOf (now (file .entry)) (now (held .entry))) count operand ⌝ }
 {
-    if wrong_class(table, count, 1, operand) {
-        wrong_class(table, count, 2, operand)
+    if wrong_class(file, held, count, 1, operand) {
+        wrong_class(file, held, count, 2, operand)
     } else {
         false
     }
 }
 
 // A next link that is none, or whose item is of another class than the item of the link before it.
-fn wrong_next(table: &[u16], count: u16, node: u16, operand: u16) -> bool
-    ensures { λ r. ⌜ r ≡ wrongNext (now (table .entry)) count node operand ⌝ }
+fn wrong_next(file: &[u8], held: &[u16], count: u16, node: u16, operand: u16) -> bool
+    ensures { λ r. ⌜ r ≡ wrongNext (cellsOf (now (file .entry)) (now (held .entry))) count node operand ⌝ }
 {
-    let item = cell(table, node, columns::FIRST);
-    if item > count {
-        return wrong_class(table, count, 3, operand);
+    let link = node_at(file, held, node);
+    if link.first > count {
+        return wrong_class(file, held, count, 3, operand);
     }
     wrong_list(
-        table,
+        file,
+        held,
         count,
-        class_of(cell(table, item, columns::FORM)),
+        class_of(form_at(file, held, link.first)),
         operand,
     )
 }
@@ -154,25 +157,39 @@ fn is_required(place: Place) -> bool
 }
 
 // Whether an operand that is present does not fit a place of a node.
-fn wrong_present(table: &[u16], count: u16, node: u16, place: Place, operand: u16) -> bool
-    ensures { λ r. ⌜ r ≡ wrongPresent (now (table .entry)) count node place operand ⌝ }
+fn wrong_present(
+    file: &[u8],
+    held: &[u16],
+    count: u16,
+    node: u16,
+    place: Place,
+    operand: u16,
+) -> bool
+    ensures { λ r. ⌜ r ≡ wrongPresent (cellsOf (now (file .entry)) (now (held .entry))) count node place operand ⌝ }
 {
     match place {
         Place::Nothing => true,
-        Place::Required(class) => wrong_class(table, count, class, operand),
-        Place::Optional(class) => wrong_class(table, count, class, operand),
-        Place::List(class) => wrong_list(table, count, class, operand),
-        Place::Item => wrong_item(table, count, operand),
-        Place::Next => wrong_next(table, count, node, operand),
+        Place::Required(class) => wrong_class(file, held, count, class, operand),
+        Place::Optional(class) => wrong_class(file, held, count, class, operand),
+        Place::List(class) => wrong_list(file, held, count, class, operand),
+        Place::Item => wrong_item(file, held, count, operand),
+        Place::Next => wrong_next(file, held, count, node, operand),
     }
 }
 
 // Whether the number at a place of a node is absent where required, present where forbidden, or of the wrong class.
-pub fn is_wrong(table: &[u16], count: u16, node: u16, place: Place, operand: u16) -> bool
-    ensures { λ r. ⌜ r ≡ wrongAt (now (table .entry)) count node place operand ⌝ }
+pub fn is_wrong(
+    file: &[u8],
+    held: &[u16],
+    count: u16,
+    node: u16,
+    place: Place,
+    operand: u16,
+) -> bool
+    ensures { λ r. ⌜ r ≡ wrongAt (cellsOf (now (file .entry)) (now (held .entry))) count node place operand ⌝ }
 {
     if operand == 0 {
         return is_required(place);
     }
-    wrong_present(table, count, node, place, operand)
+    wrong_present(file, held, count, node, place, operand)
 }

@@ -1,36 +1,59 @@
-// The refusals 3, 4 and 6 to 11 of a context, a count and a node table, each a pass over the nodes, in their order.
-use tree::columns;
+// The refusals 3, 4 and 6 to 11 of a context, a count and the nodes of a source, each a pass over the nodes, in their order.
 use tree::forms;
 use tree::sizes;
-use tree::table::cell;
-use tree::table::operand_number;
+use tree::table::operand_of;
 use tree_labels::form::class_of;
 use tree_labels::form::is_allowed;
 use tree_labels::level::larger;
-use tree_labels::level::own_level;
+use tree_labels::level::level_of;
 use tree_places::has_bad_operands;
+use tree_source::Node;
+use tree_source::form_at;
+use tree_source::is_short;
+use tree_source::node_at;
 ghost use mathlib.Core.Path.{_≡_};
-ghost use mathlib.Core.Bool.{not, _&&_};
+ghost use mathlib.Core.Bool.{not, _&&_, _||_};
+ghost use mathlib.Core.List.{[], _∷_};
 ghost use Prim.Native.Nat.{_+_, _≤_, _<_};
-ghost use lib.Dec.{eqb};
+ghost use lib.Dec.{eqb, ltb};
 ghost use lib.ListN.{length, getD};
 ghost use Rattle.laws.specs.Each.{some};
+ghost use Rattle.laws.specs.Choice.{isOneOf};
 ghost use Rattle.tree.specs.Sizes.{mostNodes};
+ghost use Rattle.tree.specs.Forms.{ExprBlock, TypeImplTrait, TypePath, TypeTraitObject, allowed};
 ghost use Rattle.tree.specs.Trees.{treeAt, levels};
-ghost use Rattle.tree_rules.specs.Refusals.{refusal4, badNumbers, refusal7, misplaced, badOrder, badOwner, refusal8, empty, plainBlock, badOutput, refusal11, firstOf, nodeRefusals, refusal};
+ghost use Rattle.tree_source.specs.Source.{cellsOf};
+ghost use Rattle.tree_rules.specs.Refusals.{refusal4, refusal7, misplaced, badOwner, refusal8, badOutput, refusal11, firstOf, nodeRefusals, refusal};
 ghost use Rattle.tree_rules.specs.Passes.{breaks, counted, Counted, Levelled};
+
+// Whether a count is 0 or above 4,096.
+fn is_no_count(count: u16) -> bool
+    ensures { λ r. ⌜ r ≡ (eqb count 0 || ltb mostNodes count) ⌝ }
+{
+    if count == 0 {
+        return true;
+    }
+    count > sizes::MOST_NODES
+}
 
 // 4: the count is 0 or above 4,096, or the table is shorter than that many nodes.
 pub fn is_bad_count(count: u16, cells: usize) -> bool
     ensures { λ r. ⌜ r ≡ refusal4 count cells ⌝ }
 {
-    if count == 0 {
-        return true;
-    }
-    if count > sizes::MOST_NODES {
+    if is_no_count(count) {
         return true;
     }
     cells < sizes::NODE_CELLS * (count as usize)
+}
+
+// The same, of the nodes of a source.
+pub fn has_bad_count(file: &[u8], held: &[u16], count: u16) -> bool
+    ensures { λ r. ⌜ r ≡ refusal4 count (length (cellsOf (now (file .entry)) (now (held .entry)))) ⌝ }
+{
+    if is_no_count(count) {
+        return true;
+    }
+    is_short(file, held, count)
 }
 
 // ---- rules that look at one node after the other
@@ -49,15 +72,10 @@ enum Rule {
     Output,
 }
 
-fn has_bad_numbers(table: &[u16], node: u16) -> bool
-    ensures { λ r. ⌜ r ≡ badNumbers (now (table .entry)) node ⌝ }
+fn has_bad_numbers(node: Node) -> bool
+    ensures { λ r. ⌜ r ≡ not (allowed (node .form) (node .attributes) (node .detail) (node .symbol)) ⌝ }
 {
-    !is_allowed(
-        cell(table, node, columns::FORM),
-        cell(table, node, columns::ATTRIBUTES),
-        cell(table, node, columns::DETAIL),
-        cell(table, node, columns::SYMBOL),
-    )
+    !is_allowed(node.form, node.attributes, node.detail, node.symbol)
 }
 
 // A present operand whose number is not above its owner's, or is above the count.
@@ -73,74 +91,71 @@ fn is_misplaced(count: u16, node: u16, operand: u16) -> bool
     operand > count
 }
 
-fn has_bad_order(table: &[u16], count: u16, node: u16) -> bool
-    ensures { λ r. ⌜ r ≡ badOrder (now (table .entry)) count node ⌝ }
+fn has_bad_order(numbers: Node, count: u16, node: u16) -> bool
+    ensures { λ r. ⌜ r ≡ (misplaced count node (numbers .first) || misplaced count node (numbers .second)) ⌝ }
 {
-    if is_misplaced(count, node, cell(table, node, columns::FIRST)) {
+    if is_misplaced(count, node, numbers.first) {
         return true;
     }
-    is_misplaced(count, node, cell(table, node, columns::SECOND))
+    is_misplaced(count, node, numbers.second)
 }
 
-fn is_empty(table: &[u16], node: u16) -> bool
-    ensures { λ r. ⌜ r ≡ empty (now (table .entry)) node ⌝ }
+fn is_empty(node: Node) -> bool
+    ensures { λ r. ⌜ r ≡ (isOneOf (TypeImplTrait ∷ TypePath ∷ TypeTraitObject ∷ []) (node .form) && eqb (node .detail) 0) ⌝ }
 {
-    match cell(table, node, columns::FORM) {
-        forms::TYPE_IMPL_TRAIT | forms::TYPE_PATH | forms::TYPE_TRAIT_OBJECT => cell(
-            table,
-            node,
-            columns::DETAIL,
-        )
-            == 0,
+    let form = node.form;
+    match form {
+        forms::TYPE_IMPL_TRAIT | forms::TYPE_PATH | forms::TYPE_TRAIT_OBJECT => node.detail == 0,
         _ => false,
     }
 }
 
-fn is_plain_block(table: &[u16], node: u16) -> bool
-    ensures { λ r. ⌜ r ≡ plainBlock (now (table .entry)) node ⌝ }
+fn is_plain_block(node: Node) -> bool
+    ensures { λ r. ⌜ r ≡ (eqb (node .form) ExprBlock && (eqb (node .attributes) 0 && eqb (node .detail) 0)) ⌝ }
 {
-    if cell(table, node, columns::FORM) != forms::EXPR_BLOCK {
+    if node.form != forms::EXPR_BLOCK {
         return false;
     }
-    if cell(table, node, columns::ATTRIBUTES) != 0 {
+    if node.attributes != 0 {
         return false;
     }
-    cell(table, node, columns::DETAIL) == 0
+    node.detail == 0
 }
 
 // 10, of one node.
-pub fn has_bad_output(table: &[u16], node: u16) -> bool
-    ensures { λ r. ⌜ r ≡ badOutput (now (table .entry)) node ⌝ }
+pub fn has_bad_output(file: &[u8], held: &[u16], node: u16) -> bool
+    ensures { λ r. ⌜ r ≡ badOutput (cellsOf (now (file .entry)) (now (held .entry))) node ⌝ }
 {
-    if cell(table, node, columns::FORM) != forms::EXPR_CLOSURE {
+    let numbers = node_at(file, held, node);
+    if numbers.form != forms::EXPR_CLOSURE {
         return false;
     }
-    if cell(table, node, columns::DETAIL) != 1 {
+    if numbers.detail != 1 {
         return false;
     }
-    !is_plain_block(table, cell(table, node, columns::FIRST))
+    !is_plain_block(node_at(file, held, numbers.first))
 }
 
 // Whether a node breaks a rule.
-fn breaks(rule: Rule, table: &[u16], count: u16, node: u16) -> bool
-    ensures { λ r. ⌜ r ≡ breaks rule (now (table .entry)) count node ⌝ }
+fn breaks(rule: Rule, file: &[u8], held: &[u16], count: u16, node: u16) -> bool
+    ensures { λ r. ⌜ r ≡ breaks rule (cellsOf (now (file .entry)) (now (held .entry))) count node ⌝ }
 {
     match rule {
-        Rule::Numbers => has_bad_numbers(table, node),
-        Rule::Operands => has_bad_operands(table, count, node),
-        Rule::Order => has_bad_order(table, count, node),
-        Rule::Empty => is_empty(table, node),
-        Rule::Output => has_bad_output(table, node),
+        Rule::Numbers => has_bad_numbers(node_at(file, held, node)),
+        Rule::Operands => has_bad_operands(file, held, count, node),
+        Rule::Order => has_bad_order(node_at(file, held, node), count, node),
+        Rule::Empty => is_empty(node_at(file, held, node)),
+        Rule::Output => has_bad_output(file, held, node),
     }
 }
 
 // Whether some node breaks a rule.
-fn some_breaks(rule: Rule, table: &[u16], count: u16) -> bool
-    ensures { λ r. ⌜ r ≡ some (breaks rule (now (table .entry)) count) count ⌝ }
+fn some_breaks(rule: Rule, file: &[u8], held: &[u16], count: u16) -> bool
+    ensures { λ r. ⌜ r ≡ some (breaks rule (cellsOf (now (file .entry)) (now (held .entry))) count) count ⌝ }
 {
     let mut done: u16 = 0;
     while done < count {
-        if breaks(rule, table, count, done + 1) {
+        if breaks(rule, file, held, count, done + 1) {
             return true;
         }
         done += 1;
@@ -150,13 +165,13 @@ fn some_breaks(rule: Rule, table: &[u16], count: u16) -> bool
 
 // ---- 7 and 8
 
-fn has_wrong_operands(table: &[u16], count: u16) -> bool
-    ensures { λ r. ⌜ r ≡ refusal7 (now (table .entry)) count ⌝ }
+fn has_wrong_operands(file: &[u8], held: &[u16], count: u16) -> bool
+    ensures { λ r. ⌜ r ≡ refusal7 (cellsOf (now (file .entry)) (now (held .entry))) count ⌝ }
 {
-    if class_of(cell(table, 1, columns::FORM)) != 1 {
+    if class_of(form_at(file, held, 1)) != 1 {
         return true;
     }
-    some_breaks(Rule::Operands, table, count)
+    some_breaks(Rule::Operands, file, held, count)
 }
 
 // One more owner for an operand.
@@ -171,14 +186,15 @@ fn count_owner(owners: &mut [u16], operand: u16)
 }
 
 // How many owners each node has.
-fn count_owners(table: &[u16], count: u16, owners: &mut [u16])
-    requires { ⌜ (count ≤ mostNodes) × Counted (now table) 0 (now owners) ⌝ }
-    ensures { λ _. ⌜ Counted (now (table .entry)) count (now (owners .exit)) ⌝ }
+fn count_owners(file: &[u8], held: &[u16], count: u16, owners: &mut [u16])
+    requires { ⌜ (count ≤ mostNodes) × Counted (cellsOf (now file) (now held)) 0 (now owners) ⌝ }
+    ensures { λ _. ⌜ Counted (cellsOf (now (file .entry)) (now (held .entry))) count (now (owners .exit)) ⌝ }
 {
     let mut done: u16 = 0;
     while done < count {
-        count_owner(owners, cell(table, done + 1, columns::FIRST));
-        count_owner(owners, cell(table, done + 1, columns::SECOND));
+        let node = node_at(file, held, done + 1);
+        count_owner(owners, node.first);
+        count_owner(owners, node.second);
         done += 1;
     }
 }
@@ -196,12 +212,12 @@ fn is_badly_owned(owners: &[u16], node: u16) -> bool
 }
 
 // Whether some node but 1 is not owned exactly once.
-fn has_bad_owner(table: &[u16], count: u16) -> bool
+fn has_bad_owner(file: &[u8], held: &[u16], count: u16) -> bool
     requires { ⌜ count ≤ mostNodes ⌝ }
-    ensures { λ r. ⌜ r ≡ some (badOwner (now (table .entry)) count) count ⌝ }
+    ensures { λ r. ⌜ r ≡ some (badOwner (cellsOf (now (file .entry)) (now (held .entry))) count) count ⌝ }
 {
     let mut owners = [0u16; sizes::MOST_NODES as usize + 1];
-    count_owners(table, count, &mut owners);
+    count_owners(file, held, count, &mut owners);
     let mut done: u16 = 0;
     while done < count {
         if is_badly_owned(&owners, done + 1) {
@@ -212,38 +228,39 @@ fn has_bad_owner(table: &[u16], count: u16) -> bool
     false
 }
 
-fn has_wrong_owners(table: &[u16], count: u16) -> bool
+fn has_wrong_owners(file: &[u8], held: &[u16], count: u16) -> bool
     requires { ⌜ count ≤ mostNodes ⌝ }
-    ensures { λ r. ⌜ r ≡ refusal8 (now (table .entry)) count ⌝ }
+    ensures { λ r. ⌜ r ≡ refusal8 (cellsOf (now (file .entry)) (now (held .entry))) count ⌝ }
 {
-    if some_breaks(Rule::Order, table, count) {
+    if some_breaks(Rule::Order, file, held, count) {
         return true;
     }
-    has_bad_owner(table, count)
+    has_bad_owner(file, held, count)
 }
 
 // ---- 11
 
 // How many nodes the longest path from a node holds, from those of the nodes after it.
-fn levels_at(table: &[u16], count: u16, node: u16, below: &[u16]) -> u16
-    requires { ⌜ (1 ≤ node) × (node ≤ count) × (count ≤ mostNodes) × Levelled (now table) count node (now below) ⌝ }
-    ensures { λ r. ⌜ r ≡ levels (treeAt (now (table .entry)) count node) ⌝ }
+fn levels_at(file: &[u8], held: &[u16], count: u16, node: u16, below: &[u16]) -> u16
+    requires { ⌜ (1 ≤ node) × (node ≤ count) × (count ≤ mostNodes) × Levelled (cellsOf (now file) (now held)) count node (now below) ⌝ }
+    ensures { λ r. ⌜ r ≡ levels (treeAt (cellsOf (now (file .entry)) (now (held .entry))) count node) ⌝ }
 {
-    let first = operand_number(table, count, node, columns::FIRST) as usize;
-    let second = operand_number(table, count, node, columns::SECOND) as usize;
-    own_level(table, node) + larger(below[first], below[second])
+    let numbers = node_at(file, held, node);
+    let first = operand_of(count, node, numbers.first) as usize;
+    let second = operand_of(count, node, numbers.second) as usize;
+    level_of(numbers.form) + larger(below[first], below[second])
 }
 
 // Whether a path from node 1 holds more than 128 nodes: from the last node to the first, as operands come after their owners.
-fn is_too_deep(table: &[u16], count: u16) -> bool
+fn is_too_deep(file: &[u8], held: &[u16], count: u16) -> bool
     requires { ⌜ count ≤ mostNodes ⌝ }
-    ensures { λ r. ⌜ r ≡ refusal11 (now (table .entry)) count ⌝ }
+    ensures { λ r. ⌜ r ≡ refusal11 (cellsOf (now (file .entry)) (now (held .entry))) count ⌝ }
 {
     let mut below = [0u16; sizes::MOST_NODES as usize + 1];
     let mut node = count;
     while 0 < node {
         let at = node as usize;
-        below[at] = levels_at(table, count, node, &below);
+        below[at] = levels_at(file, held, count, node, &below);
         node -= 1;
     }
     below[1] > sizes::MOST_LEVELS
@@ -252,37 +269,41 @@ fn is_too_deep(table: &[u16], count: u16) -> bool
 // ---- the first that applies
 
 // The first of 6 to 11 that applies, or 0: each refusal by a pass of its own.
-fn find_refusal(table: &[u16], count: u16) -> u16
+fn find_refusal(file: &[u8], held: &[u16], count: u16) -> u16
     requires { ⌜ count ≤ mostNodes ⌝ }
-    ensures { λ r. ⌜ r ≡ firstOf (nodeRefusals count (now (table .entry))) ⌝ }
+    ensures { λ r. ⌜ r ≡ firstOf (nodeRefusals count (cellsOf (now (file .entry)) (now (held .entry)))) ⌝ }
 {
-    if some_breaks(Rule::Numbers, table, count) {
+    if some_breaks(Rule::Numbers, file, held, count) {
         return 6;
     }
-    if has_wrong_operands(table, count) {
+    if has_wrong_operands(file, held, count) {
         return 7;
     }
-    if has_wrong_owners(table, count) {
+    if has_wrong_owners(file, held, count) {
         return 8;
     }
-    if some_breaks(Rule::Empty, table, count) {
+    if some_breaks(Rule::Empty, file, held, count) {
         return 9;
     }
-    if some_breaks(Rule::Output, table, count) {
+    if some_breaks(Rule::Output, file, held, count) {
         return 10;
     }
-    if is_too_deep(table, count) { 11 } else { 0 }
+    if is_too_deep(file, held, count) {
+        11
+    } else {
+        0
+    }
 }
 
-// The number of the first refusal that applies to a context, a count and a table, or 0.
-pub fn check(context: u16, count: u16, table: &[u16]) -> u16
-    ensures { λ r. ⌜ r ≡ refusal context count (now (table .entry)) ⌝ }
+// The number of the first refusal that applies to a context, a count and the nodes of a source, or 0.
+pub fn check(context: u16, count: u16, file: &[u8], held: &[u16]) -> u16
+    ensures { λ r. ⌜ r ≡ refusal context count (cellsOf (now (file .entry)) (now (held .entry))) ⌝ }
 {
     if context > 3 {
         return 3;
     }
-    if is_bad_count(count, table.len()) {
+    if has_bad_count(file, held, count) {
         return 4;
     }
-    find_refusal(table, count)
+    find_refusal(file, held, count)
 }

@@ -5,106 +5,93 @@ use native.Mathlib.Omega.{arith}
 use borrow.Author.Needs.{needs}
 use lib.ListN.{length}
 use Rattle.laws.proofs.Choice.{true-not-false}
-use Rattle.tree.specs.Table.{cellAt, firstColumn, secondColumn}
+use Rattle.tree_source.specs.Source.{cellsOf}
 use Rattle.tree_one_pass.specs.Marks.{Marked}
 use Rattle.tree_one_pass.proofs.Fine.{takes-length, first-most, second-most, second-size, length-more, marked-more, marked-none, nothing-refused}
 use Rattle.tree_one_pass.proofs.is_fine.Statement.{statement}
 use Rattle.tree_one_pass.proofs.is_fine.Tie as tie
 
 abbrev Inv-loop : tie.InvT-loop
-Inv-loop table count marks₀ node₀ marks node = (node ≤ count) × (length marks ≡ length marks₀) × Marked table count node marks
+Inv-loop file held count marks₀ node₀ marks node = (node ≤ count) × (length marks ≡ length marks₀) × Marked (cellsOf file held) count node marks
 
 abbrev μ-loop : tie.MeasureT-loop
-μ-loop table count marks₀ node₀ marks node = node
+μ-loop file held count marks₀ node₀ marks node = node
 
 loop-holds : tie.Need-loop-holds Inv-loop μ-loop
 loop-holds c =
-    let p = c .before .before .pre in
+    let p = c .before .before .before .pre in
     (omega arith, refl, marked-none _ _ _ (p .3) (p .4))
 
-shared-slice-read-take : tie.Need-shared-slice-read-take Inv-loop μ-loop
-shared-slice-read-take c =
-    let p = c .before .before .before .before .before .before .pre in
-    let i = c .before .before .before .loop .inv in
-    let h = i .0 in
-    let j = c .before .before .loop-test in
-    omega arith
-
-shared-slice-read-take-2 : tie.Need-shared-slice-read-take-2 Inv-loop μ-loop
-shared-slice-read-take-2 c =
-    let p = c .before .before .before .before .before .before .before .before .before .before .before .before .pre in
-    let i = c .before .before .before .before .before .before .before .before .before .loop .inv in
-    let h = i .0 in
-    let j = c .before .before .before .before .before .before .before .before .loop-test in
-    omega arith
+numbers-at-requires : tie.Need-numbers-at-requires Inv-loop μ-loop
+numbers-at-requires c κs =
+    let p = c .before .before .before .before .before .pre in
+    let i = c .before .loop .inv .0 in
+    (omega arith, omega arith)
 
 mark-at-requires : tie.Need-mark-at-requires Inv-loop μ-loop
 mark-at-requires c κs =
     let p = c .before .before .before .before .before .before .before .before .before .before .before .before .before .before .before .before .pre in
-    let i = c .before .before .before .before .before .before .before .before .before .before .before .before .before .loop .inv in
-    let j = c .before .before .before .before .before .before .before .before .before .before .before .before .loop-test in
-    let t = c .before .before .before .before .before .before .before .before .before .take .ensures in
-    let f = c .before .before .before .before .before .before .if1 .left in
-    (omega (arith, i .0), omega (arith, i .0), first-most _ _ _ _ (i .2) (omega arith) (i .0) (p .1) _ _ t f, second-most _ _ _ _ (i .2) (omega arith) (i .0) (p .1) _ _ t f _ _ (c .before .before .before .take2 .ensures) (c .if2 .left))
+    let i = c .before .before .before .before .before .before .before .before .before .before .before .before .loop .inv in
+    let j = c .before .before .before .before .before .before .before .before .before .before .before .loop-test in
+    let n = c .before .before .before .before .before .before .before .before .before .before .numbers-at .ensures in
+    let t = c .before .before .before .before .before .before .before .before .take .ensures in
+    let f = c .before .before .before .before .before .if1 .left in
+    (n, first-most _ _ _ _ (i .2) (omega arith) (i .0) (p .1) _ (n .first) _ _ t f, second-most _ _ _ _ (i .2) (omega arith) (i .0) (p .1) _ (n .first) _ _ t f _ (n .second) _ _ (c .before .before .before .take2 .ensures) (c .if2 .left))
+
+slice-write-marks : tie.Need-slice-write-marks Inv-loop μ-loop
+slice-write-marks c =
+    let i = c .before .before .before .before .before .before .before .before .before .before .before .before .before .before .loop .inv in
+    let j = c .before .before .before .before .before .before .before .before .before .before .before .before .before .loop-test in
+    let n = c .before .before .before .before .before .before .before .before .before .before .before .before .numbers-at .ensures in
+    omega (arith, i .0, second-size _ _ _ _ (i .2) (omega arith) (i .0) (c .before .before .before .before .before .before .before .before .before .before .before .before .before .before .before .before .before .before .pre .1) _ (n .first) _ _ (c .before .before .before .before .before .before .before .before .before .before .take .ensures) (c .before .before .before .before .before .before .before .if1 .left) _ (n .second) _ _ (c .before .before .before .before .before .take2 .ensures) (c .before .before .if2 .left))
 
 loop-again : tie.Need-loop-again Inv-loop μ-loop
 loop-again c =
     let p = c .before .before .before .before .before .before .before .before .before .before .before .before .before .before .before .before .before .before .pre in
-    let i = c .before .before .before .before .before .before .before .before .before .before .before .before .before .before .before .loop .inv in
-    let j = c .before .before .before .before .before .before .before .before .before .before .before .before .before .before .loop-test in
-    let t = c .before .before .before .before .before .before .before .before .before .before .before .take .ensures in
-    let f = c .before .before .before .before .before .before .before .before .if1 .left in
+    let i = c .before .before .before .before .before .before .before .before .before .before .before .before .before .before .loop .inv in
+    let j = c .before .before .before .before .before .before .before .before .before .before .before .before .before .loop-test in
+    let n = c .before .before .before .before .before .before .before .before .before .before .before .before .numbers-at .ensures in
+    let t = c .before .before .before .before .before .before .before .before .before .before .take .ensures in
+    let f = c .before .before .before .before .before .before .before .if1 .left in
     let u = c .before .before .before .before .before .take2 .ensures in
     let g = c .before .before .if2 .left in
     let h = c .if3 .left in (
       omega (arith, i .0),
-      length-more _ _ _ _ (i .2) (omega arith) (i .0) (p .1) _ _ t f _ _ u g _ ∙ i .1,
-      marked-more _ _ _ _ (i .2) (omega arith) (i .0) (p .1) _ _ t f _ _ u g _ (c .before .mark-at .ensures h) h,
+      length-more _ _ _ _ (i .2) (omega arith) (i .0) (p .1) _ (n .first) _ _ t f _ (n .second) _ _ u g _ ∙ i .1,
+      marked-more _ _ _ _ (i .2) (omega arith) (i .0) (p .1) _ (n .first) _ _ t f _ (n .second) _ _ u g _ (c .before .mark-at .ensures h) h,
     )
 
 slice-read-root : tie.Need-slice-read-root Inv-loop μ-loop
 slice-read-root c =
-    let a = c .before .before .before .before .before .args in
-    let p = c .before .before .before .before .before .pre in
-    let l = c .before .before .loop in
-    let i = l .inv in
-    let z = i .2 .size in
+    let p = c .before .before .before .before .before .before .pre in
+    let z = c .before .before .loop .inv .2 .size in
     omega arith
-
-all-taken-requires : tie.Need-all-taken-requires Inv-loop μ-loop
-all-taken-requires c κs =
-    let a = c .before .before .before .before .before .before .before .before .args in
-    let p = c .before .before .before .before .before .before .before .before .pre in
-    let l = c .before .before .before .before .before .loop in
-    let i = l .inv in
-    (p .1, i .2 .size)
 
 returns-6 : tie.Need-returns-6 Inv-loop μ-loop
 returns-6 c =
-    let a = c .before .before .before .before .before .before .before .before .before .args in
-    let p = c .before .before .before .before .before .before .before .before .before .pre in
+    let a = c .before .before .before .before .before .before .before .before .before .before .args in
+    let p = c .before .before .before .before .before .before .before .before .before .before .pre in
     let l = c .before .before .before .before .before .before .loop in
     let i = l .inv in
     let j = c .before .before .before .before .before .loop-test in
     let z : l .node ≡ 0 = omega arith in
     let d = c .before .before .if5 .left in
-    λ e. nothing-refused (a .table .now) (a .count) (l .marks) (rw z at (i .2)) (p .0) (c .before .before .before .if4 .left) (omega arith) (c .all-taken .ensures e)
+    λ e. nothing-refused (cellsOf (a .file .now) (a .held .now)) (a .count) (l .marks) (rw z at (i .2)) (p .0) (c .before .before .before .if4 .left) (omega arith) (c .all-taken .ensures e)
 
 pub is-fine-spec : {M : Type 1} → statement M
 is-fine-spec =
-    tie.close (tie.spec Inv-loop μ-loop loop-holds (λ c. search needs) (λ c. search needs) (λ c. search needs)
-    (λ c. search needs) (λ c. search needs) shared-slice-read-take
+    tie.close (tie.spec Inv-loop μ-loop loop-holds numbers-at-requires
     (λ c κs. c .before .before .before .loop .inv .2 .size)
     (λ c. takes-length _ _ _ _ _ (c .before .before .before .take .ensures) ∙ c .before .before .before .before .before .before .before .loop .inv .1)
-    (λ c. λ e. true-not-false (sym e)) (λ c. search needs) (λ c. search needs) shared-slice-read-take-2
-    (λ c κs. let e = takes-length _ _ _ _ _ (c .before .before .before .before .before .take .ensures) in let z = c .before .before .before .before .before .before .before .before .before .loop .inv .2 .size in omega arith)
-    (λ c. takes-length _ _ _ _ _ (c .before .before .before .take2 .ensures) ∙ takes-length _ _ _ _ _ (c .before .before .before .before .before .before .before .before .before .take .ensures) ∙ c .before .before .before .before .before .before .before .before .before .before .before .before .before .loop .inv .1)
+    (λ c. λ e. true-not-false (sym e))
+    (λ c κs. let e = takes-length _ _ _ _ _ (c .before .before .before .before .take .ensures) in let z = c .before .before .before .before .before .before .before .before .loop .inv .2 .size in omega arith)
+    (λ c. takes-length _ _ _ _ _ (c .before .before .before .take2 .ensures) ∙ takes-length _ _ _ _ _ (c .before .before .before .before .before .before .before .before .take .ensures) ∙ c .before .before .before .before .before .before .before .before .before .before .before .before .loop .inv .1)
     (λ c. λ e. true-not-false (sym e)) mark-at-requires
-    (λ c. takes-length _ _ _ _ _ (c .before .before .before .before .before .take2 .ensures) ∙ takes-length _ _ _ _ _ (c .before .before .before .before .before .before .before .before .before .before .before .take .ensures) ∙ c .before .before .before .before .before .before .before .before .before .before .before .before .before .before .before .loop .inv .1)
-    (λ c. λ e. true-not-false (sym e)) (λ c. search needs) (λ c. search needs)
-    (λ c. let i = c .before .before .before .before .before .before .before .before .before .before .before .before .before .before .before .loop .inv in let j = c .before .before .before .before .before .before .before .before .before .before .before .before .before .before .loop-test in omega (arith, i .0, second-size _ _ _ _ (i .2) (omega arith) (i .0) (c .before .before .before .before .before .before .before .before .before .before .before .before .before .before .before .before .before .before .pre .1) _ _ (c .before .before .before .before .before .before .before .before .before .before .before .take .ensures) (c .before .before .before .before .before .before .before .before .if1 .left) _ _ (c .before .before .before .before .before .take2 .ensures) (c .before .before .if2 .left)))
-    (λ c. omega (arith, c .before .before .before .before .before .before .before .before .before .before .before .before .before .before .loop-test))
-    (λ c. omega (arith, c .before .before .before .before .before .before .before .before .before .before .before .before .before .before .loop-test))
+    (λ c. takes-length _ _ _ _ _ (c .before .before .before .before .before .take2 .ensures) ∙ takes-length _ _ _ _ _ (c .before .before .before .before .before .before .before .before .before .before .take .ensures) ∙ c .before .before .before .before .before .before .before .before .before .before .before .before .before .before .loop .inv .1)
+    (λ c. λ e. true-not-false (sym e)) (λ c. search needs) (λ c. search needs) slice-write-marks
+    (λ c. omega (arith, c .before .before .before .before .before .before .before .before .before .before .before .before .before .loop-test))
+    (λ c. omega (arith, c .before .before .before .before .before .before .before .before .before .before .before .before .before .loop-test))
     loop-again slice-read-root (λ c. c .before .before .before .loop .inv .1) (λ c. λ e. true-not-false (sym e))
-    (λ c. c .before .before .before .before .loop .inv .1) (λ c. λ e. true-not-false (sym e)) all-taken-requires
+    (λ c. c .before .before .before .before .loop .inv .1) (λ c. λ e. true-not-false (sym e))
+    (λ c κs. (c .before .before .before .before .before .before .before .before .before .pre .1, c .before .before .before .before .before .loop .inv .2 .size))
     (λ c. c .before .before .before .before .before .before .loop .inv .1) returns-6)

@@ -7,7 +7,7 @@ use Rattle.tree_places.proofs.has_bad_operands.Tie as tie
 pub has-bad-operands-spec : {M : Type 1} → statement M
 unfolding badOperands
 has-bad-operands-spec =
-    tie.close (tie.spec free free free free free
-    (λ c. rw (← c .before .before .before .before .before .cell .ensures, ← c .before .before .before .before .cell2 .ensures, ← c .before .before .before .first-place .ensures, ← c .before .before .cell3 .ensures, ← c .before .is-wrong .ensures, c .if1 .taken))
-    free free free
-    (λ c. rw (← c .before .before .before .before .before .before .before .before .cell .ensures, ← c .before .before .before .before .before .before .before .cell2 .ensures, ← c .before .before .before .before .before .before .first-place .ensures, ← c .before .before .before .before .before .cell3 .ensures, ← c .before .before .before .before .is-wrong .ensures, c .before .before .before .if1 .left, ← c .before .before .second-place .ensures, ← c .before .cell4 .ensures) (c .is-wrong2 .ensures)))
+    tie.close (tie.spec free free free
+    (λ c. rw (← c .before .before .before .node-at .ensures .form, ← c .before .before .before .node-at .ensures .detail, ← c .before .before .first-place .ensures, ← c .before .before .before .node-at .ensures .first, ← c .before .is-wrong .ensures, c .if1 .taken))
+    free free
+    (λ c. rw (← c .before .before .before .before .before .node-at .ensures .form, ← c .before .before .before .before .before .node-at .ensures .detail, ← c .before .before .before .before .first-place .ensures, ← c .before .before .before .before .before .node-at .ensures .first, ← c .before .before .before .is-wrong .ensures, c .before .before .if1 .left, ← c .before .second-place .ensures, ← c .before .before .before .before .before .node-at .ensures .second) (c .is-wrong2 .ensures)))

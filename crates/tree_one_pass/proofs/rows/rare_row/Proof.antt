@@ -31,19 +31,19 @@ closure-suits form detail k = each (λ (f : ℕ). suits f detail 1049) (10 ∷ [
 
 returns : tie.Need-returns
 returns c =
-    let p = c .before .before .before .pre in
+    let p = c .before .before .before .before .pre in
     let k = c .before .match .keys1 in
     λ h. row-by _ _ _ _ _ (p .0) (p .1) (path-suits _ _ _ k (c .path-row .ensures h)) (not-true _ (each (λ (f : ℕ). not (eqb f 10)) (49 ∷ []) _ tt k))
 
 returns-2 : tie.Need-returns-2
 returns-2 c =
-    let p = c .before .before .before .pre in
+    let p = c .before .before .before .before .pre in
     let k = c .before .match .keys2 in
     λ h. row-by _ _ _ _ _ (p .0) (p .1) (bounds-suit _ _ _ k (c .bounds-row .ensures h)) (not-true _ (each (λ (f : ℕ). not (eqb f 10)) (44 ∷ 53 ∷ []) _ tt k))
 
 returns-4 : tie.Need-returns-4
 returns-4 c =
-    let p = c .before .before .before .before .pre in
+    let p = c .before .before .before .before .before .pre in
     λ h. (rw (← p .0, ← p .1) (closure-suits _ _ (c .before .before .match .keys3)), sym (c .before .has-bad-output .ensures) ∙ c .if1 .left)
 
 pub rare-row-spec : {M : Type 1} → statement M

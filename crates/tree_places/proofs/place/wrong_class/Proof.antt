@@ -9,4 +9,4 @@ pub wrong-class-spec : {M : Type 1} → statement M
 unfolding wrongClass
 wrong-class-spec =
     tie.close (tie.spec (λ c. rw (lt-leb _ _ (c .if1 .taken))) free free
-    (λ c. rw (le-leb _ _ (c .before .before .if1 .left), ← c .before .cell .ensures, ← c .class-of .ensures)))
+    (λ c. rw (le-leb _ _ (c .before .before .if1 .left), ← c .before .form-at .ensures, ← c .class-of .ensures)))

@@ -9,6 +9,6 @@ pub wrong-list-spec : {M : Type 1} → statement M
 unfolding wrongList
 wrong-list-spec =
     tie.close (tie.spec (λ c. rw (lt-leb _ _ (c .if1 .taken))) free free
-    (λ c. rw (le-leb _ _ (c .before .before .before .if1 .left), ← c .before .before .cell .ensures, ← c .before .class-of .ensures, ne-eqb _ _ (c .if2 .taken)))
-    free free
-    (λ c. rw (le-leb _ _ (c .before .before .before .before .before .if1 .left), ← c .before .before .before .before .cell .ensures, ← c .before .before .before .class-of .ensures, eq-eqb _ _ (c .before .before .if2 .left), ← c .before .cell2 .ensures) (c .wrong-class .ensures)))
+    (λ c. rw (le-leb _ _ (c .before .before .before .if1 .left), ← c .before .before .node-at .ensures .form, ← c .before .class-of .ensures, ne-eqb _ _ (c .if2 .taken)))
+    free
+    (λ c. rw (le-leb _ _ (c .before .before .before .before .if1 .left), ← c .before .before .before .node-at .ensures .form, ← c .before .before .class-of .ensures, eq-eqb _ _ (c .before .if2 .left), ← c .before .before .before .node-at .ensures .first) (c .wrong-class .ensures)))

@@ -10,6 +10,6 @@ pub wrong-next-spec : {M : Type 1} → statement M
 unfolding wrongNext pick
 wrong-next-spec =
     tie.close (tie.spec free free
-    (λ c. rw (← c .before .before .cell .ensures, lt-leb _ _ (c .before .if1 .taken)) (c .wrong-class .ensures)) free
+    (λ c. rw (← c .before .before .before .node-at .ensures .first, lt-leb _ _ (c .before .if1 .taken)) (c .wrong-class .ensures)) free
     free free
-    (λ c. rw (← c .before .before .before .before .cell .ensures, le-leb _ _ (c .before .before .before .if1 .left), ← c .before .before .cell2 .ensures, ← c .before .class-of .ensures) (c .wrong-list .ensures)))
+    (λ c. rw (← c .before .before .before .before .before .node-at .ensures .first, le-leb _ _ (c .before .before .before .if1 .left), ← c .before .before .form-at .ensures, ← c .before .class-of .ensures) (c .wrong-list .ensures)))

@@ -6,6 +6,7 @@ use native.Mathlib.Omega.{arith}
 use borrow.Author.Needs.{needs}
 use Rattle.laws.specs.Each.{some}
 use Rattle.laws.proofs.Each.{some-more, some-found}
+use Rattle.tree_source.specs.Source.{cellsOf}
 use Rattle.tree_rules.specs.Refusals.{badOwner}
 use Rattle.tree_rules.specs.Passes.{Counted}
 use Rattle.tree_rules.proofs.Owners.{counted-none, owned-badly}
@@ -13,10 +14,10 @@ use Rattle.tree_rules.proofs.refusal.has_bad_owner.Statement.{statement
 use Rattle.tree_rules.proofs.refusal.has_bad_owner.Tie as tie
 
 abbrev Inv-loop : tie.InvT-loop
-Inv-loop table count owners done₀ done = (done ≤ count) × Counted table count owners × (some (badOwner table count) done ≡ false)
+Inv-loop file held count owners done₀ done = (done ≤ count) × Counted (cellsOf file held) count owners × (some (badOwner (cellsOf file held) count) done ≡ false)
 
 abbrev μ-loop : tie.MeasureT-loop
-μ-loop table count owners done₀ done = count - done
+μ-loop file held count owners done₀ done = count - done
 
 returns : tie.Need-returns Inv-loop μ-loop
 returns c =
@@ -37,13 +38,13 @@ loop-again c =
 returns-2 : tie.Need-returns-2 Inv-loop μ-loop
 returns-2 c =
     let l = c .before .loop in
-    let e : l .done ≡ c .before .before .before .before .before .before .args .count = omega arith in
+    let e : l .done ≡ c .before .before .before .before .before .before .before .args .count = omega arith in
     sym (rw e at (l .inv .2))
 
 pub has-bad-owner-spec : {M : Type 1} → statement M
 unfolding some
 has-bad-owner-spec =
-    tie.close (tie.spec Inv-loop μ-loop (λ c. search needs) (λ c κs. (c .before .before .pre, counted-none _))
+    tie.close (tie.spec Inv-loop μ-loop (λ c. search needs) (λ c κs. (c .before .before .before .pre, counted-none _))
     (λ c. (omega arith, c .before .count-owners .ensures, refl)) (λ c. sym (c .before .before .loop .inv .1 .size))
     (λ c. omega arith) (λ c κs. (c .before .before .loop .inv .1 .size, omega arith)) returns (λ c. omega arith)
     (λ c. omega arith) loop-again returns-2)

@@ -10,5 +10,5 @@ pub has-wrong-operands-spec : {M : Type 1} → statement M
 unfolding refusal7 breaks
 has-wrong-operands-spec =
     tie.close (tie.spec free free
-    (λ c. rw (← c .before .before .cell .ensures, ← c .before .class-of .ensures, ne-eqb _ _ (c .if1 .taken))) free
-    (λ c. rw (← c .before .before .before .cell .ensures, ← c .before .before .class-of .ensures, eq-eqb _ _ (c .before .if1 .left)) (c .some-breaks .ensures)))
+    (λ c. rw (← c .before .before .form-at .ensures, ← c .before .class-of .ensures, ne-eqb _ _ (c .if1 .taken))) free
+    (λ c. rw (← c .before .before .before .form-at .ensures, ← c .before .before .class-of .ensures, eq-eqb _ _ (c .before .if1 .left)) (c .some-breaks .ensures)))

@@ -9,20 +9,22 @@ use Rattle.tree_rules.proofs.refusal.levels_at.Tie as tie
 
 add-result : tie.Need-add-result
 add-result c =
-    let p = c .before .before .before .before .before .before .before .before .pre in
-    rw (c .before .before .before .own-level .ensures, c .larger .ensures, c .before .before .before .before .before .operand-number .ensures, c .before .before .before .before .operand-number2 .ensures)
+    let p = c .before .before .before .before .before .before .before .before .before .before .pre in
+    let n = c .before .before .before .before .before .before .node-at .ensures in
+    rw (c .before .before .before .level-of .ensures, c .larger .ensures, c .before .before .before .before .before .operand-of .ensures, c .before .before .before .before .operand-of2 .ensures, n .form, n .first, n .second)
     (record { fits = omega (arith, levels-fit _ _ _ _ (p .3) (p .2) (p .0) (p .1)) })
 
 returns : tie.Need-returns
 returns c =
-    let p = c .before .before .before .before .before .before .before .before .pre in
-    rw (c .before .before .before .own-level .ensures, c .larger .ensures, c .before .before .before .before .before .operand-number .ensures, c .before .before .before .before .operand-number2 .ensures)
+    let p = c .before .before .before .before .before .before .before .before .before .before .pre in
+    let n = c .before .before .before .before .before .before .node-at .ensures in
+    rw (c .before .before .before .level-of .ensures, c .larger .ensures, c .before .before .before .before .before .operand-of .ensures, c .before .before .before .before .operand-of2 .ensures, n .form, n .first, n .second)
     (levels-from _ _ _ _ (p .3) (p .2) (p .0) (p .1))
 
 pub levels-at-spec : {M : Type 1} → statement M
 levels-at-spec =
-    tie.close (tie.spec free (λ c. search needs) free (λ c. search needs) free (λ c. search needs)
-    (λ c. rw (c .before .before .before .operand-number .ensures) (operand-cell _ _ _ _ (c .before .before .before .before .before .before .pre .3) (c .before .before .before .before .before .before .pre .2) _))
+    tie.close (tie.spec free free (λ c. search needs) free (λ c. search needs) free (λ c. search needs)
+    (λ c. rw (c .before .before .before .operand-of .ensures, c .before .before .before .before .node-at .ensures .first) (operand-cell _ _ _ _ (c .before .before .before .before .before .before .before .before .pre .3) (c .before .before .before .before .before .before .before .before .pre .2) _))
     (λ c. search needs)
-    (λ c. rw (c .before .before .before .operand-number2 .ensures) (operand-cell _ _ _ _ (c .before .before .before .before .before .before .before .pre .3) (c .before .before .before .before .before .before .before .pre .2) _))
+    (λ c. rw (c .before .before .before .operand-of2 .ensures, c .before .before .before .before .before .node-at .ensures .second) (operand-cell _ _ _ _ (c .before .before .before .before .before .before .before .before .before .pre .3) (c .before .before .before .before .before .before .before .before .before .pre .2) _))
     free add-result returns)

@@ -6,15 +6,16 @@ use native.Mathlib.Omega.{arith}
 use Rattle.laws.specs.Each.{some}
 use Rattle.laws.proofs.Each.{some-more, some-found}
 use Rattle.laws.proofs.Calls.{free}
+use Rattle.tree_source.specs.Source.{cellsOf}
 use Rattle.tree_rules.specs.Passes.{breaks}
 use Rattle.tree_rules.proofs.refusal.some_breaks.Statement.{statement}
 use Rattle.tree_rules.proofs.refusal.some_breaks.Tie as tie
 
 abbrev Inv-loop : tie.InvT-loop
-Inv-loop rule table count done₀ done = (done ≤ count) × (some (breaks rule table count) done ≡ false)
+Inv-loop rule file held count done₀ done = (done ≤ count) × (some (breaks rule (cellsOf file held) count) done ≡ false)
 
 abbrev μ-loop : tie.MeasureT-loop
-μ-loop rule table count done₀ done = count - done
+μ-loop rule file held count done₀ done = count - done
 
 returns : tie.Need-returns Inv-loop μ-loop
 returns c =
@@ -29,7 +30,7 @@ loop-again c =
 returns-2 : tie.Need-returns-2 Inv-loop μ-loop
 returns-2 c =
     let l = c .before .loop in
-    let e : l .done ≡ c .before .before .before .args .count = omega arith in
+    let e : l .done ≡ c .before .before .before .before .args .count = omega arith in
     sym (rw e at (l .inv .1))
 
 pub some-breaks-spec : {M : Type 1} → statement M
