@@ -5,7 +5,8 @@ use mathlib.Core.List.{List, [], _∷_}
 use Prim.Native.Nat.{ℕ, zero, suc, _+_, _*_, _-_, _≤_, _<_}
 use native.Mathlib.Omega.{arith}
 use lib.Dec.{eqb, ltb}
-use lib.ListN.{length, drop, length-drop}
+use lib.ListN.{length, take, drop, length-drop, take-append-drop}
+use lib.Seq.{length-take-le}
 use borrow.Author.Tests.{eq-eqb, ne-eqb, lt-ltb, le-ltb, ltb-false}
 use Rattle.laws.specs.Lists.{over}
 use Rattle.laws.proofs.Choice.{pick-true, pick-false, true-not-false, or-false}
@@ -16,8 +17,12 @@ use Rattle.tree_rules.proofs.Count.{count-fits, fits-count}
 use Rattle.file_loader.specs.declared.Loaded.the-variants.{Refused, Accepted}
 use Rattle.file_loader.specs.Several.{Numbers, broken, numbers, numbersOf, isBroken, valuesIn, bytesAfter}
 use Rattle.file_loader.specs.Files.{header, contextIn, countIn, body, cellsIn, refusal1, refusal2, refusal5, fileRefusal, loaded, loadedTable}
-use Rattle.file_loader.specs.Reads.{Begun}
-use Rattle.file_loader.proofs.Several.{numbers-length}
+use Rattle.tree_source.specs.Source.{behindHeader, cellsOf}
+use Rattle.tree_source.proofs.Cells.{cells-file}
+use Rattle.file_loader.specs.declared.Body.{Body}
+use Rattle.file_loader.specs.declared.Body.the-variants.{End}
+use Rattle.file_loader.specs.Reads.{LaidOut, Begun, Counted, bodyRefusal}
+use Rattle.file_loader.proofs.Several.{numbers-length, some-left}
 
 -- the first of 6 to 11, where 3 and 4 do not apply
 pub nodes-refusal : (context count : ℕ) (cells : List ℕ) → context ≤ 3 → refusal4 count (length cells) ≡ false → refusal context count cells ≡ firstOf (nodeRefusals count cells)
@@ -66,52 +71,63 @@ module _ (file : List ℕ) (lent context count at : ℕ) (b : Begun file context
     unfolding refusal3
     bad-count e = after-header ∙ skip _ _ (le-ltb 3 context ok) ∙ stop _ _ e
 
-    module _ (fits : refusal4 count lent ≡ false) where
-      after-count : fileRefusal file lent ≡ firstOf (refuse 5 (refusal5 file) ∷ nodeRefusals count (cellsIn file))
-      unfolding refusal3
-      after-count = after-header ∙ skip _ _ (le-ltb 3 context ok) ∙ skip _ _ fits
+    pub after-count : refusal4 count lent ≡ false → fileRefusal file lent ≡ bodyRefusal file
+    unfolding refusal3 bodyRefusal
+    after-count fits = after-header ∙ skip _ _ (le-ltb 3 context ok) ∙ skip _ _ fits ∙ rw (b .is-count)
 
-      pub bad-body : numbersOf (nodeCells * count) (drop at file) ≡ broken → fileRefusal file lent ≡ 5
-      unfolding refusal5 isBroken
-      bad-body e = after-count ∙ stop _ _ (rw (b .is-body, e))
+module _ (file : List ℕ) (context count at : ℕ) (b : Begun file context count at) where
+  pub bad-body : numbersOf (nodeCells * count) (drop at file) ≡ broken → bodyRefusal file ≡ 5
+  unfolding bodyRefusal refusal5 isBroken
+  bad-body e = stop _ _ (rw (b .is-body, e))
 
-      module _ (cells : List ℕ) (end : ℕ) (read : numbersOf (nodeCells * count) (drop at file) ≡ numbers cells (drop end file)) where
-        are-cells : cellsIn file ≡ cells
-        unfolding cellsIn valuesIn
-        are-cells = rw (b .is-body, read)
+  module _ (cells : List ℕ) (end : ℕ) (read : numbersOf (nodeCells * count) (drop at file) ≡ numbers cells (drop end file)) where
+    are-cells : cellsIn file ≡ cells
+    unfolding cellsIn valuesIn
+    are-cells = rw (b .is-body, read)
 
-        trails : refusal5 file ≡ ltb 0 (length file - end)
-        unfolding refusal5 isBroken bytesAfter
-        trails = rw (b .is-body, read, length-drop end file)
+    trails : refusal5 file ≡ ltb 0 (length file - end)
+    unfolding refusal5 isBroken bytesAfter
+    trails = rw (b .is-body, read, length-drop end file)
 
-        pub trailing : end < length file → fileRefusal file lent ≡ 5
-        trailing h = after-count ∙ stop _ _ (trails ∙ lt-ltb 0 (length file - end) (omega arith))
+    pub trailing : end < length file → bodyRefusal file ≡ 5
+    unfolding bodyRefusal
+    trailing h = stop _ _ (trails ∙ lt-ltb 0 (length file - end) (omega arith))
 
-        -- the table that was read is checked as any other
-        checked : length file ≤ end → length cells ≡ nodeCells * count → fileRefusal file lent ≡ refusal context count cells
-        checked h l =
-            let f = count-fits count lent fits in
-            after-count
-            ∙ skip _ _ (trails ∙ le-ltb 0 (length file - end) (omega arith))
-            ∙ rw are-cells (sym (nodes-refusal context count cells ok (fits-count count (length cells) (f .0) (f .1) (omega arith))))
+    -- the numbers that were read are checked as any others
+    pub checked : context ≤ 3 → 1 ≤ count → count ≤ mostNodes → length file ≤ end → bodyRefusal file ≡ refusal context count cells
+    unfolding bodyRefusal
+    checked ok low high h =
+        let l = numbers-length (nodeCells * count) (drop at file) cells (drop end file) read in
+        skip _ _ (trails ∙ le-ltb 0 (length file - end) (omega arith))
+        ∙ rw (are-cells, b .is-count) (sym (nodes-refusal context count cells ok (fits-count count (length cells) low high (omega arith))))
 
--- the answer once all the numbers are read and the table is checked
+pub short-file : (file : List ℕ) → refusal1 file ≡ false → length file ≤ mostFileBytes
+unfolding refusal1
+short-file file e = ltb-false mostFileBytes (length file) e
+
+-- what is known where the nodes are looked at
+pub to-body : (file : List ℕ) (lent context count at : ℕ) → Begun file context count at → at ≡ behindHeader file → context ≤ 3 → refusal4 count lent ≡ false → Counted file context count at
+to-body file lent context count at b s ok fits = let f = count-fits count lent fits in record { begun = b; is-start = s; ok = ok; low = f .0; high = f .1 }
+
+-- the cells of the file, where its nodes have been laid out
+pub laid-cells : (file : List ℕ) (context count at : ℕ) → Counted file context count at → (places : List ℕ) (x : Body) (end : ℕ) → x ≡ End end → LaidOut file at (count - 1) places x
+    → numbersOf (nodeCells * count) (drop at file) ≡ numbers (cellsOf file (take (count - 1) places)) (drop end file)
+laid-cells file context count at b places x end z h =
+    let low = b .low in
+    let n : suc (count - 1) ≡ count = omega arith in
+    let e = rw z at h in
+    let l = some-left (nodeCells * suc (count - 1)) at file _ _ (omega arith) e in
+    (rw n at e) ∙ rw (cells-file file (take (count - 1) places) (λ z. omega arith), ← b .is-start)
+
+-- the answer once all the numbers are read and checked
 module _ (file table : List ℕ) (context count at : ℕ) (b : Begun file context count at) (ok : context ≤ 3) (fits : refusal4 count (length table) ≡ false)
-    (cells : List ℕ) (end : ℕ) (read : numbersOf (nodeCells * count) (drop at file) ≡ numbers cells (drop end file)) (all : length file ≤ end) (long : length cells ≡ nodeCells * count) where
-  pub refused-nodes : (n : ℕ) → n ≡ refusal context count cells → (n ≡ 0 → ⊥) → (Refused n ≡ loaded file (length table)) × (table ≡ loadedTable file table)
-  refused-nodes n e h = refused file table n (checked file (length table) context count at b ok fits cells end read all long ∙ sym e) h
-
+    (cells : List ℕ) (end : ℕ) (read : numbersOf (nodeCells * count) (drop at file) ≡ numbers cells (drop end file)) (all : length file ≤ end) where
   pub accepted-nodes : 0 ≡ refusal context count cells → (Accepted context count ≡ loaded file (length table)) × (over cells table ≡ loadedTable file table)
   accepted-nodes e =
-      let a = accepted file table (checked file (length table) context count at b ok fits cells end read all long ∙ sym e) in
-      let c = are-cells file (length table) context count at b ok fits cells end read in
+      let f = count-fits count (length table) fits in
+      let a = accepted file table (after-count file (length table) context count at b ok fits ∙ checked file context count at b cells end read ok (f .0) (f .1) all ∙ sym e) in
+      let c = are-cells file context count at b cells end read in
       (rw (b .is-context, b .is-count) at (a .0), rw c at (a .1))
-
--- ---- the loader's own array
-
--- it has room for every count that is not refused
-pub own-room : (count lent room : ℕ) → refusal4 count lent ≡ false → room ≡ nodeCells * mostNodes → nodeCells * count ≤ room
-own-room count lent room e l = let f = count-fits count lent e in omega arith
 
 -- ---- accepted files
 
@@ -124,19 +140,71 @@ body-length file e = go (numbersOf (nodeCells * countIn file) (bytesAfter (heade
     go broken p q = true-not-false q
     go (numbers ns bytes) p q = numbers-length (nodeCells * countIn file) (bytesAfter (header file)) ns bytes p
 
--- its nodes are at most 4,096 and have six cells each, and they are an accepted table
-pub accepted-cells : (file : List ℕ) (lent : ℕ) → fileRefusal file lent ≡ 0 → (countIn file ≤ mostNodes) × (length (cellsIn file) ≡ nodeCells * countIn file) × Table (contextIn file) (countIn file) (cellsIn file)
-unfolding fileRefusal refusal3 refusal5
-accepted-cells file lent e =
+-- what is known of a file that is not refused
+pub record Passes (file : List ℕ) (lent : ℕ) : Type 0 where
+  pub short : length file ≤ mostFileBytes
+  pub headed : refusal2 file ≡ false
+  pub ok : contextIn file ≤ 3
+  pub fits : refusal4 (countIn file) lent ≡ false
+  pub formed : isBroken (body file) ≡ false
+  pub nodes : firstOf (nodeRefusals (countIn file) (cellsIn file)) ≡ 0
+
+pub passes : (file : List ℕ) (lent : ℕ) → fileRefusal file lent ≡ 0 → Passes file lent
+unfolding fileRefusal refusal1 refusal3 refusal5
+passes file lent e =
     let r1 = passed 1 _ _ (omega arith) e in
     let r2 = passed 2 _ _ (omega arith) (r1 .1) in
     let r3 = passed 3 _ _ (omega arith) (r2 .1) in
     let r4 = passed 4 _ _ (omega arith) (r3 .1) in
     let r5 = passed 5 _ _ (omega arith) (r4 .1) in
-    let f = count-fits (countIn file) lent (r4 .0) in
-    let l = body-length file (or-false (isBroken (body file)) _ (r5 .0) .0) in
-    let t = nodes-refusal (contextIn file) (countIn file) (cellsIn file) (ltb-false 3 (contextIn file) (r3 .0)) (fits-count _ _ (f .0) (f .1) (omega arith)) ∙ r5 .1 in
+    record {
+      short = ltb-false mostFileBytes (length file) (r1 .0);
+      headed = r2 .0;
+      ok = ltb-false 3 (contextIn file) (r3 .0);
+      fits = r4 .0;
+      formed = or-false (isBroken (body file)) _ (r5 .0) .0;
+      nodes = r5 .1;
+    }
+
+-- its nodes are at most 4,096 and have six cells each, and they are an accepted table
+pub accepted-cells : (file : List ℕ) (lent : ℕ) → fileRefusal file lent ≡ 0 → (countIn file ≤ mostNodes) × (length (cellsIn file) ≡ nodeCells * countIn file) × Table (contextIn file) (countIn file) (cellsIn file)
+accepted-cells file lent e =
+    let r = passes file lent e in
+    let f = count-fits (countIn file) lent (r .fits) in
+    let l = body-length file (r .formed) in
+    let t = nodes-refusal (contextIn file) (countIn file) (cellsIn file) (r .ok) (fits-count _ _ (f .0) (f .1) (omega arith)) ∙ r .nodes in
     (f .1, l, t)
 
 pub accepted-file : (file : List ℕ) (lent : ℕ) → fileRefusal file lent ≡ 0 → Table (contextIn file) (countIn file) (cellsIn file)
 accepted-file file lent e = accepted-cells file lent e .2
+
+-- what is stored of it, once its header is read again
+module _ (file : List ℕ) (lent : ℕ) (e : fileRefusal file lent ≡ 0) where
+  pub no-bad-header : header file ≡ broken → ⊥
+  unfolding refusal2 isBroken
+  no-bad-header h = true-not-false (sym (ap isBroken h) ∙ passes file lent e .headed)
+
+  module _ (context count at : ℕ) (h : header file ≡ numbers (context ∷ count ∷ []) (drop at file)) where
+    b : Begun file context count at
+    b = begun file context count at (passes file lent e .short) h
+
+    pub stored-room : nodeCells * count ≤ lent
+    stored-room = rw (b .is-count) at (count-fits (countIn file) lent (passes file lent e .fits) .2)
+
+    pub stored-formed : isBroken (numbersOf (nodeCells * count) (drop at file)) ≡ false
+    stored-formed = rw (b .is-body) at (passes file lent e .formed)
+
+pub stored : (file table : List ℕ) (context count at : ℕ) → fileRefusal file (length table) ≡ 0 → header file ≡ numbers (context ∷ count ∷ []) (drop at file)
+    → (Accepted context count ≡ loaded file (length table)) × (over (valuesIn (numbersOf (nodeCells * count) (drop at file))) table ≡ loadedTable file table)
+unfolding cellsIn
+stored file table context count at e h =
+    let r = accepted file table e in
+    let b = begun file context count at (passes file (length table) e .short) h in
+    (rw (b .is-context, b .is-count) at (r .0), rw (b .is-body) at (r .1))
+
+-- the table once all its cells are stored
+pub all-stored : (n : ℕ) (bytes r new old : List ℕ) → numbersOf n bytes ≡ numbers (take n new) r → drop n new ≡ drop n old → n ≤ length new → new ≡ over (valuesIn (numbersOf n bytes)) old
+unfolding over valuesIn
+all-stored n bytes r new old e d l =
+    let k = length-take-le n new l in
+    sym (take-append-drop n new) ∙ rw (e, k, d)

@@ -3,11 +3,15 @@ use file_numbers::Number;
 use file_numbers::number_at;
 use tree::sizes;
 ghost use mathlib.Core.Path.{_≡_};
-ghost use Prim.Native.Nat.{_≤_};
-ghost use lib.ListN.{length, take};
+ghost use mathlib.Core.Bool.{false};
+ghost use Prim.Native.Nat.{_+_, _≤_, _<_};
+ghost use lib.ListN.{length, drop};
 ghost use Rattle.laws.specs.Lists.{over};
-ghost use Rattle.file_loader.specs.Files.{loaded, loadedTable};
-ghost use Rattle.file_loader.specs.Reads.{HeaderRead, BodyRead, Begun};
+ghost use Rattle.tree.specs.Sizes.{nodeCells, mostFileBytes};
+ghost use Rattle.tree_source.specs.Source.{behindHeader};
+ghost use Rattle.file_loader.specs.Several.{numbersOf, isBroken, valuesIn};
+ghost use Rattle.file_loader.specs.Files.{fileRefusal, loaded, loadedTable};
+ghost use Rattle.file_loader.specs.Reads.{HeaderRead, Passed, LaidOut, Begun, Counted, bodyRefusal};
 
 // ---- several numbers
 
@@ -30,45 +34,142 @@ fn read_header(file: &[u8]) -> Header
     Header::Read(context, count, body)
 }
 
-// What the body holds.
+// What stands from a place of the body on.
 enum Body {
     Malformed,
     // The place after the last number.
     End(usize),
 }
 
-// So many numbers from a place on, into an array of the loader's own.
-fn read_body(file: &[u8], from: usize, cells: usize, own: &mut [u16]) -> Body
-    requires { ⌜ cells ≤ length (now own) ⌝ }
-    ensures { λ r. ⌜ BodyRead (now (file .entry)) from cells (now (own .exit)) r ⌝ }
-    ensures { λ r. ⌜ length (now (own .exit)) ≡ length (now (own .entry)) ⌝ }
+// The numbers of a node from a place on.
+fn after_node(file: &[u8], from: usize) -> Body
+    ensures { λ r. ⌜ Passed (now (file .entry)) from nodeCells r ⌝ }
 {
-    let mut at = from;
+    let Number::Value(_, attributes) = number_at(file, from) else {
+        return Body::Malformed;
+    };
+    let Number::Value(_, detail) = number_at(file, attributes) else {
+        return Body::Malformed;
+    };
+    let Number::Value(_, first) = number_at(file, detail) else {
+        return Body::Malformed;
+    };
+    let Number::Value(_, second) = number_at(file, first) else {
+        return Body::Malformed;
+    };
+    let Number::Value(_, symbol) = number_at(file, second) else {
+        return Body::Malformed;
+    };
+    let Number::Value(_, end) = number_at(file, symbol) else {
+        return Body::Malformed;
+    };
+    Body::End(end)
+}
+
+// The nodes from a place on, one and so many others: where the others begin.
+fn lay_out(file: &[u8], from: usize, others: usize, places: &mut [u16]) -> Body
+    requires { ⌜ (length (now file) ≤ mostFileBytes) × (others ≤ length (now places)) ⌝ }
+    ensures { λ r. ⌜ LaidOut (now (file .entry)) from others (now (places .exit)) r ⌝ }
+    ensures { λ r. ⌜ length (now (places .exit)) ≡ length (now (places .entry)) ⌝ }
+{
+    let Body::End(second) = after_node(file, from) else {
+        return Body::Malformed;
+    };
+    let mut at = second;
     let mut done = 0;
-    while done < cells {
-        let Number::Value(value, next) = number_at(file, at) else {
+    while done < others {
+        let Body::End(next) = after_node(file, at) else {
             return Body::Malformed;
         };
-        own[done] = value;
+        places[done] = at as u16;
         at = next;
         done += 1;
     }
     Body::End(at)
 }
 
-// The first cells of the loader's own array, over the start of the lent table.
-fn store(own: &[u16], cells: usize, table: &mut [u16])
-    requires { ⌜ (cells ≤ length (now own)) × (cells ≤ length (now table)) ⌝ }
-    ensures { λ _. ⌜ now (table .exit) ≡ over (take cells (now (own .entry))) (now (table .entry)) ⌝ }
+// So many numbers from a place on, over the start of the lent table.
+fn store(file: &[u8], from: usize, cells: usize, table: &mut [u16])
+    requires { ⌜ (cells ≤ length (now table)) × (isBroken (numbersOf cells (drop from (now file))) ≡ false) ⌝ }
+    ensures { λ _. ⌜ now (table .exit) ≡ over (valuesIn (numbersOf cells (drop from (now (file .entry))))) (now (table .entry)) ⌝ }
 {
+    let mut at = from;
     let mut done = 0;
     while done < cells {
-        table[done] = own[done];
+        let Number::Value(value, next) = number_at(file, at) else {
+            return;
+        };
+        table[done] = value;
+        at = next;
         done += 1;
     }
 }
 
 // ---- files
+
+// 5 to 11, with an array for the places of the nodes but the first.
+fn check_with(file: &[u8], context: u16, count: u16, at: usize, places: &mut [u16]) -> u16
+    requires { ⌜ Counted (now file) context count at × (count ≤ length (now places) + 1) ⌝ }
+    ensures { λ r. ⌜ r ≡ bodyRefusal (now (file .entry)) ⌝ }
+{
+    let others = (count - 1) as usize;
+    let Body::End(end) = lay_out(file, at, others, places) else {
+        return 5;
+    };
+    if end < file.len() {
+        return 5;
+    }
+    tree_one_pass::check_source(context, count, file, &places[..others])
+}
+
+// The same for fewer than 64 nodes, with an array that is quickly made.
+fn check_small(file: &[u8], context: u16, count: u16, at: usize) -> u16
+    requires { ⌜ Counted (now file) context count at × (count < 64) ⌝ }
+    ensures { λ r. ⌜ r ≡ bodyRefusal (now (file .entry)) ⌝ }
+{
+    let mut places = [0u16; 62];
+    check_with(file, context, count, at, &mut places)
+}
+
+// The same for up to 4,096 nodes.
+fn check_large(file: &[u8], context: u16, count: u16, at: usize) -> u16
+    requires { ⌜ Counted (now file) context count at ⌝ }
+    ensures { λ r. ⌜ r ≡ bodyRefusal (now (file .entry)) ⌝ }
+{
+    let mut places = [0u16; sizes::MOST_NODES as usize - 1];
+    check_with(file, context, count, at, &mut places)
+}
+
+// 3 to 11, once the header is read.
+fn check_nodes(file: &[u8], lent: usize, context: u16, count: u16, at: usize) -> u16
+    requires { ⌜ Begun (now file) context count at × (at ≡ behindHeader (now file)) ⌝ }
+    ensures { λ r. ⌜ r ≡ fileRefusal (now (file .entry)) lent ⌝ }
+{
+    if context > 3 {
+        return 3;
+    }
+    if tree_rules::refusal::is_bad_count(count, lent) {
+        return 4;
+    }
+    if count < 64 {
+        return check_small(file, context, count, at);
+    }
+    check_large(file, context, count, at)
+}
+
+// The number of the first refusal that applies to a tree file and a lent table of so many cells, or 0. The file is read
+// twice: for its form and the places of its nodes, and for the rules.
+pub fn check(file: &[u8], lent: usize) -> u16
+    ensures { λ r. ⌜ r ≡ fileRefusal (now (file .entry)) lent ⌝ }
+{
+    if file.len() > sizes::MOST_FILE_BYTES {
+        return 1;
+    }
+    let Header::Read(context, count, at) = read_header(file) else {
+        return 2;
+    };
+    check_nodes(file, lent, context, count, at)
+}
 
 // What loading answers.
 pub enum Loaded {
@@ -78,44 +179,19 @@ pub enum Loaded {
     Accepted(u16, u16),
 }
 
-// 3 to 11, once the header is read. Nothing is stored before all checks are done.
-fn load_nodes(file: &[u8], context: u16, count: u16, at: usize, table: &mut [u16]) -> Loaded
-    requires { ⌜ Begun (now file) context count at ⌝ }
-    ensures { λ r. ⌜ r ≡ loaded (now (file .entry)) (length (now (table .entry))) ⌝ }
-    ensures { λ r. ⌜ now (table .exit) ≡ loadedTable (now (file .entry)) (now (table .entry)) ⌝ }
-{
-    if context > 3 {
-        return Loaded::Refused(3);
-    }
-    if tree_rules::refusal::is_bad_count(count, table.len()) {
-        return Loaded::Refused(4);
-    }
-    let cells = sizes::NODE_CELLS * (count as usize);
-    let mut own = [0u16; sizes::NODE_CELLS * (sizes::MOST_NODES as usize)];
-    let Body::End(end) = read_body(file, at, cells, &mut own) else {
-        return Loaded::Refused(5);
-    };
-    if end < file.len() {
-        return Loaded::Refused(5);
-    }
-    let refused = tree_one_pass::check(context, count, &own[..cells]);
-    if refused != 0 {
-        return Loaded::Refused(refused);
-    }
-    store(&own, cells, table);
-    Loaded::Accepted(context, count)
-}
-
-// A tree file into a lent table: the context and the count, or the first refusal that applies.
+// A tree file into a lent table: the context and the count, or the first refusal that applies. Nothing is stored before all
+// checks are done; then the file is read once more.
 pub fn load(file: &[u8], table: &mut [u16]) -> Loaded
     ensures reply { λ r. ⌜ r ≡ loaded (now (file .entry)) (length (now (table .entry))) ⌝ }
     ensures table { λ r. ⌜ now (table .exit) ≡ loadedTable (now (file .entry)) (now (table .entry)) ⌝ }
 {
-    if file.len() > sizes::MOST_FILE_BYTES {
-        return Loaded::Refused(1);
+    let refused = check(file, table.len());
+    if refused != 0 {
+        return Loaded::Refused(refused);
     }
     let Header::Read(context, count, at) = read_header(file) else {
         return Loaded::Refused(2);
     };
-    load_nodes(file, context, count, at, table)
+    store(file, at, sizes::NODE_CELLS * (count as usize), table);
+    Loaded::Accepted(context, count)
 }

@@ -1,24 +1,19 @@
 -- What the checks of a file say of its header and its nodes. Assumes nothing.
 use mathlib.Core.Path.{_≡_, refl, sym, _∙_}
-use mathlib.Core.Bool.{Bool, true, false}
 use mathlib.Core.List.{List, [], _∷_}
 use Prim.Native.Nat.{ℕ, _*_, _≤_, _<_}
 use native.Mathlib.Omega.{arith}
-use lib.Dec.{eqb, ltb}
-use lib.ListN.{length}
-use borrow.Author.Tests.{eq-eqb, ne-eqb, ltb-false, lt-ltb, le-ltb}
-use Rattle.tree.specs.Sizes.{nodeCells, mostFileBytes}
+use lib.Dec.{ltb}
+use borrow.Author.Tests.{eq-eqb, ne-eqb, lt-ltb, le-ltb}
+use Rattle.tree.specs.Sizes.{nodeCells}
 use Rattle.laws.specs.Choice.{pick}
-use Rattle.laws.proofs.Choice.{pick-true, pick-false, or-false}
-use Rattle.tree_rules.proofs.First.{passed}
+use Rattle.laws.proofs.Choice.{pick-true, pick-false}
 use Rattle.file_numbers.specs.declared.Number.the-variants.{Malformed, Value}
 use Rattle.file_numbers.specs.Standing.{standsAt}
-use Rattle.file_loader.specs.declared.Loaded.the-variants.{Refused as Refuses, Accepted}
-use Rattle.file_loader.specs.Several.{numbers, numbersOf, isBroken, valuesIn}
-use Rattle.file_loader.specs.Files.{header, body, cellsIn, refusal1, refusal2, refusal5, fileRefusal, loaded}
+use Rattle.file_loader.specs.Several.{numbers, numbersOf, valuesIn}
+use Rattle.file_loader.specs.Files.{header, cellsIn, refusal2}
 use Rattle.file_loader.proofs.Several.{numbers-next}
-use Rattle.file_loader.proofs.Files.{begun}
-use Rattle.file_loader.proofs.Loading.{are-header}
+use Rattle.file_loader.proofs.Files.{begun, Passes, passes}
 use Rattle.file_order.specs.declared.Order.{Order}
 use Rattle.file_order.specs.declared.Order.the-variants.{Before, After}
 use Rattle.file_order.specs.declared.Compared.the-variants.{Refused, Ordered}
@@ -27,41 +22,16 @@ use Rattle.file_order.specs.Orders.{mostCells, keyOf, inOrder, checksOf,
 use Rattle.file_order.specs.Heads.{run, HeadOf}
 use Rattle.file_order.proofs.Runs.{Formed, not-bad, run-next}
 
--- ---- the loader's answer
-
-pub refusal-is : (file : List ℕ) (n : ℕ) → Refuses n ≡ loaded file mostCells → n ≡ checksOf file
-unfolding loaded checksOf
-refusal-is file n e = go (eqb (fileRefusal file mostCells) 0) refl
-  where
-    go : (b : Bool) → eqb (fileRefusal file mostCells) 0 ≡ b → n ≡ fileRefusal file mostCells
-    go true p = absurd (let q = e ∙ pick-true _ _ p in let z : _≡_ {A = ℕ} 0 1 = cc in omega arith)
-    go false p = let q = e ∙ pick-false _ _ p in cc
-
-pub nothing-refused : (file : List ℕ) (context count : ℕ) → Accepted context count ≡ loaded file mostCells → 0 ≡ checksOf file
-unfolding checksOf
-nothing-refused file context count e = sym (are-header file mostCells context count e .0)
-
 -- ---- a file that is accepted
 
 module _ (file : List ℕ) (ok : checksOf file ≡ 0) where
-  record Passes : Type 0 where
-    short : length file ≤ mostFileBytes
-    headed : Formed (header file)
-    formed : Formed (body file)
-
-  passes : Passes
-  unfolding checksOf fileRefusal refusal1 refusal2 refusal5
-  passes =
-      let r1 = passed 1 _ _ (omega arith) ok in
-      let r2 = passed 2 _ _ (omega arith) (r1 .1) in
-      let r3 = passed 3 _ _ (omega arith) (r2 .1) in
-      let r4 = passed 4 _ _ (omega arith) (r3 .1) in
-      let r5 = passed 5 _ _ (omega arith) (r4 .1) in
-      record { short = ltb-false mostFileBytes (length file) (r1 .0); headed = r2 .0; formed = or-false (isBroken (body file)) _ (r5 .0) .0 }
+  fine : Passes file mostCells
+  unfolding checksOf
+  fine = passes file mostCells ok
 
   is-run : Formed (run file 0 2)
-  unfolding header
-  is-run = passes .headed
+  unfolding header refusal2
+  is-run = fine .headed
 
   pub first-not-bad : {A : Type 0} → Malformed ≡ standsAt file 0 → A
   first-not-bad e = not-bad file 0 1 is-run e
@@ -75,12 +45,12 @@ module _ (file : List ℕ) (ok : checksOf file ≡ 0) where
     head-by count nodes q =
         let one = numbers-next 0 file [] file 0 context second refl p in
         let two = numbers-next 1 file (context ∷ []) file second count nodes one q in
-        let b = begun file context count nodes (passes .short) two in
+        let b = begun file context count nodes (fine .short) two in
         record { is-context = sym (b .is-context); is-count = sym (b .is-count); is-body = b .is-body }
 
   -- the nodes' numbers, from their place on
   pub nodes-formed : (h : Head) → HeadOf file h → Formed (run file (h .nodes) (nodeCells * h .count))
-  nodes-formed h e = rw (e .is-body) at (passes .formed)
+  nodes-formed h e = rw (e .is-body) at (fine .formed)
 
   pub nodes-are : (h : Head) → HeadOf file h → cellsIn file ≡ valuesIn (run file (h .nodes) (nodeCells * h .count))
   unfolding cellsIn

@@ -1,6 +1,4 @@
 // An order on tree files: contexts, then nodes in turn, number by number; a file that ends earlier comes first.
-use file_loader::Loaded;
-use file_loader::load;
 use file_numbers::Number;
 use file_numbers::number_at;
 use tree::sizes;
@@ -27,16 +25,11 @@ pub enum Compared {
 
 // ---- one file
 
-// The number of the first refusal that applies to a file, or 0: the loader's checks, with a table of our own.
+// The number of the first refusal that applies to a file, or 0: the loader's checks, for a table that all counts fit.
 fn check(file: &[u8]) -> u16
     ensures { λ r. ⌜ r ≡ checksOf (now (file .entry)) ⌝ }
 {
-    let mut own = [0u16; sizes::NODE_CELLS * (sizes::MOST_NODES as usize)];
-    let answer = load(file, &mut own);
-    let Loaded::Refused(refusal) = answer else {
-        return 0;
-    };
-    refusal
+    file_loader::check(file, sizes::NODE_CELLS * (sizes::MOST_NODES as usize))
 }
 
 // The header of a file, and the place of its nodes.

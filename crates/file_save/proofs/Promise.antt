@@ -125,11 +125,10 @@ module _ (context count : ℕ) (cells : List ℕ) (ok : Accepted context count c
         let end = length (fileOf context count cells) in
         let rest : drop at (fileOf context count cells) ≡ allBytes (numbered tree) = rw parts (drop-at (allBytes head) (allBytes (numbered tree)) at refl) in
         let none : drop end (fileOf context count cells) ≡ [] = drop-length (fileOf context count cells) in
-        let l : length (numbered tree) ≡ nodeCells * count = length-numbered tree ∙ ap (λ (n : ℕ). nodeCells * n) is-size in
         let a = accepted-nodes (fileOf context count cells) table context count at (begun (fileOf context count cells) context count at short-enough (header-read ∙ rw rest))
         (context-most context count cells ok)
         (fits-count count (length table) (k .0) (k .1) room)
-        (numbered tree) end (rw (rest, none) body-read) (omega arith) l (sym (rw append-nil at (numbered-ok []))) in
+        (numbered tree) end (rw (rest, none) body-read) (omega arith) (sym (rw append-nil at (numbered-ok []))) in
         (sym (a .0), sym (a .1))
 
     pub saved-again : (buffer : List ℕ)
