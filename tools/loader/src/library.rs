@@ -1,0 +1,3 @@
+//! The library's side.
+
+pub use tezhukor::boundary::{compare, load};
