@@ -18,8 +18,8 @@ module _ (cells : List ℕ) (count : ℕ) where
   none-levels j e = rw e
 
   -- before the first node an array of zeros holds them: there are no trees but at 1 to the count
-  pub levelled-none : Levelled cells count count (replicate (mostNodes + 1) 0)
-  levelled-none = record { size = length-replicate {A = ℕ} (mostNodes + 1) 0; at = λ j h k. getD-replicate (mostNodes + 1) j 0 0 (omega arith) ∙ each j k }
+  pub levelled-none : (n : ℕ) → count < n → Levelled cells count count (replicate n 0)
+  levelled-none n s = let l = length-replicate {A = ℕ} n 0 in record { size = omega arith; at = λ j h k. getD-replicate n j 0 0 (omega arith) ∙ each j k }
     where
       each : (j : ℕ) → (1 ≤ j → count < j) → 0 ≡ levels (treeAt cells count j)
       each zero k = none-levels 0 (tree-zero cells count)
@@ -39,7 +39,7 @@ module _ (cells : List ℕ) (count : ℕ) where
     operand-levels : (o : ℕ) → getD xs (operandOf count n o) 0 ≡ levels (treeAt cells count (operandOf count n o))
     operand-levels o =
         let m = operand-most count n o in
-        l .at (operandOf count n o) (omega arith) (λ p. operand-range count n o p .0)
+        l .at (operandOf count n o) (operand-cell o) (λ p. operand-range count n o p .0)
 
     module _ (low : 1 ≤ n) (high : n ≤ count) where
       -- the levels of a node, from the cells of its operands
@@ -50,12 +50,12 @@ module _ (cells : List ℕ) (count : ℕ) where
       levels-fit = let m = levels-most cells count n in rw levels-from (omega arith)
 
   -- one node more, downwards
-  pub levelled-more : (n : ℕ) (xs : List ℕ) (v : ℕ) → Levelled cells count n xs → 1 ≤ n → n ≤ mostNodes → v ≡ levels (treeAt cells count n) → Levelled cells count (n - 1) (set xs n v)
-  levelled-more n xs v l p q e = record { size = length-set xs n v ∙ l .size; at = each }
+  pub levelled-more : (n : ℕ) (xs : List ℕ) (v : ℕ) → Levelled cells count n xs → 1 ≤ n → n ≤ count → v ≡ levels (treeAt cells count n) → Levelled cells count (n - 1) (set xs n v)
+  levelled-more n xs v l p q e = let z = length-set xs n v in let s = l .size in record { size = omega arith; at = each }
     where
-      each : (j : ℕ) → j ≤ mostNodes → (1 ≤ j → n - 1 < j) → getD (set xs n v) j 0 ≡ levels (treeAt cells count j)
+      each : (j : ℕ) → j < length (set xs n v) → (1 ≤ j → n - 1 < j) → getD (set xs n v) j 0 ≡ levels (treeAt cells count j)
       each j h k = go (ℕ-discrete j n)
         where
           go : Dec (j ≡ n) → getD (set xs n v) j 0 ≡ levels (treeAt cells count j)
           go (yes s) = let z = l .size in rw s (getD-set-same xs n v 0 (omega arith) ∙ e)
-          go (no s) = getD-set-other xs n j v 0 s ∙ l .at j h (λ r. let t = k r in omega arith)
+          go (no s) = let z = length-set xs n v in getD-set-other xs n j v 0 s ∙ l .at j (omega arith) (λ r. let t = k r in omega arith)

@@ -12,18 +12,16 @@ use tree_source::form_at;
 use tree_source::is_short;
 use tree_source::node_at;
 ghost use mathlib.Core.Path.{_≡_};
-ghost use mathlib.Core.Bool.{not, _&&_, _||_};
-ghost use mathlib.Core.List.{[], _∷_};
+ghost use mathlib.Core.Bool.{false, not, _&&_, _||_};
 ghost use Prim.Native.Nat.{_+_, _≤_, _<_};
 ghost use lib.Dec.{eqb, ltb};
 ghost use lib.ListN.{length, getD};
 ghost use Rattle.laws.specs.Each.{some};
-ghost use Rattle.laws.specs.Choice.{isOneOf};
 ghost use Rattle.tree.specs.Sizes.{mostNodes};
-ghost use Rattle.tree.specs.Forms.{ExprBlock, TypeImplTrait, TypePath, TypeTraitObject, allowed};
+ghost use Rattle.tree.specs.Forms.{ExprBlock, allowed};
 ghost use Rattle.tree.specs.Trees.{treeAt, levels};
 ghost use Rattle.tree_source.specs.Source.{cellsOf};
-ghost use Rattle.tree_rules.specs.Refusals.{refusal4, refusal7, misplaced, badOwner, refusal8, badOutput, refusal11, firstOf, nodeRefusals, refusal};
+ghost use Rattle.tree_rules.specs.Refusals.{refusal4, refusal7, misplaced, badOrder, refusal8, empty, badOutput, refusal11, firstOf, nodeRefusals, refusal};
 ghost use Rattle.tree_rules.specs.Passes.{breaks, counted, Counted, Levelled};
 
 // Whether a count is 0 or above 4,096.
@@ -64,8 +62,6 @@ enum Rule {
     Numbers,
     // 7: an operand that does not fit its place.
     Operands,
-    // 8: an operand that is not after its owner, or past the count.
-    Order,
     // 9: a path without a segment, or bounds without a bound.
     Empty,
     // 10: a closure with an output and without a plain block.
@@ -91,21 +87,23 @@ fn is_misplaced(count: u16, node: u16, operand: u16) -> bool
     operand > count
 }
 
-fn has_bad_order(numbers: Node, count: u16, node: u16) -> bool
-    ensures { λ r. ⌜ r ≡ (misplaced count node (numbers .first) || misplaced count node (numbers .second)) ⌝ }
+fn has_bad_order(count: u16, node: u16, first: u16, second: u16) -> bool
+    ensures { λ r. ⌜ r ≡ (misplaced count node first || misplaced count node second) ⌝ }
 {
-    if is_misplaced(count, node, numbers.first) {
+    if is_misplaced(count, node, first) {
         return true;
     }
-    is_misplaced(count, node, numbers.second)
+    is_misplaced(count, node, second)
 }
 
-fn is_empty(node: Node) -> bool
-    ensures { λ r. ⌜ r ≡ (isOneOf (TypeImplTrait ∷ TypePath ∷ TypeTraitObject ∷ []) (node .form) && eqb (node .detail) 0) ⌝ }
+fn is_empty(file: &[u8], held: &[u16], node: u16) -> bool
+    ensures { λ r. ⌜ r ≡ empty (cellsOf (now (file .entry)) (now (held .entry))) node ⌝ }
 {
-    let form = node.form;
-    match form {
-        forms::TYPE_IMPL_TRAIT | forms::TYPE_PATH | forms::TYPE_TRAIT_OBJECT => node.detail == 0,
+    match form_at(file, held, node) {
+        forms::TYPE_IMPL_TRAIT | forms::TYPE_PATH | forms::TYPE_TRAIT_OBJECT => {
+            let numbers = node_at(file, held, node);
+            numbers.detail == 0
+        }
         _ => false,
     }
 }
@@ -126,10 +124,10 @@ fn is_plain_block(node: Node) -> bool
 pub fn has_bad_output(file: &[u8], held: &[u16], node: u16) -> bool
     ensures { λ r. ⌜ r ≡ badOutput (cellsOf (now (file .entry)) (now (held .entry))) node ⌝ }
 {
-    let numbers = node_at(file, held, node);
-    if numbers.form != forms::EXPR_CLOSURE {
+    if form_at(file, held, node) != forms::EXPR_CLOSURE {
         return false;
     }
+    let numbers = node_at(file, held, node);
     if numbers.detail != 1 {
         return false;
     }
@@ -143,8 +141,7 @@ fn breaks(rule: Rule, file: &[u8], held: &[u16], count: u16, node: u16) -> bool
     match rule {
         Rule::Numbers => has_bad_numbers(node_at(file, held, node)),
         Rule::Operands => has_bad_operands(file, held, count, node),
-        Rule::Order => has_bad_order(node_at(file, held, node), count, node),
-        Rule::Empty => is_empty(node_at(file, held, node)),
+        Rule::Empty => is_empty(file, held, node),
         Rule::Output => has_bad_output(file, held, node),
     }
 }
@@ -176,32 +173,38 @@ fn has_wrong_operands(file: &[u8], held: &[u16], count: u16) -> bool
 
 // One more owner for an operand.
 fn count_owner(owners: &mut [u16], operand: u16)
-    requires { ⌜ (length (now owners) ≡ mostNodes + 1) × (getD (now owners) operand 0 < 65535) ⌝ }
+    requires { ⌜ getD (now owners) operand 0 < 65535 ⌝ }
     ensures { λ _. ⌜ now (owners .exit) ≡ counted (now (owners .entry)) operand ⌝ }
 {
-    if operand <= sizes::MOST_NODES {
-        let at = operand as usize;
+    let at = operand as usize;
+    if at < owners.len() {
         owners[at] = owners[at] + 1;
     }
 }
 
-// How many owners each node has.
-fn count_owners(file: &[u8], held: &[u16], count: u16, owners: &mut [u16])
+// Whether an operand is misplaced, and if none is, how many owners each node has.
+fn count_owners(file: &[u8], held: &[u16], count: u16, owners: &mut [u16]) -> bool
     requires { ⌜ (count ≤ mostNodes) × Counted (cellsOf (now file) (now held)) 0 (now owners) ⌝ }
-    ensures { λ _. ⌜ Counted (cellsOf (now (file .entry)) (now (held .entry))) count (now (owners .exit)) ⌝ }
+    ensures { λ r. ⌜ r ≡ some (badOrder (cellsOf (now (file .entry)) (now (held .entry))) count) count ⌝ }
+    ensures { λ r. ⌜ (r ≡ false → Counted (cellsOf (now (file .entry)) (now (held .entry))) count (now (owners .exit))) ⌝ }
+    ensures { λ r. ⌜ length (now (owners .exit)) ≡ length (now (owners .entry)) ⌝ }
 {
     let mut done: u16 = 0;
     while done < count {
         let node = node_at(file, held, done + 1);
+        if has_bad_order(count, done + 1, node.first, node.second) {
+            return true;
+        }
         count_owner(owners, node.first);
         count_owner(owners, node.second);
         done += 1;
     }
+    false
 }
 
 // Whether a node but 1 is not owned exactly once.
 fn is_badly_owned(owners: &[u16], node: u16) -> bool
-    requires { ⌜ (length (now owners) ≡ mostNodes + 1) × (node ≤ mostNodes) ⌝ }
+    requires { ⌜ node < length (now owners) ⌝ }
     ensures { λ r. ⌜ r ≡ (not (eqb node 1) && not (eqb (getD (now (owners .entry)) node 0) 1)) ⌝ }
 {
     if node == 1 {
@@ -211,16 +214,17 @@ fn is_badly_owned(owners: &[u16], node: u16) -> bool
     owners[at] != 1
 }
 
-// Whether some node but 1 is not owned exactly once.
-fn has_bad_owner(file: &[u8], held: &[u16], count: u16) -> bool
-    requires { ⌜ count ≤ mostNodes ⌝ }
-    ensures { λ r. ⌜ r ≡ some (badOwner (cellsOf (now (file .entry)) (now (held .entry))) count) count ⌝ }
+// 8, with an array of zeros.
+fn has_wrong_owners(file: &[u8], held: &[u16], count: u16, owners: &mut [u16]) -> bool
+    requires { ⌜ (count ≤ mostNodes) × (count < length (now owners)) × Counted (cellsOf (now file) (now held)) 0 (now owners) ⌝ }
+    ensures { λ r. ⌜ r ≡ refusal8 (cellsOf (now (file .entry)) (now (held .entry))) count ⌝ }
 {
-    let mut owners = [0u16; sizes::MOST_NODES as usize + 1];
-    count_owners(file, held, count, &mut owners);
+    if count_owners(file, held, count, owners) {
+        return true;
+    }
     let mut done: u16 = 0;
     while done < count {
-        if is_badly_owned(&owners, done + 1) {
+        if is_badly_owned(owners, done + 1) {
             return true;
         }
         done += 1;
@@ -228,14 +232,33 @@ fn has_bad_owner(file: &[u8], held: &[u16], count: u16) -> bool
     false
 }
 
-fn has_wrong_owners(file: &[u8], held: &[u16], count: u16) -> bool
+// The same for fewer than 64 nodes, with an array that is quickly made.
+fn has_few_wrong_owners(file: &[u8], held: &[u16], count: u16) -> bool
+    requires { ⌜ count < 64 ⌝ }
+    ensures { λ r. ⌜ r ≡ refusal8 (cellsOf (now (file .entry)) (now (held .entry))) count ⌝ }
+{
+    let mut owners = [0u16; 64];
+    has_wrong_owners(file, held, count, &mut owners)
+}
+
+// The same for up to 4,096 nodes.
+fn has_many_wrong_owners(file: &[u8], held: &[u16], count: u16) -> bool
     requires { ⌜ count ≤ mostNodes ⌝ }
     ensures { λ r. ⌜ r ≡ refusal8 (cellsOf (now (file .entry)) (now (held .entry))) count ⌝ }
 {
-    if some_breaks(Rule::Order, file, held, count) {
-        return true;
+    let mut owners = [0u16; sizes::MOST_NODES as usize + 1];
+    has_wrong_owners(file, held, count, &mut owners)
+}
+
+// The same, with an array as long as it takes.
+fn is_owned_wrongly(file: &[u8], held: &[u16], count: u16) -> bool
+    requires { ⌜ count ≤ mostNodes ⌝ }
+    ensures { λ r. ⌜ r ≡ refusal8 (cellsOf (now (file .entry)) (now (held .entry))) count ⌝ }
+{
+    if count < 64 {
+        return has_few_wrong_owners(file, held, count);
     }
-    has_bad_owner(file, held, count)
+    has_many_wrong_owners(file, held, count)
 }
 
 // ---- 11
@@ -252,25 +275,53 @@ fn levels_at(file: &[u8], held: &[u16], count: u16, node: u16, below: &[u16]) ->
 }
 
 // Whether a path from node 1 holds more than 128 nodes: from the last node to the first, as operands come after their owners.
-fn is_too_deep(file: &[u8], held: &[u16], count: u16) -> bool
-    requires { ⌜ count ≤ mostNodes ⌝ }
+fn is_too_deep(file: &[u8], held: &[u16], count: u16, below: &mut [u16]) -> bool
+    requires { ⌜ (1 ≤ count) × (count ≤ mostNodes) × Levelled (cellsOf (now file) (now held)) count count (now below) ⌝ }
     ensures { λ r. ⌜ r ≡ refusal11 (cellsOf (now (file .entry)) (now (held .entry))) count ⌝ }
 {
-    let mut below = [0u16; sizes::MOST_NODES as usize + 1];
     let mut node = count;
     while 0 < node {
         let at = node as usize;
-        below[at] = levels_at(file, held, count, node, &below);
+        below[at] = levels_at(file, held, count, node, below);
         node -= 1;
     }
     below[1] > sizes::MOST_LEVELS
+}
+
+// The same for fewer than 64 nodes, with an array that is quickly made.
+fn are_few_too_deep(file: &[u8], held: &[u16], count: u16) -> bool
+    requires { ⌜ (1 ≤ count) × (count < 64) ⌝ }
+    ensures { λ r. ⌜ r ≡ refusal11 (cellsOf (now (file .entry)) (now (held .entry))) count ⌝ }
+{
+    let mut below = [0u16; 64];
+    is_too_deep(file, held, count, &mut below)
+}
+
+// The same for up to 4,096 nodes.
+fn are_many_too_deep(file: &[u8], held: &[u16], count: u16) -> bool
+    requires { ⌜ (1 ≤ count) × (count ≤ mostNodes) ⌝ }
+    ensures { λ r. ⌜ r ≡ refusal11 (cellsOf (now (file .entry)) (now (held .entry))) count ⌝ }
+{
+    let mut below = [0u16; sizes::MOST_NODES as usize + 1];
+    is_too_deep(file, held, count, &mut below)
+}
+
+// The same, with an array as long as it takes.
+fn are_too_deep(file: &[u8], held: &[u16], count: u16) -> bool
+    requires { ⌜ (1 ≤ count) × (count ≤ mostNodes) ⌝ }
+    ensures { λ r. ⌜ r ≡ refusal11 (cellsOf (now (file .entry)) (now (held .entry))) count ⌝ }
+{
+    if count < 64 {
+        return are_few_too_deep(file, held, count);
+    }
+    are_many_too_deep(file, held, count)
 }
 
 // ---- the first that applies
 
 // The first of 6 to 11 that applies, or 0: each refusal by a pass of its own.
 fn find_refusal(file: &[u8], held: &[u16], count: u16) -> u16
-    requires { ⌜ count ≤ mostNodes ⌝ }
+    requires { ⌜ (1 ≤ count) × (count ≤ mostNodes) ⌝ }
     ensures { λ r. ⌜ r ≡ firstOf (nodeRefusals count (cellsOf (now (file .entry)) (now (held .entry)))) ⌝ }
 {
     if some_breaks(Rule::Numbers, file, held, count) {
@@ -279,7 +330,7 @@ fn find_refusal(file: &[u8], held: &[u16], count: u16) -> u16
     if has_wrong_operands(file, held, count) {
         return 7;
     }
-    if has_wrong_owners(file, held, count) {
+    if is_owned_wrongly(file, held, count) {
         return 8;
     }
     if some_breaks(Rule::Empty, file, held, count) {
@@ -288,7 +339,7 @@ fn find_refusal(file: &[u8], held: &[u16], count: u16) -> u16
     if some_breaks(Rule::Output, file, held, count) {
         return 10;
     }
-    if is_too_deep(file, held, count) {
+    if are_too_deep(file, held, count) {
         11
     } else {
         0

@@ -13,5 +13,5 @@ unfolding refusal refusal3
 check-spec =
     tie.close (tie.spec (λ c. sym (stop _ _ (lt-ltb _ _ (c .if1 .taken)))) free
     (λ c. sym (skip _ _ (le-ltb _ _ (c .before .before .if1 .left)) ∙ stop _ _ (sym (c .before .has-bad-count .ensures) ∙ c .if2 .taken)))
-    (λ c κs. count-fits _ _ (sym (c .before .has-bad-count .ensures) ∙ c .if2 .left) .1)
+    (λ c κs. let f = count-fits _ _ (sym (c .before .has-bad-count .ensures) ∙ c .if2 .left) in (f .0, f .1))
     (λ c. c .find-refusal .ensures ∙ sym (skip _ _ (le-ltb _ _ (c .before .before .before .if1 .left)) ∙ skip _ _ (sym (c .before .before .has-bad-count .ensures) ∙ c .before .if2 .left))))

@@ -1,5 +1,5 @@
 -- `tree_rules::refusal::count_owner` meets its contract. Assumes nothing.
-use borrow.Author.Tests.{le-leb, lt-leb}
+use borrow.Author.Tests.{lt-ltb, le-ltb}
 use Rattle.laws.specs.Choice.{pick}
 use Rattle.tree_rules.specs.Passes.{counted}
 use borrow.Author.Needs.{needs}
@@ -10,5 +10,5 @@ pub count-owner-spec : {M : Type 1} → statement M
 unfolding counted pick
 count-owner-spec =
     tie.close (tie.spec (λ c. search needs) (λ c. search needs) (λ c. search needs) (λ c. search needs)
-    (λ c. search needs) (λ c. search needs) (λ c. rw (le-leb _ _ (c .before .if1 .taken)))
-    (λ c. rw (lt-leb _ _ (c .if1 .left))))
+    (λ c. search needs) (λ c. search needs) (λ c. rw (lt-ltb _ _ (c .before .if1 .taken)))
+    (λ c. rw (le-ltb _ _ (c .if1 .left))))

@@ -27,7 +27,7 @@ returns-3 c =
     sym
     (skip _ _ (sym (c .before .before .before .before .before .some-breaks .ensures) ∙ c .before .before .before .before .if1 .left)
     ∙ skip _ _ (sym (c .before .before .before .has-wrong-operands .ensures) ∙ c .before .before .if2 .left)
-    ∙ stop _ _ (sym (c .before .has-wrong-owners .ensures) ∙ c .if3 .taken))
+    ∙ stop _ _ (sym (c .before .is-owned-wrongly .ensures) ∙ c .if3 .taken))
 
 returns-4 : tie.Need-returns-4
 unfolding nodeRefusals refusal6 refusal9 refusal10 breaks
@@ -35,7 +35,7 @@ returns-4 c =
     sym
     (skip _ _ (sym (c .before .before .before .before .before .before .before .some-breaks .ensures) ∙ c .before .before .before .before .before .before .if1 .left)
     ∙ skip _ _ (sym (c .before .before .before .before .before .has-wrong-operands .ensures) ∙ c .before .before .before .before .if2 .left)
-    ∙ skip _ _ (sym (c .before .before .before .has-wrong-owners .ensures) ∙ c .before .before .if3 .left)
+    ∙ skip _ _ (sym (c .before .before .before .is-owned-wrongly .ensures) ∙ c .before .before .if3 .left)
     ∙ stop _ _ (sym (c .before .some-breaks2 .ensures) ∙ c .if4 .taken))
 
 returns-5 : tie.Need-returns-5
@@ -44,7 +44,7 @@ returns-5 c =
     sym
     (skip _ _ (sym (c .before .before .before .before .before .before .before .before .before .some-breaks .ensures) ∙ c .before .before .before .before .before .before .before .before .if1 .left)
     ∙ skip _ _ (sym (c .before .before .before .before .before .before .before .has-wrong-operands .ensures) ∙ c .before .before .before .before .before .before .if2 .left)
-    ∙ skip _ _ (sym (c .before .before .before .before .before .has-wrong-owners .ensures) ∙ c .before .before .before .before .if3 .left)
+    ∙ skip _ _ (sym (c .before .before .before .before .before .is-owned-wrongly .ensures) ∙ c .before .before .before .before .if3 .left)
     ∙ skip _ _ (sym (c .before .before .before .some-breaks2 .ensures) ∙ c .before .before .if4 .left)
     ∙ stop _ _ (sym (c .before .some-breaks3 .ensures) ∙ c .if5 .taken))
 
@@ -54,10 +54,10 @@ returns-6 c =
     sym
     (skip _ _ (sym (c .before .before .before .before .before .before .before .before .before .before .before .some-breaks .ensures) ∙ c .before .before .before .before .before .before .before .before .before .before .if1 .left)
     ∙ skip _ _ (sym (c .before .before .before .before .before .before .before .before .before .has-wrong-operands .ensures) ∙ c .before .before .before .before .before .before .before .before .if2 .left)
-    ∙ skip _ _ (sym (c .before .before .before .before .before .before .before .has-wrong-owners .ensures) ∙ c .before .before .before .before .before .before .if3 .left)
+    ∙ skip _ _ (sym (c .before .before .before .before .before .before .before .is-owned-wrongly .ensures) ∙ c .before .before .before .before .before .before .if3 .left)
     ∙ skip _ _ (sym (c .before .before .before .before .before .some-breaks2 .ensures) ∙ c .before .before .before .before .if4 .left)
     ∙ skip _ _ (sym (c .before .before .before .some-breaks3 .ensures) ∙ c .before .before .if5 .left)
-    ∙ stop _ _ (sym (c .before .is-too-deep .ensures) ∙ c .if6 .taken))
+    ∙ stop _ _ (sym (c .before .are-too-deep .ensures) ∙ c .if6 .taken))
 
 returns-7 : tie.Need-returns-7
 unfolding nodeRefusals refusal6 refusal9 refusal10 breaks
@@ -65,10 +65,10 @@ returns-7 c =
     sym
     (skip _ _ (sym (c .before .before .before .before .before .before .before .before .before .before .before .some-breaks .ensures) ∙ c .before .before .before .before .before .before .before .before .before .before .if1 .left)
     ∙ skip _ _ (sym (c .before .before .before .before .before .before .before .before .before .has-wrong-operands .ensures) ∙ c .before .before .before .before .before .before .before .before .if2 .left)
-    ∙ skip _ _ (sym (c .before .before .before .before .before .before .before .has-wrong-owners .ensures) ∙ c .before .before .before .before .before .before .if3 .left)
+    ∙ skip _ _ (sym (c .before .before .before .before .before .before .before .is-owned-wrongly .ensures) ∙ c .before .before .before .before .before .before .if3 .left)
     ∙ skip _ _ (sym (c .before .before .before .before .before .some-breaks2 .ensures) ∙ c .before .before .before .before .if4 .left)
     ∙ skip _ _ (sym (c .before .before .before .some-breaks3 .ensures) ∙ c .before .before .if5 .left)
-    ∙ skip _ _ (sym (c .before .is-too-deep .ensures) ∙ c .if6 .left)
+    ∙ skip _ _ (sym (c .before .are-too-deep .ensures) ∙ c .if6 .left)
     ∙ no-more)
 
 pub find-refusal-spec : {M : Type 1} → statement M
