@@ -6,6 +6,7 @@
 //!     cargo run --release -- instructions         instructions a node, with valgrind
 //!     cargo run --release -- files                load, save, compare, write and read (files.rs)
 //!     cargo run --release -- files instructions   the same, with valgrind
+//!     cargo run --release -- edits                instructions of an edit, with valgrind (edits.rs)
 //!     cargo run --release -- nests [FOLDER]       nests of 4 to 126 levels
 //!     cargo run --release -- slowest [FOLDER]     the slowest trees that a search finds
 //!     cargo run --release -- reads FILE..         reads of the table a node, with valgrind
@@ -43,6 +44,7 @@
 //! the rounds' ratios count.
 
 mod clock;
+mod edits;
 mod files;
 mod nests;
 mod reads;
@@ -71,6 +73,8 @@ fn main() -> ExitCode {
             Some(set) => files::run_files(set, number(side)),
             None => return usage(),
         },
+        ["edits"] => edits::count_edits(),
+        ["edits", "run", size, side] => edits::run_edits(number(size), number(side)),
         ["nests"] => nests::time_nests(None),
         ["nests", folder] => nests::time_nests(Some(folder)),
         ["slowest"] => nests::search_slowest(None),
@@ -94,7 +98,7 @@ fn main() -> ExitCode {
 }
 
 fn usage() -> ExitCode {
-    eprintln!("usage: bench [turns | instructions | files [instructions] | nests [FOLDER] | slowest [FOLDER] | reads FILE.. | run SET SIDE TIMES], sets and sides from 0 on");
+    eprintln!("usage: bench [turns | instructions | files [instructions] | edits | nests [FOLDER] | slowest [FOLDER] | reads FILE.. | run SET SIDE TIMES], sets and sides from 0 on");
     ExitCode::FAILURE
 }
 
