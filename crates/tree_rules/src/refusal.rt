@@ -124,14 +124,24 @@ fn is_plain_block(node: Node) -> bool
 pub fn has_bad_output(file: &[u8], held: &[u16], node: u16) -> bool
     ensures { λ r. ⌜ r ≡ badOutput (cellsOf (now (file .entry)) (now (held .entry))) node ⌝ }
 {
-    if form_at(file, held, node) != forms::EXPR_CLOSURE {
+    let numbers = node_at(file, held, node);
+    if numbers.form != forms::EXPR_CLOSURE {
         return false;
     }
-    let numbers = node_at(file, held, node);
     if numbers.detail != 1 {
         return false;
     }
     !is_plain_block(node_at(file, held, numbers.first))
+}
+
+// The same, which of most nodes reads the form alone.
+fn is_output_bad(file: &[u8], held: &[u16], node: u16) -> bool
+    ensures { λ r. ⌜ r ≡ badOutput (cellsOf (now (file .entry)) (now (held .entry))) node ⌝ }
+{
+    if form_at(file, held, node) != forms::EXPR_CLOSURE {
+        return false;
+    }
+    has_bad_output(file, held, node)
 }
 
 // Whether a node breaks a rule.
@@ -142,7 +152,7 @@ fn breaks(rule: Rule, file: &[u8], held: &[u16], count: u16, node: u16) -> bool
         Rule::Numbers => has_bad_numbers(node_at(file, held, node)),
         Rule::Operands => has_bad_operands(file, held, count, node),
         Rule::Empty => is_empty(file, held, node),
-        Rule::Output => has_bad_output(file, held, node),
+        Rule::Output => is_output_bad(file, held, node),
     }
 }
 

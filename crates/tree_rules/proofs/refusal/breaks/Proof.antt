@@ -14,4 +14,4 @@ breaks-spec =
     (λ c. let n = c .before .node-at .ensures in rw (c .before .before .enum-told .given .1, ← n .form, ← n .attributes, ← n .detail, ← n .symbol) (c .has-bad-numbers .ensures))
     (λ c. rw (c .before .enum-told2 .given .1) (c .has-bad-operands .ensures))
     (λ c. rw (c .before .enum-told3 .given .1) (c .is-empty .ensures))
-    (λ c. rw (c .before .enum-told4 .given .1) (c .has-bad-output .ensures)))
+    (λ c. rw (c .before .enum-told4 .given .1) (c .is-output-bad .ensures)))
