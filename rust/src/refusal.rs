@@ -8,7 +8,8 @@ macro_rules! refusals {
     ($($number:literal $name:ident $sentence:literal,)*) => {
         /// Why something was refused. Of several reasons the first by number is told, but
         /// that a token list is refused for its context, [`Refusal::NotPlain`], before its
-        /// buffer.
+        /// buffer, and that an edit tells all reasons of the sheet before those of the second
+        /// tree, and [`Refusal::Buffer`] last.
         #[derive(Copy, Clone, PartialEq, Eq, PartialOrd, Ord, Hash, Debug)]
         #[repr(u16)]
         pub enum Refusal {
