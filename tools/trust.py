@@ -17,8 +17,8 @@ import re
 import sys
 from pathlib import Path
 
-# What is promised: demand 3, one file for one tree, the order on files, and the contracts of the functions of the
-# boundary.
+# What is promised: demand 3, commas, both contexts, open sheets, one file for one tree, the order on files, and the
+# contracts of the functions of the boundary.
 ROOTS = [
     'token_theorem/Statement',
     'token_plain/Commas',
