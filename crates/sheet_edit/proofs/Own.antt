@@ -11,17 +11,20 @@ use Rattle.laws.specs.Choice.{pick}
 use Rattle.laws.specs.Lists.{over}
 use Rattle.laws.proofs.Choice.{pick-true, or-next}
 use Rattle.tree.specs.Sizes.{rowCells, mostNodes}
+use Rattle.tree.specs.Forms.{anExpression, classOf}
+use Rattle.tree.specs.Operands.{formIn}
 use Rattle.tree.specs.Table.{firstColumn, secondColumn}
 use Rattle.tree.specs.Trees.{Tree, none, node, operandAt, treeAt}
-use Rattle.tree_rules.specs.Refusals.{refusal, refusal10, refusal11, refuse, firstOf, Accepted}
-use Rattle.tree_rules.proofs.Accepted.{count-bounds, levels-bound}
+use Rattle.tree.proofs.Matches.{form-in}
+use Rattle.tree_rules.specs.Refusals.{refusal10, refusal11, refuse, firstOf, Accepted}
+use Rattle.tree_rules.proofs.Accepted.{count-bounds, root-expression, levels-bound}
 use Rattle.tree_rules.proofs.First.{skip, no-more}
 use Rattle.tree_numbering.specs.Numbered.{size, numbered}
-use Rattle.tree_numbering.specs.Accepting.{numberingRefusal12, numberingRefusal, numberedAfter}
 use Rattle.tree_numbering.proofs.Sizes.{size-accepted}
 use Rattle.tree_sound.proofs.Accepts.{numbered-10, numbered-11, accepted-outputs}
 use Rattle.tree_numbering.specs.Replaced.{replaced}
 use Rattle.sheet_edit.specs.Edits.{refusal17, refusal18, editRefusal12, Edit, result, editRefusal, resultTable, tableAfter}
+use Rattle.sheet_edit.specs.Statement.{EditRoot, EditOwn}
 use Rattle.sheet_edit.proofs.Replaced.{node-here}
 use Rattle.tree_numbering.proofs.Replaced.{after-here}
 use Rattle.sheet_edit.proofs.Replies.{both-accepted}
@@ -57,23 +60,30 @@ own-kept cells count j (node l a b) i e =
     go true q x y = ap (treeAt cells count) (sym (eqb-true i j q)) ∙ e
     go false q x y = rw (x, y)
 
+-- node 1 of an accepted table is an expression
+named-root : (context count : ℕ) (cells : List ℕ) → Accepted context count cells → refusal17 cells count 1 ≡ false
+unfolding refusal17
+named-root context count cells ok = rw (eq-eqb _ anExpression is)
+  where
+    is : classOf (formIn cells count 1) ≡ anExpression
+    is = rw (form-in cells count 1 (omega arith) (count-bounds context count cells ok .0)) (root-expression context count cells ok)
+
 module _ (e : Edit) (sheet : Accepted (e .context) (e .count) (e .cells)) (other : Accepted (e .second-context) (e .second-count) (e .second))
     (named : refusal17 (e .cells) (e .count) (e .place) ≡ false) where
   -- where the result is the tree of an accepted table, nothing but 12 is left to refuse
   only-12 : (table rows : ℕ) → refusal18 (result e) ≡ false → editRefusal e table rows ≡ firstOf (refuse 12 (editRefusal12 (result e) table rows) ∷ [])
   only-12 table rows fits = both-accepted e table rows sheet other ∙ skip 17 _ named ∙ skip 18 _ fits
 
-  -- "Replacing node 1 is allowed.": the second tree, under the sheet's context
-  pub edit-root : e .place ≡ 1
+  at-root : e .place ≡ 1
       → (result e ≡ treeAt (e .second) (e .second-count) 1)
       × ((table rows : ℕ) → editRefusal e table rows ≡ firstOf (refuse 12 (editRefusal12 (result e) table rows) ∷ []))
-  edit-root root =
+  at-root root =
       let r = after-here (e .cells) (e .count) (e .place) (treeAt (e .second) (e .second-count) 1) 1 (omega arith) (count-bounds (e .context) (e .count) (e .cells) sheet .0) (sym root) in
       (r, λ table rows. only-12 table rows (ap refusal18 r ∙ accepted-fits (e .second-context) (e .second-count) (e .second) other))
 
   -- a node's own tree in its place: the sheet's tree, so that its table is numbered as in Paper 2
   module _ (same : treeAt (e .second) (e .second-count) 1 ≡ treeAt (e .cells) (e .count) (e .place)) where
-    pub own-result : result e ≡ treeAt (e .cells) (e .count) 1
+    own-result : result e ≡ treeAt (e .cells) (e .count) 1
     own-result = rw same (own-kept (e .cells) (e .count) (e .place) (treeAt (e .cells) (e .count) 1) 1 refl)
 
     own-taken : (rows : ℕ) → rowCells * e .count ≤ rows → editRefusal e (length (e .cells)) rows ≡ 0
@@ -85,15 +95,13 @@ module _ (e : Edit) (sheet : Accepted (e .context) (e .count) (e .cells)) (other
         ∙ skip 12 _ (rw (own-result, s) (or-next _ (le-ltb _ _ k) ∙ le-ltb _ _ room))
         ∙ no-more
 
-    pub edit-own : (rows : ℕ) → rowCells * e .count ≤ rows → tableAfter e rows ≡ numberedAfter (e .context) (e .count) (e .cells) (e .cells)
-    unfolding resultTable numberedAfter numberingRefusal numberingRefusal12
-    edit-own rows room =
-        pick-true _ _ (eq-eqb _ 0 (own-taken rows room))
-        ∙ ap (λ (t : Tree). over (numbered t) (e .cells)) own-result
-        ∙ sym (pick-true _ _ (eq-eqb _ 0 taken))
-      where
-        taken : numberingRefusal (e .context) (e .count) (e .cells) (length (e .cells)) ≡ 0
-        taken =
-            pick-true _ _ (eq-eqb (refusal (e .context) (e .count) (e .cells)) 0 sheet)
-            ∙ skip 12 _ (le-ltb _ _ (count-bounds (e .context) (e .count) (e .cells) sheet .2))
-            ∙ no-more
+    own-table : (rows : ℕ) → rowCells * e .count ≤ rows → tableAfter e rows ≡ over (numbered (treeAt (e .cells) (e .count) 1)) (e .cells)
+    unfolding resultTable
+    own-table rows room = pick-true _ _ (eq-eqb _ 0 (own-taken rows room)) ∙ ap (λ (t : Tree). over (numbered t) (e .cells)) own-result
+
+pub edit-root : EditRoot
+edit-root e sheet other root =
+    at-root e sheet other (ap (λ (j : ℕ). refusal17 (e .cells) (e .count) j) root ∙ named-root (e .context) (e .count) (e .cells) sheet) root
+
+pub edit-own : EditOwn
+edit-own e sheet other named same rows room = own-table e sheet other named same rows room

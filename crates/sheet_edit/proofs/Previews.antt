@@ -15,13 +15,14 @@ use Rattle.tree_numbering.specs.Numbered.{size, numbered}
 use Rattle.tree_numbering.proofs.Holds.{over-numbered}
 use Rattle.row_walk.specs.Paths.{Branch, numberAt, rowIn}
 use Rattle.row_walk.proofs.Paths.{renumbered}
-use Rattle.sheet_edit.specs.Edits.{editRefusal12, Edit, result, editRefusal, editReply, freshRows, resultTable, resultRows, tableAfter, editedRows}
-use Rattle.sheet_edit.specs.Previews.{long, previewReply, previewTable, previewRows}
+use Rattle.sheet_edit.specs.Edits.{editRefusal12, Edit, result, editRefusal, freshRows, resultTable, resultRows, tableAfter, editedRows}
+use Rattle.sheet_edit.specs.Previews.{long, previewTable, previewRows}
+use Rattle.sheet_edit.specs.Statement.{SameReply, Previewed}
 use Rattle.sheet_edit.proofs.Replaced.{over-accepted}
 use Rattle.sheet_edit.proofs.Replies.{both-accepted, start, Allowed, allowed}
 
 -- in buffers that are as long as the sheet's own, or longer, it answers what the edit answers
-pub same-reply : (e : Edit) (rows table lent : ℕ) → length (e .cells) ≤ table → rows ≤ lent → previewReply e rows table lent ≡ editReply e (length (e .cells)) rows
+pub same-reply : SameReply
 same-reply e rows table lent h k =
     let x : min (length (e .cells)) table ≡ length (e .cells) = omega arith in
     let y : min rows lent ≡ rows = omega arith in
@@ -32,7 +33,7 @@ module _ (e : Edit) (rows table lent : List ℕ) (taken : editRefusal e (long e 
   may : Allowed e (long e (length table)) (min (length rows) (length lent))
   may = allowed e (long e (length table)) (min (length rows) (length lent)) taken
 
-  pub edit-taken : editRefusal e (length (e .cells)) (length rows) ≡ 0
+  edit-taken : editRefusal e (length (e .cells)) (length rows) ≡ 0
   unfolding editRefusal12
   edit-taken =
       let t = may .table-room in
@@ -59,11 +60,11 @@ module _ (e : Edit) (rows table lent : List ℕ) (taken : editRefusal e (long e 
   unfolding resultRows
   given-rows = pick-true _ _ (eq-eqb _ 0 edit-taken)
 
-  pub same-table : take (nodeCells * size (result e)) (previewTable e (length rows) table (length lent)) ≡ take (nodeCells * size (result e)) (tableAfter e (length rows))
+  same-table : take (nodeCells * size (result e)) (previewTable e (length rows) table (length lent)) ≡ take (nodeCells * size (result e)) (tableAfter e (length rows))
   same-table = rw (shown, given) (start (result e) table ∙ sym (start (result e) (e .cells)))
 
   -- however the buffers go on: at each path of the result
-  pub same-rows : (q : List Branch) → 1 ≤ numberAt (previewTable e (length rows) table (length lent)) (size (result e)) 1 q → 1 ≤ numberAt (tableAfter e (length rows)) (size (result e)) 1 q
+  same-rows : (q : List Branch) → 1 ≤ numberAt (previewTable e (length rows) table (length lent)) (size (result e)) 1 q → 1 ≤ numberAt (tableAfter e (length rows)) (size (result e)) 1 q
       → rowIn (previewRows e (length rows) table lent) (numberAt (previewTable e (length rows) table (length lent)) (size (result e)) 1 q)
       ≡ rowIn (editedRows e rows) (numberAt (tableAfter e (length rows)) (size (result e)) 1 q)
   same-rows q = rw (shown, shown-rows, given, given-rows) (λ there there′. rw (whole table, whole (e .cells)) at (renumbered (e .context) (size (result e)) (size (result e)) (over (numbered (result e)) table) (over (numbered (result e)) (e .cells)) (accepted table) (accepted (e .cells)) (whole table ∙ sym (whole (e .cells))) lent rows (let r = may .rows-room in omega arith) (let r = may .rows-room in omega arith) q there there′))
@@ -73,3 +74,6 @@ module _ (e : Edit) (rows table lent : List ℕ) (taken : editRefusal e (long e 
 
       accepted : (cells : List ℕ) → Accepted (e .context) (size (result e)) (over (numbered (result e)) cells)
       accepted cells = over-accepted e (may .sheet) (may .other) (may .named) (may .fits) cells
+
+pub previewed : Previewed
+previewed e rows table lent z = record { taken = edit-taken e rows table lent z; same-table = same-table e rows table lent z; same-rows = λ q. same-rows e rows table lent z q }

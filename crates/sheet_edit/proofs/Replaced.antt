@@ -1,6 +1,6 @@
 -- An accepted sheet with an expression replaced by another accepted tree's breaks none of 3 and 6 to 9, whatever the numbering was. Assumes nothing.
 use mathlib.Core.Path.{_≡_, refl, sym, ap, _∙_}
-use mathlib.Core.Bool.{Bool, true, false, not}
+use mathlib.Core.Bool.{Bool, true, false}
 use mathlib.Core.List.{List, [], _++_, append-nil}
 use Prim.Native.Nat.{ℕ, _+_, _≤_}
 use native.Mathlib.Omega.{arith}
@@ -27,6 +27,7 @@ use Rattle.tree_rules.proofs.Accepted.{context-most}
 use Rattle.tree_numbering.specs.Numbered.{size, numbered}
 use Rattle.tree_numbering.specs.Replaced.{replaced}
 use Rattle.sheet_edit.specs.Edits.{edited, refusal17, refusal18, Edit, result}
+use Rattle.sheet_edit.specs.Statement.{EditedAccepted}
 use Rattle.tree_sound.proofs.Sound.{rootClass, itemClass, otherList, otherPresent, otherAt, otherOperands, badLabel, emptyLabel, outputBroken, someNode, Sound}
 use Rattle.tree_sound.proofs.Tables.{class-at}
 use Rattle.tree_sound.proofs.Accepts.{numbered-10, numbered-11, numbered-accepted, accepted-ordered, accepted-sound, accepted-root}
@@ -171,13 +172,13 @@ module _ (e : Edit) (sheet : Accepted (e .context) (e .count) (e .cells)) (other
       let n = named-here (e .cells) (e .count) (e .place) named in
       sym (class-at (e .cells) (e .count) (accepted-ordered (e .context) (e .count) (e .cells) sheet) (e .place) (n .1)) ∙ n .2
 
-  pub result-few : size (result e) ≤ mostNodes
+  result-few : size (result e) ≤ mostNodes
   unfolding refusal18
   result-few = ltb-false mostNodes (size (result e)) (or-false _ _ fits .0)
 
-  pub edited-accepted : (rest : List ℕ) → Accepted (e .context) (size (result e)) (numbered (result e) ++ rest)
+  result-accepted : (rest : List ℕ) → Accepted (e .context) (size (result e)) (numbered (result e) ++ rest)
   unfolding refusal18
-  edited-accepted rest =
+  result-accepted rest =
       let s = treeAt (e .second) (e .second-count) 1 in
       let r = accepted-root (e .second-context) (e .second-count) (e .second) other in
       numbered-accepted (result e) rest result-few
@@ -201,4 +202,7 @@ module _ (e : Edit) (sheet : Accepted (e .context) (e .count) (e .cells)) (other
   -- written over the start of a longer table
   pub over-accepted : (cells : List ℕ) → Accepted (e .context) (size (result e)) (over (numbered (result e)) cells)
   unfolding over
-  over-accepted cells = edited-accepted (drop (length (numbered (result e))) cells)
+  over-accepted cells = result-accepted (drop (length (numbered (result e))) cells)
+
+pub edited-accepted : EditedAccepted
+edited-accepted e sheet other named fits rest = result-accepted e sheet other named fits rest

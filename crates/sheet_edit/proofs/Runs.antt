@@ -1,8 +1,8 @@
--- After any run of edits an open sheet is accepted, and its rows are those worked out afresh. Assumes nothing.
+-- After any run of edits an open sheet is accepted, and its rows are those worked out afresh; rows that an edit elsewhere leaves as they are. Assumes nothing.
 use mathlib.Core.Path.{_≡_, refl, sym, ap, _∙_}
 use mathlib.Core.Bool.{Bool, true, false}
 use mathlib.Core.List.{List, [], _∷_}
-use Prim.Native.Nat.{ℕ}
+use Prim.Native.Nat.{ℕ, _≤_}
 use native.Mathlib.Omega.{arith}
 use lib.Dec.{eqb}
 use lib.ListN.{length}
@@ -18,13 +18,16 @@ use Rattle.tree_numbering.specs.Numbered.{size, numbered}
 use Rattle.tree_numbering.proofs.Holds.{over-numbered}
 use Rattle.row.specs.Rows.{rowsOf}
 use Rattle.row_walk.specs.Walk.{rootHanded, placed, decideRefusal12, decided, rowsAfter}
-use Rattle.row_walk.specs.Paths.{numberAt, rowIn}
+use Rattle.row_walk.specs.Paths.{Branch, numberAt, rowIn}
 use Rattle.row_walk.proofs.Placed.{length-placed}
-use Rattle.row_walk.proofs.Paths.{row-at}
+use Rattle.row_walk.proofs.Paths.{there-at, row-at}
 use Rattle.sheet_edit.specs.Edits.{result, editRefusal, freshRows, resultTable, resultRows}
+use Rattle.sheet_edit.specs.Shelters.{sheltered}
 use Rattle.sheet_edit.specs.Runs.{Sheet, opened, Change, editOn, changed, ran, Right}
+use Rattle.sheet_edit.specs.Statement.{Stays, EditLocal, AnyEdits}
 use Rattle.sheet_edit.proofs.Replaced.{over-accepted}
-use Rattle.sheet_edit.proofs.Replies.{allowed}
+use Rattle.sheet_edit.proofs.Shelters.{Same, stays, stands}
+use Rattle.sheet_edit.proofs.Replies.{Allowed, allowed}
 
 module _ (s : Sheet) (c : Change) where
   -- the sheet after an edit that is not refused: whatever rows were handed in
@@ -61,6 +64,41 @@ module _ (s : Sheet) (c : Change) where
       go true e = rw e (done-right (eqb-true _ _ e))
       go false e = rw e right
 
+  -- what an edit elsewhere leaves as it is, at a path that parts from the edited place's
+  module _ (right : Right s) (p q : List Branch) (at : numberAt (s .table) (s .count) 1 p ≡ c .place) (there : 1 ≤ numberAt (s .table) (s .count) 1 q)
+      (o : sheltered (treeAt (s .table) (s .count) 1) p q ≡ true) where
+    done-stays : editRefusal (editOn s c) (length (s .table)) (length (s .rows)) ≡ 0 → Stays s Done q
+    done-stays z =
+        record {
+          there = reaches;
+          tree = same .tree ∙ rw whole;
+          row = right .rows-right q there ∙ rw (same .tree, same .handed) (sym (rw whole at (done-right z .rows-right q reaches)));
+        }
+      where
+        w : Allowed (editOn s c) (length (s .table)) (length (s .rows))
+        w = allowed (editOn s c) (length (s .table)) (length (s .rows)) z
+
+        same : Same (rootHanded (s .context) (treeAt (s .table) (s .count) 1)) (rootHanded (s .context) (result (editOn s c))) (treeAt (s .table) (s .count) 1) (result (editOn s c)) q
+        same = stays (editOn s c) (w .sheet) (w .named) p q at o
+
+        whole : treeAt (over (numbered (result (editOn s c))) (s .table)) (size (result (editOn s c))) 1 ≡ result (editOn s c)
+        whole = over-numbered (result (editOn s c)) (s .table) (let f = w .few in omega arith)
+
+        reaches : 1 ≤ numberAt (over (numbered (result (editOn s c))) (s .table)) (size (result (editOn s c))) 1 q
+        reaches = there-at (over (numbered (result (editOn s c))) (s .table)) (size (result (editOn s c))) 1 q (rw (whole, ← same .tree) (stands (editOn s c) (w .sheet) (w .named) q there))
+
+    pub changed-stays : Stays s (changed s c) q
+    unfolding changed resultTable resultRows pick
+    changed-stays = go (eqb (editRefusal (editOn s c) (length (s .table)) (length (s .rows))) 0) refl
+      where
+        go : (b : Bool) → eqb (editRefusal (editOn s c) (length (s .table)) (length (s .rows))) 0 ≡ b → Stays s (changed s c) q
+        go true e = rw e (done-stays (eqb-true _ _ e))
+        go false e = rw e (record { there = there; tree = refl; row = refl })
+
+-- rows that an edit elsewhere leaves as they are
+pub edit-local : EditLocal
+edit-local s c right p q at there o = changed-stays s c right p q at there o
+
 pub ran-right : (s : Sheet) (cs : List Change) → Right s → Right (ran s cs)
 unfolding ran
 ran-right s [] right = right
@@ -81,6 +119,5 @@ opened-right context count cells rows scratch taken =
     })
 
 -- an opened sheet after any list of edits, refused ones among them
-pub edits : (context count : ℕ) (cells rows scratch : List ℕ) → decided context count cells (length rows) (length scratch) ≡ 0
-    → (cs : List Change) → Right (ran (opened context count cells rows scratch) cs)
+pub edits : AnyEdits
 edits context count cells rows scratch taken cs = ran-right (opened context count cells rows scratch) cs (opened-right context count cells rows scratch taken)

@@ -1,15 +1,13 @@
 -- Rows that an edit elsewhere leaves as they are. Assumes nothing.
 use mathlib.Core.Path.{_≡_, refl, sym, _∙_}
 use mathlib.Core.Bool.{Bool, true, false, _||_}
-use mathlib.Core.List.{List, [], _∷_, _++_}
-use Prim.Native.Nat.{ℕ, _+_, _*_, _≤_}
+use mathlib.Core.List.{List, [], _∷_}
+use Prim.Native.Nat.{ℕ, _≤_}
 use native.Mathlib.Omega.{arith}
 use lib.Dec.{eqb}
-use lib.ListN.{length}
 use borrow.Author.Tests.{eqb-true, ne-eqb}
 use Rattle.laws.specs.Choice.{pick, lookup}
 use Rattle.laws.proofs.Choice.{true-not-false}
-use Rattle.tree.specs.Sizes.{rowCells}
 use Rattle.tree.specs.Forms.{ExprIndex, ExprParen, Link}
 use Rattle.tree.specs.Table.{firstColumn, secondColumn}
 use Rattle.tree.specs.Trees.{Label, Tree, none, node, operandAt, treeAt}
@@ -23,16 +21,14 @@ use Rattle.expr.specs.Expr.{handsFirst, handsSecond}
 use Rattle.row.specs.Rows.{isExpression, outerPair, rowOf, ownContext, present, rowsOf}
 use Rattle.tree_rules.specs.Refusals.{Accepted}
 use Rattle.tree_rules.proofs.Accepted.{count-bounds}
-use Rattle.tree_numbering.specs.Numbered.{size, numbered}
-use Rattle.tree_numbering.proofs.Holds.{numbered-tree}
-use Rattle.row_walk.specs.Walk.{rootHanded, contextNumbered, contexts, placed}
-use Rattle.row_walk.specs.Paths.{Branch, first, second, numberAt, treeBy, handedBy, rowIn}
+use Rattle.row_walk.specs.Walk.{rootHanded, contextNumbered, contexts}
+use Rattle.row_walk.specs.Paths.{Branch, first, second, numberAt, treeBy, handedBy}
 use Rattle.row_walk.proofs.Local.{index-handed, item-handed, paren-handed, outer-local}
-use Rattle.row_walk.proofs.Paths.{tree-at, there-at, row-at, one-path}
+use Rattle.row_walk.proofs.Paths.{tree-at, one-path}
 use Rattle.tree_numbering.specs.Replaced.{replaced}
-use Rattle.sheet_edit.specs.Edits.{refusal17, refusal18, Edit, result, freshRows}
+use Rattle.sheet_edit.specs.Edits.{refusal17, Edit, result}
 use Rattle.sheet_edit.specs.Shelters.{shelters, passes, sheltered}
-use Rattle.sheet_edit.proofs.Replaced.{node-here, named-here, result-few, edited-accepted}
+use Rattle.sheet_edit.proofs.Replaced.{node-here, named-here}
 
 -- ---- what stands in NONE and is tested by nobody has the rows of its own tree
 
@@ -107,9 +103,9 @@ passes-handed (node l a b) (second ∷ q) h k e = enter-second l a b a _ _ q e (
 -- ---- what is replaced elsewhere
 
 -- the tree at a path, and what it is handed, are the same in two trees
-record Same (h k : Handed) (t u : Tree) (q : List Branch) : Type 0 where
-  tree : treeBy t q ≡ treeBy u q
-  handed : handedBy h t q ≡ handedBy k u q
+pub record Same (h k : Handed) (t u : Tree) (q : List Branch) : Type 0 where
+  pub tree : treeBy t q ≡ treeBy u q
+  pub handed : handedBy h t q ≡ handedBy k u q
 
 module _ (cells : List ℕ) (count j : ℕ) (s : Tree) where
   -- where no path leads to j, nothing is replaced
@@ -162,44 +158,21 @@ module _ (cells : List ℕ) (count j : ℕ) (s : Tree) where
         rw (opened l a b i second p (w .low) (w .high) at, nowhere a (operandAt cells count i firstColumn) (w .one) (λ r z. differ r p (sym (one i (second ∷ p) (first ∷ r) (w .low) (w .high) at z))))
         (record { tree = refl; handed = enter-first l a b _ _ _ q o (passes-handed a q) })
 
--- ---- the rows before and after
+-- ---- before and after
 
 number-most : (cells : List ℕ) (count i : ℕ) (q : List Branch) → i ≤ count → numberAt cells count i q ≤ count
 number-most cells count i [] h = h
 number-most cells count i (first ∷ q) h = number-most cells count (operandAt cells count i firstColumn) q (operand-most count i _)
 number-most cells count i (second ∷ q) h = number-most cells count (operandAt cells count i secondColumn) q (operand-most count i _)
 
-module _ (e : Edit) (sheet : Accepted (e .context) (e .count) (e .cells)) (other : Accepted (e .second-context) (e .second-count) (e .second))
-    (named : refusal17 (e .cells) (e .count) (e .place) ≡ false) (fits : refusal18 (result e) ≡ false) where
-  -- the row of the node at a path q of the sheet, where q passes an index, an item of a list or the content of a Paren that does not contain the edited place,
-  -- is that of the node at q after the edit, in whatever buffers
-  pub edit-local : (p q : List Branch) → numberAt (e .cells) (e .count) 1 p ≡ e .place → 1 ≤ numberAt (e .cells) (e .count) 1 q → sheltered (treeAt (e .cells) (e .count) 1) p q ≡ true
-      → (rest before after : List ℕ) → rowCells * e .count ≤ length before → rowCells * size (result e) ≤ length after
-      → rowIn (placed (e .cells) (e .count) 1 (rowsOf (rootHanded (e .context) (treeAt (e .cells) (e .count) 1)) (treeAt (e .cells) (e .count) 1)) before) (numberAt (e .cells) (e .count) 1 q)
-      ≡ rowIn (freshRows (e .context) (result e) (numbered (result e) ++ rest) after) (numberAt (numbered (result e) ++ rest) (size (result e)) 1 q)
-  edit-local p q at there o rest before after room room′ =
-      let k = count-bounds (e .context) (e .count) (e .cells) sheet in
-      let k′ = count-bounds (e .context) (size (result e)) cells′ accepted in
-      row-at (e .cells) (e .count) (e .context) sheet 1 q (rootHanded (e .context) (treeAt (e .cells) (e .count) 1)) before (omega arith) (k .0) room there
-      ∙ rw (same .tree, same .handed)
-      (sym (rw whole at (row-at cells′ (size (result e)) (e .context) accepted 1 q (rootHanded (e .context) (result e)) after (omega arith) (k′ .0) room′ reaches)))
-    where
-      cells′ : List ℕ
-      cells′ = numbered (result e) ++ rest
+module _ (e : Edit) (sheet : Accepted (e .context) (e .count) (e .cells)) (named : refusal17 (e .cells) (e .count) (e .place) ≡ false) where
+  -- at a path of the sheet that passes an index, an item of a list or the content of a Paren that does not contain the edited place
+  pub stays : (p q : List Branch) → numberAt (e .cells) (e .count) 1 p ≡ e .place → sheltered (treeAt (e .cells) (e .count) 1) p q ≡ true
+      → Same (rootHanded (e .context) (treeAt (e .cells) (e .count) 1)) (rootHanded (e .context) (result e)) (treeAt (e .cells) (e .count) 1) (result e) q
+  stays p q at o = same-there (e .cells) (e .count) (e .place) (treeAt (e .second) (e .second-count) 1) (e .context) sheet (named-here (e .cells) (e .count) (e .place) named .0) (treeAt (e .cells) (e .count) 1) 1 p q _ _ refl at o
 
-      accepted : Accepted (e .context) (size (result e)) cells′
-      accepted = edited-accepted e sheet other named fits rest
-
-      whole : treeAt cells′ (size (result e)) 1 ≡ result e
-      whole = numbered-tree (result e) rest (let f = result-few e sheet other named fits in omega arith)
-
-      same : Same (rootHanded (e .context) (treeAt (e .cells) (e .count) 1)) (rootHanded (e .context) (result e)) (treeAt (e .cells) (e .count) 1) (result e) q
-      same = same-there (e .cells) (e .count) (e .place) (treeAt (e .second) (e .second-count) 1) (e .context) sheet (named-here (e .cells) (e .count) (e .place) named .0) (treeAt (e .cells) (e .count) 1) 1 p q _ _ refl at o
-
-      stands : isThere (treeBy (treeAt (e .cells) (e .count) 1) q) ≡ true
-      stands =
-          let m = number-most (e .cells) (e .count) 1 q (count-bounds (e .context) (e .count) (e .cells) sheet .0) in
-          rw (← tree-at (e .cells) (e .count) 1 q (omega arith) (count-bounds (e .context) (e .count) (e .cells) sheet .0) there, unfolds (e .cells) (e .count) (numberAt (e .cells) (e .count) 1 q) there m)
-
-      reaches : 1 ≤ numberAt cells′ (size (result e)) 1 q
-      reaches = there-at cells′ (size (result e)) 1 q (rw (whole, ← same .tree) stands)
+  pub stands : (q : List Branch) → 1 ≤ numberAt (e .cells) (e .count) 1 q → isThere (treeBy (treeAt (e .cells) (e .count) 1) q) ≡ true
+  stands q there =
+      let k = count-bounds (e .context) (e .count) (e .cells) sheet .0 in
+      let m = number-most (e .cells) (e .count) 1 q k in
+      rw (← tree-at (e .cells) (e .count) 1 q (omega arith) k there, unfolds (e .cells) (e .count) (numberAt (e .cells) (e .count) 1 q) there m)

@@ -3,4 +3,5 @@ pub mod Previews
 pub mod Steps
 pub mod Shelters
 pub mod Runs
+pub mod Statement
 pub mod Cases
