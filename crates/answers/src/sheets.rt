@@ -5,7 +5,7 @@ ghost use lib.ListN.{length};
 ghost use Rattle.sheet_edit.specs.Edits.{editOf, editReply, tableAfter, editedRows, editedInNumbers};
 ghost use Rattle.answers.specs.Replies.{oneNumber};
 
-pub fn edited_number(answer: Edited) -> u32
+pub(crate) fn edited_number(answer: Edited) -> u32
     ensures { λ r. ⌜ r ≡ oneNumber (editedInNumbers answer) ⌝ }
 {
     match answer {
