@@ -25,8 +25,8 @@ use Rattle.row_walk.specs.Walk.{walkedAfter}
 use Rattle.row_walk.proofs.Replies.{walked}
 use Rattle.sheet_edit.specs.declared.Edited.{Edited}
 use Rattle.sheet_edit.specs.declared.Edited.the-variants.{Refused, Nodes}
-use Rattle.sheet_edit.specs.Edits.{refusal17, refusal18, editRefusal12, Edit, result, editRefusal, editReply, freshRows, resultTable, resultRows}
-use Rattle.sheet_edit.specs.Steps.{ownsOutput}
+use Rattle.sheet_edit.specs.Edits.{refusal17, refusal18, editRefusal12, Edit, result, editRefusal, editReply, resultTable, resultRows}
+use Rattle.sheet_edit.specs.Steps.{ownsOutput, Replaces}
 use Rattle.tree_sound.proofs.Tables.{plain-block}
 use Rattle.tree_sound.proofs.Accepts.{numbered-10, numbered-11, accepted-ordered, accepted-outputs}
 use Rattle.sheet_edit.proofs.Replaced.{named-here}
@@ -141,15 +141,11 @@ unfolding over
 start t cells = take-at (numbered t) _ (nodeCells * size t) (length-numbered t)
 
 module _ (t : Tree) (cells rows : List ℕ) (context : ℕ) where
-  -- what the three clauses of `replace` say
-  abbrev pub Replaces : ℕ → List ℕ → List ℕ → Type 0
-  Replaces n table after = (n ≡ size t) × ((table ≡ over (numbered t) cells) × (after ≡ freshRows context t (over (numbered t) cells) rows))
-
   -- a table that holds the result, and the rows that the walk writes from it
   pub shows : size t ≤ mostNodes → rowCells * size t ≤ length rows → (n : ℕ) → n ≡ size t
       → (table : List ℕ) → table ≡ over (numbered t) cells
       → (after : List ℕ) → after ≡ walkedAfter context n table rows
-      → Replaces n table after
+      → Replaces t cells rows context n table after
   shows few wide n m table u after e =
       (m, (u, e ∙ rw (m, u) (walked context (size t) (over (numbered t) cells) rows wide ∙ rw (over-numbered t cells (omega arith)))))
 
@@ -158,7 +154,7 @@ module _ (t : Tree) (cells rows : List ℕ) (context : ℕ) where
       → (base own : List ℕ) → own ≡ over (numbered t) base
       → (table : List ℕ) → table ≡ over (take (nodeCells * n) own) cells
       → (after : List ℕ) → after ≡ walkedAfter context n table rows
-      → Replaces n table after
+      → Replaces t cells rows context n table after
   replaces few wide n m base own eo table et after e =
       shows few wide n m table (et ∙ rw (m, eo, start t base)) after e
 

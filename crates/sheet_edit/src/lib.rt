@@ -22,11 +22,10 @@ ghost use Rattle.laws.specs.Lists.{over};
 ghost use Rattle.tree.specs.Sizes.{nodeCells, mostNodes};
 ghost use Rattle.tree.specs.Trees.{treeAt, levels};
 ghost use Rattle.tree_rules.specs.Refusals.{plainBlock};
-ghost use Rattle.tree_numbering.specs.Numbered.{size, numbered};
 ghost use Rattle.tree_numbering.specs.Replaced.{replacedAt};
-ghost use Rattle.sheet_edit.specs.Edits.{editOf, editRefusal, editReply, freshRows, tableAfter, editedRows};
+ghost use Rattle.sheet_edit.specs.Edits.{editOf, editRefusal, editReply, tableAfter, editedRows};
 ghost use Rattle.sheet_edit.specs.Previews.{previewReply, previewTable, previewRows};
-ghost use Rattle.sheet_edit.specs.Steps.{joined, ownsOutput, Fits};
+ghost use Rattle.sheet_edit.specs.Steps.{joined, ownsOutput, Replaces, Fits};
 
 // What an edit answers.
 pub enum Edited {
@@ -190,9 +189,7 @@ fn replace(
     own: &mut [u16],
 ) -> u16
     requires { ⌜ Fits (joined (now table) count place (now second) nodes) nodes (length (now own)) (length (now table)) (length (now rows)) ⌝ }
-    ensures reply { λ r. ⌜ r ≡ size (joined (now (table .entry)) count place (now (second .entry)) nodes) ⌝ }
-    ensures table { λ _. ⌜ now (table .exit) ≡ over (numbered (joined (now (table .entry)) count place (now (second .entry)) nodes)) (now (table .entry)) ⌝ }
-    ensures rows { λ _. ⌜ now (rows .exit) ≡ freshRows context (joined (now (table .entry)) count place (now (second .entry)) nodes) (over (numbered (joined (now (table .entry)) count place (now (second .entry)) nodes)) (now (table .entry))) (now (rows .entry)) ⌝ }
+    ensures { λ r. ⌜ Replaces (joined (now (table .entry)) count place (now (second .entry)) nodes) (now (table .entry)) (now (rows .entry)) context r (now (table .exit)) (now (rows .exit)) ⌝ }
 {
     let done = number(table, count, place, second, nodes, own);
     copy(own, sizes::NODE_CELLS * (done as usize), table);
@@ -211,9 +208,7 @@ fn replace_small(
     second: &[u16],
 ) -> u16
     requires { ⌜ Fits (joined (now table) count place (now second) nodes) nodes (nodeCells * 64) (length (now table)) (length (now rows)) ⌝ }
-    ensures reply { λ r. ⌜ r ≡ size (joined (now (table .entry)) count place (now (second .entry)) nodes) ⌝ }
-    ensures table { λ _. ⌜ now (table .exit) ≡ over (numbered (joined (now (table .entry)) count place (now (second .entry)) nodes)) (now (table .entry)) ⌝ }
-    ensures rows { λ _. ⌜ now (rows .exit) ≡ freshRows context (joined (now (table .entry)) count place (now (second .entry)) nodes) (over (numbered (joined (now (table .entry)) count place (now (second .entry)) nodes)) (now (table .entry))) (now (rows .entry)) ⌝ }
+    ensures { λ r. ⌜ Replaces (joined (now (table .entry)) count place (now (second .entry)) nodes) (now (table .entry)) (now (rows .entry)) context r (now (table .exit)) (now (rows .exit)) ⌝ }
 {
     let mut own = [0u16; sizes::NODE_CELLS * 64];
     replace(context, count, table, rows, place, nodes, second, &mut own)
@@ -230,9 +225,7 @@ fn replace_medium(
     second: &[u16],
 ) -> u16
     requires { ⌜ Fits (joined (now table) count place (now second) nodes) nodes (nodeCells * 512) (length (now table)) (length (now rows)) ⌝ }
-    ensures reply { λ r. ⌜ r ≡ size (joined (now (table .entry)) count place (now (second .entry)) nodes) ⌝ }
-    ensures table { λ _. ⌜ now (table .exit) ≡ over (numbered (joined (now (table .entry)) count place (now (second .entry)) nodes)) (now (table .entry)) ⌝ }
-    ensures rows { λ _. ⌜ now (rows .exit) ≡ freshRows context (joined (now (table .entry)) count place (now (second .entry)) nodes) (over (numbered (joined (now (table .entry)) count place (now (second .entry)) nodes)) (now (table .entry))) (now (rows .entry)) ⌝ }
+    ensures { λ r. ⌜ Replaces (joined (now (table .entry)) count place (now (second .entry)) nodes) (now (table .entry)) (now (rows .entry)) context r (now (table .exit)) (now (rows .exit)) ⌝ }
 {
     let mut own = [0u16; sizes::NODE_CELLS * 512];
     replace(context, count, table, rows, place, nodes, second, &mut own)
@@ -249,9 +242,7 @@ fn replace_large(
     second: &[u16],
 ) -> u16
     requires { ⌜ Fits (joined (now table) count place (now second) nodes) nodes (nodeCells * mostNodes) (length (now table)) (length (now rows)) ⌝ }
-    ensures reply { λ r. ⌜ r ≡ size (joined (now (table .entry)) count place (now (second .entry)) nodes) ⌝ }
-    ensures table { λ _. ⌜ now (table .exit) ≡ over (numbered (joined (now (table .entry)) count place (now (second .entry)) nodes)) (now (table .entry)) ⌝ }
-    ensures rows { λ _. ⌜ now (rows .exit) ≡ freshRows context (joined (now (table .entry)) count place (now (second .entry)) nodes) (over (numbered (joined (now (table .entry)) count place (now (second .entry)) nodes)) (now (table .entry))) (now (rows .entry)) ⌝ }
+    ensures { λ r. ⌜ Replaces (joined (now (table .entry)) count place (now (second .entry)) nodes) (now (table .entry)) (now (rows .entry)) context r (now (table .exit)) (now (rows .exit)) ⌝ }
 {
     let mut own = [0u16; sizes::NODE_CELLS * (sizes::MOST_NODES as usize)];
     replace(context, count, table, rows, place, nodes, second, &mut own)
@@ -332,9 +323,7 @@ fn show(
     rows: &mut [u16],
 ) -> u16
     requires { ⌜ Fits (joined (now table) count place (now second) nodes) nodes (length (now out)) (length (now out)) (length (now rows)) ⌝ }
-    ensures reply { λ r. ⌜ r ≡ size (joined (now (table .entry)) count place (now (second .entry)) nodes) ⌝ }
-    ensures out { λ _. ⌜ now (out .exit) ≡ over (numbered (joined (now (table .entry)) count place (now (second .entry)) nodes)) (now (out .entry)) ⌝ }
-    ensures rows { λ _. ⌜ now (rows .exit) ≡ freshRows context (joined (now (table .entry)) count place (now (second .entry)) nodes) (over (numbered (joined (now (table .entry)) count place (now (second .entry)) nodes)) (now (out .entry))) (now (rows .entry)) ⌝ }
+    ensures { λ r. ⌜ Replaces (joined (now (table .entry)) count place (now (second .entry)) nodes) (now (out .entry)) (now (rows .entry)) context r (now (out .exit)) (now (rows .exit)) ⌝ }
 {
     let done = number(table, count, place, second, nodes, out);
     walk(context, done, out, rows);
