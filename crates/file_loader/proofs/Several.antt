@@ -7,7 +7,6 @@ use native.Mathlib.Omega.{arith}
 use lib.ListN.{length, take, drop, length-drop}
 use lib.Seq.{drop-drop}
 use borrow.Author.Tests.{leb-false}
-use Rattle.laws.specs.Choice.{pick}
 use Rattle.laws.proofs.Choice.{pick-true, pick-false, or-false, true-not-false}
 use Rattle.tree.specs.Sizes.{nodeCells}
 use Rattle.file_numbers.specs.declared.Number.the-variants.{Malformed, Value}

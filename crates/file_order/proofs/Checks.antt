@@ -10,7 +10,7 @@ use Rattle.laws.specs.Choice.{pick}
 use Rattle.laws.proofs.Choice.{pick-true, pick-false}
 use Rattle.file_numbers.specs.declared.Number.the-variants.{Malformed, Value}
 use Rattle.file_numbers.specs.Standing.{standsAt}
-use Rattle.file_loader.specs.Several.{numbers, numbersOf, valuesIn}
+use Rattle.file_loader.specs.Several.{numbersOf, valuesIn}
 use Rattle.file_loader.specs.Files.{header, cellsIn, refusal2}
 use Rattle.file_loader.proofs.Several.{numbers-next}
 use Rattle.file_loader.proofs.Files.{begun, Passes, passes}

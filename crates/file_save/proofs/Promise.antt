@@ -16,10 +16,9 @@ use Rattle.tree_numbering.proofs.Holds.{length-numbered, numbered-tree}
 use Rattle.tree_numbering.proofs.Sizes.{size-accepted}
 use Rattle.tree_sound.proofs.Accepts.{numbered-accepted, accepted-sound, accepted-outputs, accepted-root}
 use Rattle.file_loader.specs.declared.Loaded.the-variants.{Accepted as Loads}
-use Rattle.file_loader.specs.Several.{numbers, numbersOf}
+use Rattle.file_loader.specs.Several.{numbers, numbersOf, valuesIn, bytesAfter}
 use Rattle.file_loader.specs.Files.{header, contextIn, countIn, body, cellsIn, loaded, loadedTable}
 use Rattle.file_loader.proofs.Files.{begun, accepted-nodes, accepted-file}
-use Rattle.file_loader.specs.Several.{valuesIn, bytesAfter}
 use Rattle.file_bytes.specs.Bytes.{allBytes}
 use Rattle.file_bytes.proofs.Below.{AllBelow, below-none, below-more}
 use Rattle.file_bytes.proofs.Several.{all-append, all-most, all-read}

@@ -1,6 +1,6 @@
 -- What the rows of a subtree depend on. Assumes nothing.
-use mathlib.Core.Path.{_≡_, refl}
-use mathlib.Core.Bool.{Bool, true, false}
+use mathlib.Core.Path.{_≡_}
+use mathlib.Core.Bool.{true}
 use Rattle.laws.specs.Choice.{pick, lookup}
 use Rattle.laws.proofs.Choice.{pick-true}
 use Rattle.tree.specs.Forms.{ExprIndex, ExprParen, Link}

@@ -17,7 +17,7 @@ use Rattle.tree.specs.Sizes.{nodeCells, mostNodes, mostLevels}
 use Rattle.tree_places.specs.declared.place.Place.{Place}
 use Rattle.tree_places.specs.declared.place.Place.the-variants.{Nothing, Required, Optional, List as ListOf, Item, Next}
 use Rattle.tree.specs.Forms.{aLink, classOf, allowed}
-use Rattle.tree.specs.Table.{cellAt, formAt, firstAt, secondAt, classAt, formColumn, firstColumn, secondColumn}
+use Rattle.tree.specs.Table.{cellAt, formAt, firstAt, secondAt, classAt, formColumn}
 use Rattle.tree.specs.Trees.{operandOf, treeAt, ownLevel, levels}
 use Rattle.tree_places.specs.Places.{firstPlaces, firstPlace, wrongClass, wrongList, wrongItem, wrongNext, wrongAt, badOperands}
 use Rattle.tree_places.specs.Steps.{isRequired, wrongPresent}

@@ -1,14 +1,14 @@
 -- The array that holds the levels of the nodes. Assumes nothing.
-use mathlib.Core.Path.{_≡_, refl, sym, ap, _∙_}
+use mathlib.Core.Path.{_≡_, sym, _∙_}
 use mathlib.Core.List.{List}
 use Prim.Native.Nat.{ℕ, zero, suc, _+_, _-_, _≤_, _<_, max}
 use native.Mathlib.Omega.{arith}
-use native.Mathlib.Decide.{decLe, ℕ-discrete}
+use native.Mathlib.Decide.{ℕ-discrete}
 use lib.ListN.{length, getD, set, length-set, replicate, length-replicate, getD-replicate}
 use lib.Seq.{getD-set-same, getD-set-other}
 use Rattle.tree.specs.Sizes.{mostNodes}
 use Rattle.tree.specs.Table.{cellAt, formAt, firstColumn, secondColumn}
-use Rattle.tree.specs.Trees.{Tree, none, node, labelAt, operandOf, operandAt, treeAt, ownLevel, levels}
+use Rattle.tree.specs.Trees.{none, labelAt, operandOf, operandAt, treeAt, ownLevel, levels}
 use Rattle.tree_rules.specs.Passes.{Levelled}
 use Rattle.tree.proofs.Unfold.{operand-range, operand-most, tree-zero, tree-past, unfolds, levels-most}
 

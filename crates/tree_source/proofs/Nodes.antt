@@ -1,12 +1,11 @@
 -- A node's six numbers are those of its cells. Assumes nothing.
-use mathlib.Core.Path.{_≡_, refl, sym, ap, _∙_}
+use mathlib.Core.Path.{_≡_, ap, _∙_}
 use mathlib.Core.Bool.{true, _||_}
-use mathlib.Core.List.{List, [], _∷_}
-use Prim.Native.Nat.{ℕ, zero, suc, _+_, _*_, _-_, _≤_, _<_}
+use mathlib.Core.List.{List, _∷_}
+use Prim.Native.Nat.{ℕ, _+_, _-_, _≤_, _<_}
 use native.Mathlib.Omega.{arith}
 use lib.Dec.{eqb, ltb}
 use lib.ListN.{length, getD}
-use Rattle.file_numbers.specs.declared.Number.{Number}
 use Rattle.file_numbers.specs.declared.Number.the-variants.{Malformed, Value}
 use Rattle.file_numbers.specs.Standing.{standsAt}
 use Rattle.tree.specs.Sizes.{nodeCells}

@@ -1,5 +1,5 @@
 -- `file_loader::check` meets its contract. Assumes nothing.
-use mathlib.Core.Path.{_≡_, sym, _∙_}
+use mathlib.Core.Path.{sym}
 use Rattle.laws.proofs.Calls.{free}
 use Rattle.file_loader.proofs.Files.{too-long, bad-header, begun}
 use borrow.Author.Needs.{needs}

@@ -1,5 +1,4 @@
 -- `file_loader::check_large` meets its contract. Assumes nothing.
-use native.Mathlib.Omega.{arith}
 use borrow.Author.Needs.{needs}
 use Rattle.file_loader.proofs.check_large.Statement.{statement}
 use Rattle.file_loader.proofs.check_large.Tie as tie

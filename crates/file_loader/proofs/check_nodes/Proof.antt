@@ -1,8 +1,6 @@
 -- `file_loader::check_nodes` meets its contract. Assumes nothing.
-use mathlib.Core.Path.{_≡_, sym, _∙_}
+use mathlib.Core.Path.{sym, _∙_}
 use Rattle.laws.proofs.Calls.{free}
-use Rattle.tree_rules.proofs.Count.{count-fits}
-use Rattle.file_loader.specs.Reads.{Counted}
 use Rattle.file_loader.proofs.Files.{bad-context, bad-count, after-count, to-body}
 use Rattle.file_loader.proofs.check_nodes.Statement.{statement}
 use Rattle.file_loader.proofs.check_nodes.Tie as tie

@@ -1,5 +1,5 @@
 -- `file_loader::load` meets its contract. Assumes nothing.
-use mathlib.Core.Path.{_≡_, sym, _∙_}
+use mathlib.Core.Path.{sym, _∙_}
 use Rattle.laws.proofs.Calls.{free}
 use Rattle.file_loader.proofs.Files.{refused, no-bad-header, stored-room, stored-formed, stored}
 use borrow.Author.Needs.{needs}

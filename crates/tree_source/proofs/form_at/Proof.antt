@@ -1,5 +1,5 @@
 -- `tree_source::form_at` meets its contract. Assumes nothing.
-use mathlib.Core.Path.{_≡_, sym, _∙_}
+use mathlib.Core.Path.{sym, _∙_}
 use native.Mathlib.Omega.{arith}
 use Rattle.laws.proofs.Calls.{free}
 use Rattle.tree_source.specs.Source.{skip}

@@ -1,5 +1,4 @@
 -- `tree_source::is_short` meets its contract. Assumes nothing.
-use mathlib.Core.Path.{_≡_}
 use Rattle.tree_source.proofs.Cells.{cells-table, short-file}
 use borrow.Author.Needs.{needs}
 use Rattle.tree_source.proofs.is_short.Statement.{statement}

@@ -1,7 +1,7 @@
 -- `tree_source::node_at` meets its contract. Assumes nothing.
-use mathlib.Core.Path.{_≡_, sym, _∙_}
+use mathlib.Core.Path.{sym, _∙_}
 use Rattle.laws.proofs.Calls.{free}
-use Rattle.tree_source.proofs.Cells.{cells-table, cell-outside, inside}
+use Rattle.tree_source.proofs.Cells.{cells-table, inside}
 use Rattle.tree_source.proofs.Nodes.{file-node, no-node}
 use Rattle.tree_source.proofs.node_at.Statement.{statement}
 use Rattle.tree_source.proofs.node_at.Tie as tie

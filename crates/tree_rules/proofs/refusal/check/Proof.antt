@@ -1,5 +1,5 @@
 -- `tree_rules::refusal::check` meets its contract. Assumes nothing.
-use mathlib.Core.Path.{_≡_, sym, _∙_}
+use mathlib.Core.Path.{sym, _∙_}
 use borrow.Author.Tests.{lt-ltb, le-ltb}
 use Rattle.laws.proofs.Calls.{free}
 use Rattle.tree_rules.specs.Refusals.{refusal3, refusal}

@@ -15,7 +15,6 @@ use Rattle.tree_source.specs.Nodes.{NodeAt}
 use Rattle.tree_rules.specs.Refusals.{misplaced, badOrder}
 use Rattle.tree_rules.specs.Passes.{Counted}
 use Rattle.tree_rules.proofs.Owners.{length-counted, room-first, room-second, counted-more}
-use borrow.Author.Needs.{needs}
 use Rattle.tree_rules.proofs.refusal.count_owners.Statement.{statement}
 use Rattle.tree_rules.proofs.refusal.count_owners.Tie as tie
 

@@ -1,5 +1,5 @@
 -- `tree_rules::refusal::find_refusal` meets its contract. Assumes nothing.
-use mathlib.Core.Path.{_≡_, sym, _∙_}
+use mathlib.Core.Path.{sym, _∙_}
 use Rattle.laws.proofs.Calls.{free}
 use Rattle.tree_rules.specs.Refusals.{nodeRefusals, refusal6, refusal9, refusal10}
 use Rattle.tree_rules.specs.Passes.{breaks}

@@ -1,5 +1,4 @@
 -- `tree_rules::refusal::has_few_wrong_owners` meets its contract. Assumes nothing.
-use native.Mathlib.Omega.{arith}
 use Rattle.tree_rules.proofs.Owners.{counted-none}
 use borrow.Author.Needs.{needs}
 use Rattle.tree_rules.proofs.refusal.has_few_wrong_owners.Statement.{statement}

@@ -1,7 +1,6 @@
 -- `tree_rules::refusal::has_many_wrong_owners` meets its contract. Assumes nothing.
 use Prim.Native.Nat.{_+_}
 use Rattle.tree.specs.Sizes.{mostNodes}
-use native.Mathlib.Omega.{arith}
 use Rattle.tree_rules.proofs.Owners.{counted-none}
 use borrow.Author.Needs.{needs}
 use Rattle.tree_rules.proofs.refusal.has_many_wrong_owners.Statement.{statement}

@@ -10,7 +10,6 @@ use Rattle.tree_source.specs.Source.{cellsOf}
 use Rattle.tree_rules.specs.Refusals.{badOwner, refusal8}
 use Rattle.tree_rules.specs.Passes.{Counted}
 use Rattle.tree_rules.proofs.Owners.{owned-badly}
-use borrow.Author.Needs.{needs}
 use Rattle.tree_rules.proofs.refusal.has_wrong_owners.Statement.{statement}
 use Rattle.tree_rules.proofs.refusal.has_wrong_owners.Tie as tie
 

@@ -1,5 +1,4 @@
 -- `tree_rules::refusal::levels_at` meets its contract. Assumes nothing.
-use mathlib.Core.Path.{_≡_, sym, ap, _∙_}
 use native.Mathlib.Omega.{arith}
 use Rattle.laws.proofs.Calls.{free}
 use Rattle.tree_rules.proofs.Depth.{operand-cell, levels-from, levels-fit}
