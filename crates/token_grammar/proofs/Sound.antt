@@ -5,13 +5,13 @@ use mathlib.Core.List.{List, _∷_}
 use Prim.Native.Nat.{ℕ, zero, suc, _≤_}
 use native.Mathlib.Omega.{arith}
 use Rattle.laws.proofs.Choice.{and-true, true-not-false}
-use Rattle.token_grammar.specs.Tokens.{Token, operator, As, Name, Dot, LeftParen, RightParen, LeftBracket, RightBracket, Comma, Question}
+use Rattle.token_grammar.specs.Tokens.{Token, operator, As, Name, Dot, LeftParen, RightParen, LeftBracket, RightBracket, Question}
 use Rattle.token_grammar.specs.Levels.{prefixes, kind, after}
 use Rattle.token_grammar.specs.Bounds.{loosest}
 use Rattle.token_grammar.specs.Types.{Sort, one, list, items}
-use Rattle.token_grammar.specs.Expressions.{Atom, Member, byName, byNumber, awaited, Expr, atom, paren, prefix, binary, cast, member, try, index, call, method, noArguments, arguments, lastArgument, moreArguments, prefixToken, memberToken, write}
+use Rattle.token_grammar.specs.Expressions.{Atom, Member, byName, byNumber, awaited, Expr, atom, paren, prefix, binary, cast, member, try, index, call, method, noArguments, arguments, moreArguments, prefixToken, memberToken, write}
 use Rattle.token_grammar.specs.Grammar.{Context, NONE, AtLeast, excluded, fits}
-use Rattle.token_grammar.specs.Parser.{Out, fail, ok, then, tail, isFirst, Start, noStart, anAtom, aPrefix, aGroup, start, AfterDot, noMember, aMember, afterDot, isByName, memberSymbol, next, AfterItem, closes, another, noItem, afterItem, behind, goesOn, typeBy, exprBy, onBy, argumentsBy, someArgumentsBy}
+use Rattle.token_grammar.specs.Parser.{Out, fail, ok, then, tail, isFirst, Start, noStart, anAtom, aPrefix, aGroup, start, AfterDot, noMember, aMember, afterDot, isByName, memberSymbol, next, AfterItem, closes, another, noItem, afterItem, goesOn, typeBy, exprBy, onBy, argumentsBy, someArgumentsBy}
 use Rattle.token_grammar.specs.Next.{Next, stops, operates, castsTo, dots, calls, indexes, tries, levelAt}
 use Rattle.token_grammar.proofs.FirstTokens.{first-is, start-is, after-dot-is, next-is, after-item-is}
 use Rattle.token_grammar.proofs.Levels.{after-high}

@@ -7,7 +7,7 @@ use native.Mathlib.Omega.{arith}
 use lib.Dec.{T, eqb, leb, ltb, eqb→eq, leb→le, ltb→lt}
 use lib.ListN.{getD, length}
 use borrow.Author.Tests.{eqb-true, eq-eqb, le-leb}
-use Rattle.laws.proofs.Choice.{true-not-false, true-of, of-true, and-true, or-here}
+use Rattle.laws.proofs.Choice.{true-not-false, true-of, of-true, and-true}
 use Rattle.laws.proofs.Each.{all-at}
 use Rattle.tree.specs.Sizes.{lastCode, listEnd}
 use Rattle.token_grammar.specs.Tokens.{Operator, Add, Sub, Mul, Div, Rem, And, Or, BitXor, BitAnd, BitOr, Shl, Shr, Eq, Lt, Le, Ne, Ge, Gt, AddAssign, SubAssign, MulAssign, DivAssign, RemAssign, BitXorAssign, BitAndAssign, BitOrAssign, ShlAssign, ShrAssign, Assign, number, Token, operator, code, Bang, AndMut, As, Name, Literal, Dot, LeftParen, RightParen, LeftBracket, RightBracket, Comma, Question, StarConst, StarMut, Underscore, NumberedMember, Await, Struct, allOperators, operatorOf, symbolOf, carries, cellsOf}

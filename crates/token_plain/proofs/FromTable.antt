@@ -9,10 +9,9 @@ use lib.Dec.{eqb, leb}
 use borrow.Author.Tests.{eqb-true, leb-true, ne-eqb, not-false}
 use mir.Val.{hasKey}
 use Rattle.laws.specs.Choice.{pick, lookup, isOneOf}
-use Rattle.laws.specs.Each.{some}
 use Rattle.laws.proofs.Choice.{and-true, true-not-false, pick-false}
 use Rattle.laws.proofs.Each.{some-none}
-use Rattle.tree_places.specs.declared.place.Place.the-variants.{Nothing, Required, List as ListOf, Item, Next}
+use Rattle.tree_places.specs.declared.place.Place.the-variants.{Required, List as ListOf, Item, Next}
 use Rattle.tree.specs.Forms.{ExprAssign, ExprAwait, ExprBinary, ExprCall, ExprCast, ExprField, ExprIndex, ExprLit, ExprMethodCall, ExprParen, ExprPath, ExprReference, ExprStruct, ExprTry, ExprUnary, TypeInfer, TypeNever, TypePath, TypePtr, TypeReference, Link, anExpression, aType, aLink, classOf, highestAttributes, details, highestDetail, symbols, highestSymbol, allowed}
 use Rattle.tree.specs.Table.{formAt, attributesAt, detailAt, firstAt, secondAt, symbolAt, classAt}
 use Rattle.tree.specs.Trees.{Label, Tree, none, node, labelAt, treeAt}
@@ -21,8 +20,8 @@ use Rattle.tree_rules.specs.Refusals.{Accepted}
 use Rattle.tree.proofs.Unfold.{tree-zero, unfolds}
 use Rattle.tree_rules.proofs.Accepted.{Within, Fits, count-bounds, root-expression, numbers-allowed, first-fits, second-fits, first-operand, second-operand}
 use Rattle.token_grammar.specs.Tokens.{Operator, number, Assign, operatorOf}
-use Rattle.token_grammar.specs.Types.{one, list, items, TypePrefix, constPtr, mutPtr, sharedRef, mutRef, TypeSign, infer, never, Ty, named, applied, pointing, sign, noTypes, types, lastType, moreTypes}
-use Rattle.token_grammar.specs.Expressions.{Atom, path, literal, structure, Prefix, neg, deref, invert, ref, refMut, Member, byName, byNumber, awaited, Expr, atom, paren, prefix, binary, cast, member, try, index, call, method, noArguments, arguments, lastArgument, moreArguments}
+use Rattle.token_grammar.specs.Types.{one, list, items, TypePrefix, constPtr, mutPtr, sharedRef, mutRef, infer, never, Ty, named, applied, pointing, sign, noTypes, types, lastType, moreTypes}
+use Rattle.token_grammar.specs.Expressions.{Atom, path, literal, structure, neg, deref, invert, ref, refMut, byName, byNumber, awaited, Expr, atom, paren, prefix, binary, cast, member, try, index, call, method, noArguments, arguments, lastArgument, moreArguments}
 use Rattle.token_grammar.proofs.Tokens.{number-operator}
 use Rattle.token_plain.specs.Plain.{plainExpressions, plainTypes, isPlain, plainTable}
 use Rattle.token_plain.specs.Trees.{labelWith, label, operatorLabel, treeOf, treeOfType}

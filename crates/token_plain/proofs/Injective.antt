@@ -1,16 +1,16 @@
 -- Expressions are told apart by their trees, but for commas after last items: the way back from a tree. Assumes nothing.
 use mathlib.Core.Path.{_≡_, refl, sym, ap, ap₂, _∙_}
 use mathlib.Core.Bool.{Bool, true, false}
-use mathlib.Core.List.{List, [], _∷_}
-use Prim.Native.Nat.{ℕ, _-_}
+use mathlib.Core.List.{[], _∷_}
+use Prim.Native.Nat.{_-_}
 use lib.Dec.{eqb}
 use borrow.Author.Tests.{eqb-true}
-use Rattle.laws.specs.Choice.{Line, line, lookup, pick}
-use Rattle.tree.specs.Forms.{ExprAssign, ExprAwait, ExprBinary, ExprCall, ExprCast, ExprField, ExprIndex, ExprLit, ExprMethodCall, ExprParen, ExprPath, ExprReference, ExprStruct, ExprTry, ExprUnary, TypeInfer, TypeNever, TypePath, TypePtr, TypeReference}
+use Rattle.laws.specs.Choice.{line, lookup, pick}
+use Rattle.tree.specs.Forms.{ExprAssign, ExprAwait, ExprBinary, ExprCall, ExprCast, ExprField, ExprIndex, ExprLit, ExprMethodCall, ExprParen, ExprReference, ExprStruct, ExprTry, ExprUnary, TypeInfer, TypePath, TypePtr, TypeReference}
 use Rattle.tree.specs.Trees.{Label, Tree, none, node}
 use Rattle.token_grammar.specs.Tokens.{Operator, number, Assign, operatorOf}
-use Rattle.token_grammar.specs.Types.{Sort, one, list, items, TypePrefix, constPtr, mutPtr, sharedRef, mutRef, TypeSign, infer, never, Ty, named, applied, pointing, sign, noTypes, types, lastType, moreTypes}
-use Rattle.token_grammar.specs.Expressions.{Atom, path, literal, structure, Prefix, neg, deref, invert, ref, refMut, Member, byName, byNumber, awaited, Expr, atom, paren, prefix, binary, cast, member, try, index, call, method, noArguments, arguments, lastArgument, moreArguments}
+use Rattle.token_grammar.specs.Types.{Sort, one, list, items, constPtr, mutPtr, sharedRef, mutRef, infer, never, Ty, named, applied, pointing, sign, noTypes, types, lastType, moreTypes}
+use Rattle.token_grammar.specs.Expressions.{path, literal, structure, neg, deref, invert, ref, refMut, byName, byNumber, awaited, Expr, atom, paren, prefix, binary, cast, member, try, index, call, method, noArguments, arguments, lastArgument, moreArguments}
 use Rattle.token_grammar.specs.Commas.{withoutTypeCommas, withoutCommas}
 use Rattle.token_grammar.proofs.Tokens.{operator-number}
 use Rattle.token_plain.specs.Trees.{label, operatorLabel, treeOf, treeOfType}

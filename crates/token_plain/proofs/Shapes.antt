@@ -1,10 +1,10 @@
 -- The shape of a parse tree's tree is the tree of its shape. Assumes nothing.
-use mathlib.Core.Path.{_≡_, refl, ap, ap₂, _∙_}
+use mathlib.Core.Path.{_≡_, refl}
 use mathlib.Core.Bool.{Bool, true, false}
 use lib.Dec.{eqb}
 use Rattle.laws.specs.Choice.{pick}
-use Rattle.tree.specs.Forms.{ExprAssign, ExprBinary, ExprCall, ExprCast, ExprIndex, ExprMethodCall, ExprParen, ExprTry, TypePath, Link}
-use Rattle.tree.specs.Trees.{Label, Tree, none, node}
+use Rattle.tree.specs.Forms.{ExprAssign, ExprBinary}
+use Rattle.tree.specs.Trees.{Label, Tree, node}
 use Rattle.tree.specs.Erase.{unnamed, erase}
 use Rattle.token_grammar.specs.Tokens.{Operator, Assign, number}
 use Rattle.token_grammar.specs.Types.{Sort, TypePrefix, constPtr, mutPtr, sharedRef, mutRef, TypeSign, infer, never, Ty, named, applied, pointing, sign, noTypes, types, lastType, moreTypes}

@@ -6,7 +6,6 @@ use Prim.Native.Nat.{ℕ, zero, suc, _+_, _-_, _≤_, _<_}
 use native.Mathlib.Omega.{arith}
 use native.Mathlib.Decide.{decLe}
 use Rattle.laws.specs.Choice.{isOneOf}
-use Rattle.tree.specs.Sizes.{listEnd}
 use Rattle.tree.specs.Forms.{ExprAwait, ExprCall, ExprCast, ExprIndex, ExprMethodCall, ExprStruct, ExprTry, Link}
 use Rattle.tree.specs.Trees.{Tree, none, node}
 use Rattle.token_grammar.specs.Tokens.{Token, As, Dot, LeftParen, RightParen, LeftBracket, RightBracket, Comma, Question, Await, code, operatorOf, carries}

@@ -1,21 +1,20 @@
 -- What a plain owner in contexts 0 and 3 hands to each of its operands: a calm context, the flag of `<` and `<<`, and the pair that strength and the context ask for. Assumes nothing.
 use mathlib.Core.Path.{_≡_, refl, sym, subst, ap, _∙_}
 use mathlib.Core.Bool.{Bool, true, false, _||_}
-use mathlib.Core.List.{List, [], _∷_}
 use Prim.Native.Nat.{ℕ, _≤_, _<_}
 use native.Mathlib.Omega.{arith}
 use lib.Dec.{ltb}
 use borrow.Author.Tests.{le-ltb}
 use Rattle.laws.specs.Choice.{pick, lookup}
 use Rattle.laws.proofs.Choice.{true-not-false}
-use Rattle.tree.specs.Forms.{ExprBinary, Link}
+use Rattle.tree.specs.Forms.{Link}
 use Rattle.tree.specs.Trees.{Tree, node}
 use Rattle.precedence.specs.declared.Precedence.{Precedence}
 use Rattle.precedence.specs.declared.Precedence.the-variants as rank
 use Rattle.precedence.specs.declared.Lean.the-variants.{Right}
 use Rattle.precedence.specs.Precedences.{rankOf, below, binopBinding, ofBinop}
 use Rattle.fixup.specs.declared.context.FixupContext.{FixupContext}
-use Rattle.fixup.specs.Contexts.{NONE, withOperator, withDot, rightmost}
+use Rattle.fixup.specs.Contexts.{NONE}
 use Rattle.fixup_scan.specs.Scans.{scanned}
 use Rattle.fixup_subexpression.specs.Subexpressions.{leftmostWithOperator, leftmostWithDot, rightmostOperand}
 use Rattle.expr.specs.declared.Handed.{Handed}
@@ -24,7 +23,7 @@ use Rattle.expr.specs.Expr.{canBeginExpr, canBeginGenerics, leftNeedsGroup, rig
 use Rattle.row.specs.Rows.{outerPair}
 use Rattle.token_grammar.specs.Tokens.{Operator, number}
 use Rattle.token_grammar.specs.Tokens as token
-use Rattle.token_grammar.specs.Levels.{kind, level, before, after, casts, prefixes, postfixes}
+use Rattle.token_grammar.specs.Levels.{kind, before, after, casts, prefixes, postfixes}
 use Rattle.token_grammar.specs.Types.{one, list, Ty}
 use Rattle.token_grammar.specs.Expressions.{Prefix, neg, deref, invert, ref, refMut, Member, byName, byNumber, awaited, Expr, paren, prefix, binary, cast, member, try, index, call, method, endsInDotName}
 use Rattle.token_grammar.specs.Grammar.{Context, opensArguments, excluded}

@@ -1,29 +1,27 @@
 -- With the pair of one row left out, a plain tree in context 0 or 3 writes what the grammar's pairs without one of them do. Assumes nothing.
 use mathlib.Core.Path.{_≡_, refl, sym, subst, ap, ap₂, _∙_}
 use mathlib.Core.Bool.{Bool, true, false}
-use mathlib.Core.List.{List, [], _∷_, _++_}
-use mathlib.Core.Logic.{_⊎_, inl, inr}
-use lib.Dec.{eqb}
+use mathlib.Core.List.{List, [], _∷_}
+use mathlib.Core.Logic.{inl, inr}
 use Rattle.laws.specs.Choice.{pick, lookup}
 use Rattle.laws.proofs.Choice.{pick-true, pick-false, true-not-false}
 use Rattle.tree.specs.Forms.{Link, classOf}
 use Rattle.tree.specs.Trees.{Label, Tree, none, node}
-use Rattle.tree.specs.Walks.{isThere}
 use Rattle.fixup.specs.declared.context.FixupContext.{FixupContext}
 use Rattle.fixup.specs.Contexts.{NONE}
 use Rattle.expr.specs.declared.Handed.{Handed}
 use Rattle.expr.specs.Handed.{neither}
 use Rattle.expr.specs.Expr.{handsFirst, handsSecond}
-use Rattle.row.specs.Rows.{isExpression, outerPair, ownContext}
+use Rattle.row.specs.Rows.{ownContext}
 use Rattle.row_walk.specs.Paths.{Branch, first, second, treeBy, handedBy}
-use Rattle.token_grammar.specs.Tokens.{Operator, Token, operator, As, Name, Dot, LeftParen, RightParen, LeftBracket, RightBracket, Comma, Question}
-use Rattle.token_grammar.specs.Types.{Sort, one, list, items, TypePrefix, constPtr, mutPtr, sharedRef, mutRef, TypeSign, infer, never, Ty, named, applied, pointing, sign, noTypes, types, lastType, moreTypes}
-use Rattle.token_grammar.specs.Expressions.{Atom, Prefix, Member, Expr, atom, paren, prefix, binary, cast, member, try, index, call, method, noArguments, arguments, lastArgument, moreArguments, atomToken, prefixToken, memberToken, write}
+use Rattle.token_grammar.specs.Tokens.{Token, operator, As, Name, Dot, LeftParen, RightParen, LeftBracket, RightBracket, Comma, Question}
+use Rattle.token_grammar.specs.Types.{Sort, one, list, items, constPtr, mutPtr, sharedRef, mutRef, infer, never, Ty, named, applied, pointing, sign, noTypes, types, lastType, moreTypes}
+use Rattle.token_grammar.specs.Expressions.{Expr, atom, paren, prefix, binary, cast, member, try, index, call, method, noArguments, arguments, lastArgument, moreArguments, prefixToken, memberToken, write}
 use Rattle.token_grammar.specs.Grammar.{Context}
 use Rattle.token_grammar.specs.Grammar as grammar
 use Rattle.token_grammar.specs.Commas.{withoutCommas}
-use Rattle.token_grammar.proofs.Added.{withPair, addPairs, PairAt, Pair, dropAt, dropPair, AnyPair, dropAny}
-use Rattle.token_plain.specs.Trees.{label, typePrefixLabel, typeSignLabel, treeOf, treeOfType}
+use Rattle.token_grammar.proofs.Added.{addPairs, PairAt, Pair, dropAt, dropPair, AnyPair, dropAny}
+use Rattle.token_plain.specs.Trees.{label, treeOf, treeOfType}
 use Rattle.token_plain.specs.Written.{Signs, signs, signLines, signsOf, within}
 use Rattle.token_rows.proofs.Contexts.{begun, Calm, calm-none}
 use Rattle.token_rows.proofs.Nodes.{facts}

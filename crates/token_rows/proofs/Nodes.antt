@@ -1,29 +1,25 @@
 -- What the crate asks of a plain node: its precedence, how the scans go on from it. Assumes nothing.
 use mathlib.Core.Path.{_≡_, refl, sym, ap, _∙_}
 use mathlib.Core.Bool.{Bool, true, false, not, _&&_}
-use mathlib.Core.List.{List, [], _∷_}
-use mathlib.Core.Logic.{_⊎_, inl, inr}
-use Prim.Native.Nat.{ℕ, _<_}
+use Prim.Native.Nat.{_<_}
 use native.Mathlib.Omega.{arith}
 use lib.Dec.{eqb}
 use borrow.Author.Tests.{eqb-true, eqb-false}
 use Rattle.laws.specs.Choice.{pick, lookup}
-use Rattle.laws.proofs.Choice.{pick-true, pick-false}
+use Rattle.laws.proofs.Choice.{pick-false}
 use Rattle.tree.specs.Forms.{classOf}
-use Rattle.tree.specs.Trees.{Label, Tree, none, node}
 use Rattle.tree.specs.Walks.{isThere, walk, follow, atRoot}
-use Rattle.precedence.specs.declared.Precedence.{Precedence}
 use Rattle.precedence.specs.declared.Precedence.the-variants as rank
 use Rattle.precedence.specs.Precedences.{rankOf, ofBinop, ofLines, closedBy, prefixAttrs, precedenceOf}
 use Rattle.classify.specs.Classify.{lastTypeInPath, pathLines, trailingPath}
 use Rattle.fixup.specs.declared.context.FixupContext.{FixupContext}
 use Rattle.fixup_look.specs.Looks.{isStruct as isStructTree, isBareReturn, isBareJump, isOpenAhead, isCastToPath}
-use Rattle.fixup.specs.Fixup.{effective, scanLeftLines, scanLeft, leftOfBinary}
+use Rattle.fixup.specs.Fixup.{effective}
 use Rattle.token_grammar.specs.Tokens.{Operator, number, operatorOf}
 use Rattle.token_grammar.specs.Tokens as token
 use Rattle.token_grammar.specs.Levels.{kind, level}
-use Rattle.token_grammar.specs.Types.{Sort, one, list, items, TypePrefix, constPtr, mutPtr, sharedRef, mutRef, TypeSign, infer, never, Ty, named, applied, pointing, sign, noTypes, types, lastType, moreTypes, typeEndsInName}
-use Rattle.token_grammar.specs.Expressions.{Atom, path, literal, structure, Prefix, neg, deref, invert, ref, refMut, Member, byName, byNumber, awaited, Expr, atom, paren, prefix, binary, cast, member, try, index, call, method, kindOf, isStruct}
+use Rattle.token_grammar.specs.Types.{one, constPtr, mutPtr, sharedRef, mutRef, infer, never, Ty, named, applied, pointing, sign, typeEndsInName}
+use Rattle.token_grammar.specs.Expressions.{path, literal, structure, neg, deref, invert, ref, refMut, byName, byNumber, awaited, Expr, atom, paren, prefix, binary, cast, member, try, index, call, method, kindOf, isStruct}
 use Rattle.token_grammar.proofs.Added.{isCastToName, strength}
 use Rattle.token_grammar.proofs.Tokens.{operator-number, number-below}
 use Rattle.token_grammar.proofs.Levels.{binop-level}

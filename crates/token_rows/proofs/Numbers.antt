@@ -1,26 +1,25 @@
 -- The tokens by node numbers and the rows in a buffer are the tokens by what is handed down, and so without one node's pair. Assumes nothing.
-use mathlib.Core.Path.{_≡_, refl, sym, subst, ap, _∙_}
-use mathlib.Core.Bool.{Bool, true, false, not, _&&_}
+use mathlib.Core.Path.{_≡_, refl, sym, ap, _∙_}
+use mathlib.Core.Bool.{Bool, true, false}
 use mathlib.Core.List.{List, [], _∷_, _++_}
-use Prim.Native.Nat.{ℕ, _+_, _*_, _-_, _≤_, _<_}
+use Prim.Native.Nat.{ℕ, _+_, _*_, _-_, _≤_}
 use native.Mathlib.Omega.{arith}
-use lib.Dec.{eqb}
-use lib.ListN.{length, getD}
+use lib.ListN.{length}
 use borrow.Author.Tests.{ne-eqb, eq-eqb}
 use Rattle.laws.specs.Choice.{pick, lookup, isOneOf}
 use Rattle.laws.proofs.Choice.{true-not-false}
 use Rattle.tree.specs.Sizes.{rowCells}
 use Rattle.tree.specs.Table.{firstColumn, secondColumn}
-use Rattle.tree.specs.Trees.{Label, Tree, none, node, operandAt, treeAt}
+use Rattle.tree.specs.Trees.{Tree, none, node, operandAt, treeAt}
 use Rattle.tree.specs.Walks.{isThere}
 use Rattle.tree_rules.specs.Refusals.{Accepted}
 use Rattle.tree_rules.proofs.Accepted.{count-bounds}
 use Rattle.expr.specs.declared.Handed.{Handed}
 use Rattle.expr.specs.Handed.{neither}
 use Rattle.expr.specs.Expr.{handsFirst, handsSecond}
-use Rattle.row.specs.Rows.{rowOf, ownContext, rowsOf}
+use Rattle.row.specs.Rows.{ownContext, rowsOf}
 use Rattle.row_walk.specs.Walk.{contexts, contextNumbered, rootHanded, placed}
-use Rattle.row_walk.specs.Paths.{Branch, first, second, numberAt, treeBy, handedBy, rowIn}
+use Rattle.row_walk.specs.Paths.{Branch, first, second, numberAt, treeBy, handedBy}
 use Rattle.row_walk.proofs.Paths.{there-at, row-at, one-path}
 use Rattle.token_grammar.specs.Tokens.{Token, LeftParen, RightParen}
 use Rattle.token_grammar.specs.Grammar.{Context, CONDITION, contextNumber}

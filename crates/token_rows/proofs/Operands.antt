@@ -1,13 +1,12 @@
 -- Left and right operands of plain owners in contexts 0 and 3: the scans change no precedence. Assumes nothing.
-use mathlib.Core.Path.{_≡_, refl, sym, ap, _∙_}
+use mathlib.Core.Path.{_≡_, refl, sym, _∙_}
 use mathlib.Core.Bool.{Bool, true, false, not, _&&_, _||_}
-use mathlib.Core.List.{List, [], _∷_}
 use Prim.Native.Nat.{ℕ, _≤_, _<_}
 use native.Mathlib.Omega.{arith}
 use lib.Dec.{eqb, leb, ltb}
-use borrow.Author.Tests.{eqb-true, eqb-false, eq-eqb, ltb-true, leb-true, le-ltb, lt-leb}
+use borrow.Author.Tests.{eqb-true, eqb-false, ltb-true, leb-true, le-ltb, lt-leb}
 use Rattle.laws.specs.Choice.{pick, lookup}
-use Rattle.laws.proofs.Choice.{pick-true, pick-false, true-not-false}
+use Rattle.laws.proofs.Choice.{pick-false, true-not-false}
 use Rattle.tree.specs.Walks.{atRoot}
 use Rattle.precedence.specs.declared.Precedence.{Precedence}
 use Rattle.precedence.specs.declared.Precedence.the-variants as rank
@@ -16,12 +15,12 @@ use Rattle.fixup.specs.declared.context.FixupContext.{FixupContext}
 use Rattle.fixup.specs.Fixup.{effective, leftOfBinary, scanLeftLines, scanLeft}
 use Rattle.fixup_scan.specs.Scans.{loose, scanned, rightBy, scanRight, rightmostPrecedence, bailsOut, leftmostPrecedence}
 use Rattle.fixup_scan.specs.Arms.{notConsume}
-use Rattle.token_grammar.specs.Tokens.{Operator, number}
+use Rattle.token_grammar.specs.Tokens.{number}
 use Rattle.token_grammar.specs.Levels.{kind, level}
 use Rattle.token_grammar.specs.Types.{one}
-use Rattle.token_grammar.specs.Expressions.{Atom, path, literal, Prefix, neg, deref, invert, ref, refMut, Member, byName, byNumber, awaited, Expr, atom, paren, prefix, binary, cast, member, try, index, call, method, kindOf}
+use Rattle.token_grammar.specs.Expressions.{Prefix, Expr, atom, paren, prefix, binary, cast, member, try, index, call, method, kindOf}
 use Rattle.token_grammar.specs.Grammar.{Context}
-use Rattle.token_grammar.proofs.Added.{isCastToName, strength}
+use Rattle.token_grammar.proofs.Added.{strength}
 use Rattle.token_grammar.proofs.Levels.{binop-level}
 use Rattle.token_plain.specs.Trees.{operatorLabel, treeOf}
 use Rattle.token_rows.proofs.Contexts.{Calm}

@@ -1,13 +1,11 @@
 -- scan_right on plain trees in contexts 0 and 3: it never fails, and of a left operand it consumes. Assumes nothing.
 use mathlib.Core.Path.{_≡_, refl, sym, subst, ap, _∙_}
 use mathlib.Core.Bool.{Bool, true, false, not, _&&_, _||_}
-use mathlib.Core.List.{List, [], _∷_}
 use Prim.Native.Nat.{ℕ, _≤_, _<_}
-use native.Mathlib.Omega.{arith}
 use lib.Dec.{T, eqb}
 use borrow.Author.Tests.{lt-ltb}
 use Rattle.laws.specs.Choice.{pick, lookup}
-use Rattle.laws.proofs.Choice.{pick-true, pick-false, true-of}
+use Rattle.laws.proofs.Choice.{pick-true, pick-false}
 use Rattle.tree.specs.Forms.{ExprBinary}
 use Rattle.tree.specs.Trees.{Label, Tree, none, node}
 use Rattle.tree.specs.Walks.{isThere, atRoot}

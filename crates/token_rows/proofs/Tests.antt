@@ -1,15 +1,13 @@
 -- The owners' grouping tests on plain operands in contexts 0 and 3: an operand gets a pair where the context excludes it or it is weaker than its place allows. Assumes nothing.
 use mathlib.Core.Path.{_≡_, refl, sym, ap, ap₂, _∙_}
-use mathlib.Core.Bool.{Bool, true, false, not, _&&_, _||_}
-use mathlib.Core.List.{List, [], _∷_}
+use mathlib.Core.Bool.{Bool, true, false, not, _||_}
 use Prim.Native.Nat.{ℕ, suc, _≤_, _<_, compare·suc-suc}
 use native.Mathlib.Omega.{arith}
-use lib.Dec.{T, eqb, leb, ltb, eqb→eq}
+use lib.Dec.{T, eqb, ltb, eqb→eq}
 use native.Mathlib.Decide.{decLe}
 use borrow.Author.Tests.{lt-ltb, le-ltb, ltb-true, ltb-false}
-use Rattle.laws.specs.Choice.{pick, lookup, isOneOf}
-use Rattle.laws.proofs.Choice.{true-not-false, alike, alike-same}
-use Rattle.tree.specs.Trees.{Tree}
+use Rattle.laws.specs.Choice.{pick, lookup}
+use Rattle.laws.proofs.Choice.{alike, alike-same}
 use Rattle.tree.specs.Walks.{atRoot}
 use Rattle.precedence.specs.declared.Precedence.{Precedence}
 use Rattle.precedence.specs.declared.Precedence.the-variants as rank
@@ -18,7 +16,7 @@ use Rattle.precedence.specs.declared.Lean.the-variants.{Left, Right, Neither}
 use Rattle.precedence.specs.Precedences.{rankOf, atMost, operators, binopBinding, ofBinop}
 use Rattle.fixup.specs.declared.context.FixupContext.{FixupContext}
 use Rattle.fixup.specs.Contexts.{withOperator, withDot, rightmost}
-use Rattle.fixup.specs.Fixup.{parenthesize, effective}
+use Rattle.fixup.specs.Fixup.{effective}
 use Rattle.fixup_scan.specs.Scans.{scanned}
 use Rattle.fixup_subexpression.specs.Subexpressions.{operand, leftmostWithOperator, leftmostWithDot, rightmostOperand}
 use Rattle.expr.specs.Handed.{groupedBy, ungrouped, neither}
@@ -28,11 +26,11 @@ use Rattle.token_grammar.specs.Tokens.{Operator, number}
 use Rattle.token_grammar.specs.Tokens as token
 use Rattle.token_grammar.specs.Levels.{kind, level, before, postfixes}
 use Rattle.token_grammar.specs.Types.{one}
-use Rattle.token_grammar.specs.Expressions.{Atom, path, literal, structure, Prefix, neg, deref, invert, ref, refMut, Member, byName, byNumber, awaited, Expr, atom, paren, prefix, binary, cast, member, try, index, call, method, kindOf, endsInDotName}
+use Rattle.token_grammar.specs.Expressions.{path, literal, structure, neg, deref, invert, ref, refMut, byName, byNumber, awaited, Expr, atom, paren, prefix, binary, cast, member, try, index, call, method, endsInDotName}
 use Rattle.token_grammar.specs.Grammar.{Context, opensArguments, excluded}
-use Rattle.token_grammar.proofs.Added.{isCastToName, strength}
+use Rattle.token_grammar.proofs.Added.{strength}
 use Rattle.token_grammar.proofs.Tokens.{ofOperators, each-operator}
-use Rattle.token_grammar.proofs.Levels.{no-range, operator-high}
+use Rattle.token_grammar.proofs.Levels.{operator-high}
 use Rattle.token_grammar.proofs.Pairs.{strength-no-range, rightLowest}
 use Rattle.token_plain.specs.Trees.{operatorLabel, treeOf}
 use Rattle.token_rows.proofs.Contexts.{begun, Calm, calm-begun, calm-parenthesize, calm-operator, calm-dot, calm-rightmost}

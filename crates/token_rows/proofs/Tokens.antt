@@ -1,26 +1,21 @@
 -- What the rows of a plain tree in context 0 or 3 write is the tree with the pairs that it needs. Assumes nothing.
 use mathlib.Core.Path.{_≡_, refl, sym, ap, _∙_}
-use mathlib.Core.Bool.{Bool, true, false, _||_}
+use mathlib.Core.Bool.{Bool, true, false}
 use mathlib.Core.List.{List, [], _∷_, _++_}
-use Prim.Native.Nat.{ℕ, _<_}
-use native.Mathlib.Omega.{arith}
 use lib.Dec.{eqb}
 use Rattle.laws.specs.Choice.{pick, lookup, isOneOf}
 use Rattle.laws.proofs.Choice.{pick-true, pick-false, true-not-false}
-use Rattle.tree.specs.Forms.{ExprBinary, Link, classOf}
+use Rattle.tree.specs.Forms.{Link, classOf}
 use Rattle.tree.specs.Trees.{Label, Tree, none, node}
-use Rattle.tree.specs.Walks.{isThere, atRoot}
 use Rattle.precedence.specs.declared.Precedence.the-variants as rank
-use Rattle.precedence.specs.Precedences.{rankOf, ofBinop}
 use Rattle.fixup.specs.declared.context.FixupContext.{FixupContext}
-use Rattle.fixup.specs.Contexts.{NONE, withOperator, withDot, rightmost}
+use Rattle.fixup.specs.Contexts.{NONE}
 use Rattle.expr.specs.declared.Handed.{Handed}
 use Rattle.expr.specs.Handed.{neither}
 use Rattle.expr.specs.Expr.{handsFirst, handsSecond}
 use Rattle.row.specs.Rows.{isExpression, outerPair, innerPair, pairBy, expressionRow, rowOf, ownContext}
-use Rattle.token_grammar.specs.Tokens.{Operator, number, Token, operator, Lt, Gt, As, Name, Dot, LeftParen, RightParen, LeftBracket, RightBracket, Comma, Question, operatorOf}
+use Rattle.token_grammar.specs.Tokens.{Operator, Token, operator, Lt, Gt, As, Name, Dot, LeftParen, RightParen, LeftBracket, RightBracket, Comma, Question}
 use Rattle.token_grammar.specs.Tokens as token
-use Rattle.token_grammar.specs.Levels.{kind, level}
 use Rattle.token_grammar.specs.Types.{Sort, one, list, items, TypePrefix, constPtr, mutPtr, sharedRef, mutRef, TypeSign, infer, never, Ty, named, applied, pointing, sign, noTypes, types, lastType, moreTypes, typePrefixToken, typeSignToken, writeType}
 use Rattle.token_grammar.specs.Expressions.{Atom, path, literal, structure, Prefix, neg, deref, invert, ref, refMut, Member, byName, byNumber, awaited, Expr, atom, paren, prefix, binary, cast, member, try, index, call, method, noArguments, arguments, lastArgument, moreArguments, atomToken, prefixToken, memberToken, write}
 use Rattle.token_grammar.specs.Grammar.{Context}

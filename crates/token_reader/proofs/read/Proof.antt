@@ -1,5 +1,4 @@
 -- `token_reader::read` meets its contract. Assumes nothing.
-use Rattle.laws.proofs.Calls.{free}
 use borrow.Author.Needs.{needs}
 use Rattle.token_reader.proofs.Whole.{answers-above, answers-none, answers-condition, answers-between}
 use Rattle.token_reader.proofs.read.Statement.{statement}

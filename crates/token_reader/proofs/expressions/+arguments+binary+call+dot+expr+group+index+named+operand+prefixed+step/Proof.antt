@@ -8,8 +8,8 @@ use borrow.Author.Needs.{needs}
 use Rattle.laws.specs.Choice.{isOneOf}
 use Rattle.laws.proofs.Keys.{arm, rest}
 use Rattle.laws.proofs.Calls.{free, given-at, given-below}
-use Rattle.token_grammar.specs.Tokens.{Sub, Mul, BitAnd, number, Bang, AndMut, As, Name, Literal, Dot, LeftParen, RightParen, LeftBracket, RightBracket, Comma, Question, NumberedMember, Await, Struct, code}
-use Rattle.token_grammar.specs.Expressions.{path, literal, neg, deref, invert, ref, refMut, byNumber, awaited}
+use Rattle.token_grammar.specs.Tokens.{Sub, Mul, BitAnd, number, Bang, AndMut, As, Name, Literal, Dot, LeftParen, RightParen, LeftBracket, RightBracket, Question, NumberedMember, Await, code}
+use Rattle.token_grammar.specs.Expressions.{path, literal, neg, deref, invert, ref, refMut, byNumber}
 use Rattle.token_grammar.specs.Codes.{tokenSymbolAt}
 use Rattle.token_grammar.specs.Parser.{noStart, startLines, startBy, noMember, afterDotLines, afterDotBy}
 use Rattle.token_reader.specs.Tables.{goesOnWith}
