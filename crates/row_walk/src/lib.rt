@@ -155,7 +155,7 @@ fn root_handed(context: u16, table: &[u16], count: u16) -> Handed
     }
 }
 
-// The rows of all nodes of a table whose rules nobody checks here; where `rows` is too short for them, it stays.
+// The rows of all nodes of a table whose rules nobody checks here; where `rows` is too short for them, it stays. A node with several owners, which no accepted table has, is walked once for each path to it.
 pub fn walk(context: u16, count: u16, table: &[u16], rows: &mut [u16])
     ensures { λ _. ⌜ now (rows .exit) ≡ walkedAfter context count (now (table .entry)) (now (rows .entry)) ⌝ }
 {

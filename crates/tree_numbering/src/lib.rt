@@ -64,7 +64,7 @@ pub fn room_after(table: &[u16], count: u16, node: u16, room: u16) -> u16
     )
 }
 
-// How many nodes the longest path from a node holds, list links not counted.
+// How many nodes the longest path from a node holds, list links not counted. A node with several owners, which no accepted table has, is looked at once for each path to it.
 pub fn levels_at(table: &[u16], count: u16, node: u16) -> u16
     ensures { λ r. ⌜ r ≡ levels (treeAt (now (table .entry)) count node) ⌝ }
 {
