@@ -30,21 +30,6 @@ module _ (h : Handed) (l : Label) (a b : Tree) where
   abbrev here : Tree
   here = node l a b
 
-  -- the rows of an index depend on the index alone
-  pub index-local : l .form ≡ ExprIndex → rowsOf h here ≡ present (rowOf h here) (rowsOf (handsFirst (ownContext h here) here) a) (rowsOf (neither NONE b) b)
-  unfolding rowsOf
-  index-local e = rw (index-handed l a b (ownContext h here) e)
-
-  -- the rows of an item of a list depend on the item alone
-  pub item-local : l .form ≡ Link → rowsOf h here ≡ present (rowOf h here) (rowsOf (neither NONE a) a) (rowsOf (handsSecond (ownContext h here) here) b)
-  unfolding rowsOf
-  item-local e = rw (item-handed l a b (ownContext h here) e)
-
-  -- the rows of what stands in parentheses of the tree's own depend on it alone
-  pub paren-local : l .form ≡ ExprParen → rowsOf h here ≡ present (rowOf h here) (rowsOf (neither NONE a) a) (rowsOf (handsSecond (ownContext h here) here) b)
-  unfolding rowsOf
-  paren-local e = rw (paren-handed l a b (ownContext h here) e)
-
   own-reset : isExpression here ≡ true → outerPair h here ≡ true → ownContext h here ≡ NONE
   unfolding ownContext
   own-reset e o = rw (pick-true (pick (outerPair h here) NONE (h .fixup)) NONE e) (pick-true NONE (h .fixup) o)
