@@ -38,7 +38,7 @@ ROOTS = [
 ]
 
 # What the promises are checked against: not cited by them.
-BESIDE = ['precedence/Reference', 'row_walk/Cases']
+BESIDE = ['precedence/Reference', 'row_walk/Cases', 'sheet_edit/Cases']
 
 CRATES = Path(__file__).resolve().parent.parent / 'crates'
 GHOST_USE = re.compile(r'ghost use Rattle·(\w+)(?:·specs)?\.specs\.(\w+)\.\{([^}]*)\}')
