@@ -9,6 +9,7 @@ use Rattle.tree.specs.Trees.{Tree, none, operandOf, operandAt, treeAt}
 use Rattle.tree.specs.Walks.{atRoot}
 use Rattle.tree.proofs.Unfold.{Standing, absent, present, standing, operand-zero, tree-zero, tree-past, unfolds}
 use Rattle.fixup.specs.declared.context.FixupContext.{FixupContext}
+use Rattle.expr.specs.declared.order.CalleeOrder.{CalleeOrder}
 use Rattle.expr.specs.Expr.{handsFirst, handsSecond}
 use Rattle.expr.specs.Steps.{givenFirst, givenSecond}
 
@@ -34,9 +35,9 @@ module _ (cells : List ℕ) (count i : ℕ) where
       go (yes h) (no k) = rw (tree-past cells count i (omega arith), none-past firstColumn (omega arith), none-past secondColumn (omega arith)) gone
       go (no h) d = let z : i ≡ 0 = omega arith in rw (none-zero firstColumn z, none-zero secondColumn z, z, tree-zero cells count) gone
 
-  pub first-is : (x : FixupContext) → givenFirst x (treeAt cells count i) (treeAt cells count (operandAt cells count i firstColumn)) ≡ handsFirst x (treeAt cells count i)
+  pub first-is : (order : CalleeOrder) (x : FixupContext) → givenFirst order x (treeAt cells count i) (treeAt cells count (operandAt cells count i firstColumn)) ≡ handsFirst order x (treeAt cells count i)
   unfolding givenFirst handsFirst atRoot
-  first-is x = by-range (λ t a b. givenFirst x t a ≡ handsFirst x t) (λ h k. rw (unfolds cells count i h k)) refl
+  first-is order x = by-range (λ t a b. givenFirst order x t a ≡ handsFirst order x t) (λ h k. rw (unfolds cells count i h k)) refl
 
   pub second-is : (x : FixupContext) → givenSecond x (treeAt cells count i) (treeAt cells count (operandAt cells count i secondColumn)) ≡ handsSecond x (treeAt cells count i)
   unfolding givenSecond handsSecond atRoot

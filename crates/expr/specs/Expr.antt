@@ -1,12 +1,12 @@
 -- prettyplease's expr.rs, owner by owner: what it hands to the operand at its first place, and to the one at its second.
-use mathlib.Core.Bool.{Bool, true, false, _&&_}
+use mathlib.Core.Bool.{Bool, true, false, _&&_, _||_}
 use mathlib.Core.List.{List, [], _∷_}
 use Prim.Native.Nat.{ℕ}
 use lib.Dec.{eqb}
 use Rattle.laws.specs.Choice.{Line, line, lookup}
 use Rattle.tree.specs.Forms.{ExprAssign, ExprAwait, ExprBinary, ExprBreak, ExprCall, ExprCast, ExprClosure, ExprField, ExprGroup, ExprIndex, ExprLet, ExprMethodCall, ExprParen, ExprRange, ExprRawAddr, ExprReference, ExprReturn, ExprTry, ExprUnary, ExprYield}
 use Rattle.tree.specs.Trees.{Label, Tree, none, node}
-use Rattle.tree.specs.Walks.{atRoot}
+use Rattle.tree.specs.Walks.{Ask, answer, first, atRoot, walk}
 use Rattle.precedence.specs.declared.Precedence.{Precedence}
 use Rattle.precedence.specs.declared.Precedence.the-variants.{Jump, Range, Let, Cast, Prefix, Unambiguous}
 use Rattle.precedence.specs.declared.Lean.{Lean}
@@ -18,6 +18,8 @@ use Rattle.fixup.specs.declared.context.FixupContext.{FixupContext}
 use Rattle.fixup.specs.Contexts.{NONE}
 use Rattle.fixup_subexpression.specs.Subexpressions.{leftmostWithOperator, leftmostWithDot, rightmostOperand}
 use Rattle.expr.specs.declared.Handed.{Handed}
+use Rattle.expr.specs.declared.order.CalleeOrder.{CalleeOrder}
+use Rattle.expr.specs.declared.order.CalleeOrder.the-variants.{Crates, Ours}
 use Rattle.expr.specs.Handed.{groupedBy, subexpr, ungrouped, atEnd, neither}
 
 -- ---- operators, by level and lean
@@ -57,15 +59,24 @@ binaryLeft x a op = leftOf x a (canBeginExpr op) (canBeginGenerics op) (binopBin
 unfoldable pub binaryRight : FixupContext → Tree → ℕ → Handed
 binaryRight x b op = rightOf x b false (binopBinding op)
 
--- ---- expr_call: a Field by its member alone ("Field: 0 named, 1 numbered"), anything else by its precedence
+-- ---- expr_call, in the crate's order or in ours: document 02, Paper 9
 
-unfoldable pub callNeedsGroup : Tree → Precedence → Bool
-callNeedsGroup func left = atRoot (λ l a b. line (ExprField ∷ []) (eqb (l .detail) 0) ∷ []) (below left Unambiguous) func
+-- "the Field rule looks through Groups", whatever attributes they have: the first node below that is none is a named Field ("Field: 0 named, 1 numbered")
+unfoldable pub calleeLines : Label → Tree → Tree → List (Line (Ask Bool))
+calleeLines l a b = line (ExprField ∷ []) (answer (eqb (l .detail) 0)) ∷ line (ExprGroup ∷ []) first ∷ []
 
--- ---- the operand a at the first place. x is the owner's own context, NONE where the owner has an outer pair
+unfoldable pub namedField : Tree → Bool
+namedField t = walk calleeLines (λ l. false) false t
 
-unfoldable pub firstLines : FixupContext → Label → Tree → List (Line Handed)
-firstLines x l a =
+-- "the crate looks first at whether it is a Field", and goes by its member alone, "and only otherwise at precedence". "From now on precedence comes first, then the Field rule"
+unfoldable pub callNeedsGroup : CalleeOrder → Tree → Precedence → Bool
+callNeedsGroup Crates func left = atRoot (λ l a b. line (ExprField ∷ []) (eqb (l .detail) 0) ∷ []) (below left Unambiguous) func
+callNeedsGroup Ours func left = below left Unambiguous || namedField func
+
+-- ---- the operand a at the first place. x is the owner's own context, NONE where the owner has an outer pair; only a callee sees the order
+
+unfoldable pub firstLines : CalleeOrder → FixupContext → Label → Tree → List (Line Handed)
+firstLines order x l a =
     -- expr_assign
     line (ExprAssign ∷ []) (leftOf x a false false assigns) ∷
     -- expr_await, expr_field, expr_method_call, expr_try
@@ -75,7 +86,7 @@ firstLines x l a =
     -- expr_break: grouped where it has no label ("Break: 1 labelled") and its value's first token is one
     line (ExprBreak ∷ []) (subexpr (atEnd x a true true Jump) (eqb (l .detail) 0 && leadingLabel a)) ∷
     -- expr_call
-    line (ExprCall ∷ []) (groupedBy (leftmostWithOperator x a true false Unambiguous) (callNeedsGroup a)) ∷
+    line (ExprCall ∷ []) (groupedBy (leftmostWithOperator x a true false Unambiguous) (callNeedsGroup order a)) ∷
     -- expr_cast
     line (ExprCast ∷ []) (groupedBy (leftmostWithOperator x a false false Cast) (λ left. below left Cast)) ∷
     -- expr_closure: the body, which is a plain Block where an output is written (10)
@@ -97,9 +108,9 @@ firstLines x l a =
     []
 
 -- call_args: an item of a list. All other forms have no expression there
-unfoldable pub handsFirst : FixupContext → Tree → Handed
-handsFirst x none = neither NONE none
-handsFirst x (node l a b) = lookup (firstLines x l a) (neither NONE a) (l .form)
+unfoldable pub handsFirst : CalleeOrder → FixupContext → Tree → Handed
+handsFirst order x none = neither NONE none
+handsFirst order x (node l a b) = lookup (firstLines order x l a) (neither NONE a) (l .form)
 
 -- ---- the operand b at the second place
 

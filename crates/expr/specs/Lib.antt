@@ -1,3 +1,4 @@
+pub mod Orders
 pub mod Handed
 pub mod Expr
 pub mod Steps

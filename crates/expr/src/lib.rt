@@ -1,6 +1,11 @@
 // prettyplease's expr.rs: for each operand its precedence, the context that its owner hands down, and the owner's grouping test.
+pub mod order; // order.rt: CalleeOrder
+
+use crate::order::CalleeOrder;
 use bools::both;
+use classify::ControlFlow;
 use classify::expr_leading_label;
+use classify::go_on;
 use fixup::context::FixupContext;
 use fixup_scan::right::rightmost_subexpression_precedence;
 use fixup_subexpression::Subexpression;
@@ -14,6 +19,7 @@ use tree::columns;
 use tree::forms;
 use tree::table::cell;
 use tree::table::form_at;
+use tree::table::operand_at;
 use tree::table::operand_number;
 ghost use mathlib.Core.Path.{_≡_};
 ghost use mathlib.Core.Bool.{true, false, _&&_};
@@ -22,10 +28,12 @@ ghost use Rattle.tree.specs.Trees.{treeAt};
 ghost use Rattle.precedence.specs.declared.Precedence.the-variants.{Jump, Unambiguous};
 ghost use Rattle.precedence.specs.Precedences.{below};
 ghost use Rattle.classify.specs.Classify.{leadingLabel};
+ghost use Rattle.classify.specs.Steps.{flowBy};
 ghost use Rattle.fixup_subexpression.specs.Subexpressions.{leftmostWithOperator};
 ghost use Rattle.expr.specs.Handed.{subexpr, groupedBy, ungrouped, atEnd, neither};
-ghost use Rattle.expr.specs.Expr.{leftNeedsGroup, rightNeedsGroup, leftOf, rightOf, canBeginExpr, canBeginGenerics, binaryLeft, binaryRight, callNeedsGroup, handsFirst, handsSecond};
-ghost use Rattle.expr.specs.Steps.{givenFirst, givenSecond};
+ghost use Rattle.expr.specs.Expr.{leftNeedsGroup, rightNeedsGroup, leftOf, rightOf, canBeginExpr, canBeginGenerics, binaryLeft, binaryRight, namedField, callNeedsGroup, handsFirst, handsSecond};
+ghost use Rattle.expr.specs.declared.order.CalleeOrder.the-variants.{Crates};
+ghost use Rattle.expr.specs.Steps.{givenFirst, givenSecond, calleeStep};
 
 // What an operand gets from its owner.
 pub struct Handed {
@@ -220,9 +228,34 @@ fn break_value(fixup: FixupContext, table: &[u16], count: u16, node: u16, detail
     )
 }
 
-// expr_call: a Field by its member, anything else by its precedence.
-fn call_needs_group(table: &[u16], count: u16, func: u16, left: Precedence) -> bool
-    ensures { λ r. ⌜ r ≡ callNeedsGroup (treeAt (now (table .entry)) count func) left ⌝ }
+// A Group is looked through, a Field answers by its member.
+fn callee_step(table: &[u16], count: u16, node: u16) -> ControlFlow
+    ensures { λ r. ⌜ r ≡ flowBy (calleeStep (now (table .entry)) count node) ⌝ }
+{
+    match form_at(table, count, node) {
+        forms::EXPR_FIELD => ControlFlow::Break(cell(table, node, columns::DETAIL) == 0),
+        forms::EXPR_GROUP => go_on(false, operand_at(table, count, node, columns::FIRST)),
+        _ => ControlFlow::Break(false),
+    }
+}
+
+// The first node below that is no Group is a named Field.
+fn named_field(table: &[u16], count: u16, node: u16) -> bool
+    ensures { λ r. ⌜ r ≡ namedField (treeAt (now (table .entry)) count node) ⌝ }
+{
+    let mut at = node;
+    loop {
+        let step = callee_step(table, count, at);
+        match step {
+            ControlFlow::Break(answer) => break answer,
+            ControlFlow::Continue(next) => at = next,
+        }
+    }
+}
+
+// The crate's order: a Field by its member, anything else by its precedence.
+fn field_else_below(table: &[u16], count: u16, func: u16, left: Precedence) -> bool
+    ensures { λ r. ⌜ r ≡ callNeedsGroup Crates (treeAt (now (table .entry)) count func) left ⌝ }
 {
     match form_at(table, count, func) {
         forms::EXPR_FIELD => cell(table, func, columns::DETAIL) == 0,
@@ -230,9 +263,36 @@ fn call_needs_group(table: &[u16], count: u16, func: u16, left: Precedence) -> b
     }
 }
 
+// expr_call, in the crate's order or in ours: precedence, then the Field rule.
+fn call_needs_group(
+    order: CalleeOrder,
+    table: &[u16],
+    count: u16,
+    func: u16,
+    left: Precedence,
+) -> bool
+    ensures { λ r. ⌜ r ≡ callNeedsGroup order (treeAt (now (table .entry)) count func) left ⌝ }
+{
+    match order {
+        CalleeOrder::Crates => field_else_below(table, count, func, left),
+        CalleeOrder::Ours => {
+            if left.is_below(Precedence::Unambiguous) {
+                return true;
+            }
+            named_field(table, count, func)
+        }
+    }
+}
+
 // expr_call: what is called.
-fn call_func(fixup: FixupContext, table: &[u16], count: u16, func: u16) -> Handed
-    ensures { λ r. ⌜ r ≡ groupedBy (leftmostWithOperator fixup (treeAt (now (table .entry)) count func) true false Unambiguous) (callNeedsGroup (treeAt (now (table .entry)) count func)) ⌝ }
+fn call_func(
+    order: CalleeOrder,
+    fixup: FixupContext,
+    table: &[u16],
+    count: u16,
+    func: u16,
+) -> Handed
+    ensures { λ r. ⌜ r ≡ groupedBy (leftmostWithOperator fixup (treeAt (now (table .entry)) count func) true false Unambiguous) (callNeedsGroup order (treeAt (now (table .entry)) count func)) ⌝ }
 {
     let left = leftmost_subexpression_with_operator(
         fixup,
@@ -244,12 +304,22 @@ fn call_func(fixup: FixupContext, table: &[u16], count: u16, func: u16) -> Hande
         Precedence::Unambiguous,
     );
     let precedence = left.precedence;
-    subexpr(left, call_needs_group(table, count, func, precedence))
+    subexpr(
+        left,
+        call_needs_group(order, table, count, func, precedence),
+    )
 }
 
 // What a node hands to `operand` as the one at its first place. `fixup` is the node's own context, NONE where it has an outer pair.
-fn first_given(fixup: FixupContext, table: &[u16], count: u16, node: u16, operand: u16) -> Handed
-    ensures { λ r. ⌜ r ≡ givenFirst fixup (treeAt (now (table .entry)) count node) (treeAt (now (table .entry)) count operand) ⌝ }
+fn first_given(
+    order: CalleeOrder,
+    fixup: FixupContext,
+    table: &[u16],
+    count: u16,
+    node: u16,
+    operand: u16,
+) -> Handed
+    ensures { λ r. ⌜ r ≡ givenFirst order fixup (treeAt (now (table .entry)) count node) (treeAt (now (table .entry)) count operand) ⌝ }
 {
     match form_at(table, count, node) {
         // expr_assign
@@ -286,7 +356,7 @@ fn first_given(fixup: FixupContext, table: &[u16], count: u16, node: u16, operan
             cell(table, node, columns::DETAIL),
         ),
         // expr_call
-        forms::EXPR_CALL => call_func(fixup, table, count, operand),
+        forms::EXPR_CALL => call_func(order, fixup, table, count, operand),
         // expr_cast
         forms::EXPR_CAST => grouped_below(
             leftmost_subexpression_with_operator(
@@ -391,11 +461,18 @@ fn second_given(fixup: FixupContext, table: &[u16], count: u16, node: u16, opera
     }
 }
 
-// What the operand at the first place gets from its owner. `fixup` is the owner's own context, NONE where the owner has an outer pair.
-pub fn first_operand(fixup: FixupContext, table: &[u16], count: u16, node: u16) -> Handed
-    ensures { λ r. ⌜ r ≡ handsFirst fixup (treeAt (now (table .entry)) count node) ⌝ }
+// What the operand at the first place gets from its owner. `fixup` is the owner's own context, NONE where the owner has an outer pair; only a callee sees the order.
+pub fn first_operand(
+    order: CalleeOrder,
+    fixup: FixupContext,
+    table: &[u16],
+    count: u16,
+    node: u16,
+) -> Handed
+    ensures { λ r. ⌜ r ≡ handsFirst order fixup (treeAt (now (table .entry)) count node) ⌝ }
 {
     first_given(
+        order,
         fixup,
         table,
         count,

@@ -6,6 +6,8 @@ use lib.Dec.{eqb}
 use lib.ListN.{length, take, drop, replicate}
 use Rattle.tree.specs.Sizes.{nodeCells, rowCells, scratchCells}
 use Rattle.tree.specs.Forms.{ExprBinary, ExprBreak, ExprCall, ExprCast, ExprField, ExprGroup, ExprLoop, ExprMatch, ExprPath, ExprReturn, ExprStruct, TypePath, Link}
+use Rattle.expr.specs.declared.order.CalleeOrder.{CalleeOrder}
+use Rattle.expr.specs.declared.order.CalleeOrder.the-variants.{Ours}
 use Rattle.row_walk.specs.Walk.{decided, rowsAfter}
 
 -- what is expected of a node: its whole row, or its pair
@@ -32,7 +34,7 @@ abbrev blank : ℕ → List ℕ
 blank n = replicate n 99
 
 abbrev pub rowAt : Case → List ℕ
-rowAt k = take rowCells (drop (rowCells * (k .node - 1)) (rowsAfter (k .context) (count k) (k .cells) (blank (rowCells * count k)) (blank (scratchCells * count k))))
+rowAt k = take rowCells (drop (rowCells * (k .node - 1)) (rowsAfter Ours (k .context) (count k) (k .cells) (blank (rowCells * count k)) (blank (scratchCells * count k))))
 
 abbrev same : List ℕ → List ℕ → Bool
 same [] [] = true

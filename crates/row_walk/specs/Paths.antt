@@ -6,6 +6,7 @@ use Rattle.tree.specs.Sizes.{rowCells}
 use Rattle.tree.specs.Table.{firstColumn, secondColumn}
 use Rattle.tree.specs.Trees.{Tree, none, node, operandAt}
 use Rattle.expr.specs.declared.Handed.{Handed}
+use Rattle.expr.specs.declared.order.CalleeOrder.{CalleeOrder}
 use Rattle.expr.specs.Expr.{handsFirst, handsSecond}
 use Rattle.row.specs.declared.Row.{Row}
 use Rattle.row.specs.Rows.{ownContext}
@@ -29,11 +30,11 @@ treeBy (node l a b) (first ∷ p) = treeBy a p
 treeBy (node l a b) (second ∷ p) = treeBy b p
 
 -- what the node at a path gets, where the root gets h
-abbrev pub handedBy : Handed → Tree → List Branch → Handed
-handedBy h t [] = h
-handedBy h none (s ∷ p) = h
-handedBy h (node l a b) (first ∷ p) = handedBy (handsFirst (ownContext h (node l a b)) (node l a b)) a p
-handedBy h (node l a b) (second ∷ p) = handedBy (handsSecond (ownContext h (node l a b)) (node l a b)) b p
+abbrev pub handedBy : CalleeOrder → Handed → Tree → List Branch → Handed
+handedBy order h t [] = h
+handedBy order h none (s ∷ p) = h
+handedBy order h (node l a b) (first ∷ p) = handedBy order (handsFirst order (ownContext h (node l a b)) (node l a b)) a p
+handedBy order h (node l a b) (second ∷ p) = handedBy order (handsSecond (ownContext h (node l a b)) (node l a b)) b p
 
 -- the row in the five cells of node j
 abbrev pub rowIn : List ℕ → ℕ → Row

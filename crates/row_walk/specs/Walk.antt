@@ -1,4 +1,4 @@
--- The reply of `decide`, and what the lent buffers hold afterwards.
+-- The reply of `decide_by`, and what the lent buffers hold afterwards; `decide` is the same in our callee order.
 use mathlib.Core.Bool.{Bool, _||_}
 use mathlib.Core.List.{List, [], _∷_}
 use Prim.Native.Nat.{ℕ, _+_, _*_, _-_}
@@ -13,6 +13,7 @@ use Rattle.tree_rules.specs.Refusals.{refusal}
 use Rattle.fixup.specs.declared.context.FixupContext.{FixupContext}
 use Rattle.fixup.specs.Contexts.{NONE, newStmt, newMatchArm, newCondition}
 use Rattle.expr.specs.declared.Handed.{Handed}
+use Rattle.expr.specs.declared.order.CalleeOrder.{CalleeOrder}
 use Rattle.expr.specs.Handed.{neither}
 use Rattle.row.specs.declared.Row.{Row}
 use Rattle.row.specs.Rows.{Rows, absent, present, rowsOf}
@@ -40,14 +41,14 @@ placed cells count i absent rows = rows
 placed cells count i (present r a b) rows =
     placed cells count (operandAt cells count i secondColumn) b (placed cells count (operandAt cells count i firstColumn) a (rowStored i r rows))
 
--- the rows of a tree under a context, in the cells of the nodes that a table gives it
-abbrev pub treeRows : ℕ → ℕ → Tree → List ℕ → List ℕ → List ℕ
-treeRows context count t cells rows = placed cells count 1 (rowsOf (rootHanded context t) t) rows
+-- the rows of a tree under a callee order and a context, in the cells of the nodes that a table gives it
+abbrev pub treeRows : CalleeOrder → ℕ → ℕ → Tree → List ℕ → List ℕ → List ℕ
+treeRows order context count t cells rows = placed cells count 1 (rowsOf order (rootHanded context t) t) rows
 
 -- those of the table's own tree. "Cells past the answer keep theirs"; rows that are too short are kept whole
-unfoldable pub walkedAfter : ℕ → ℕ → List ℕ → List ℕ → List ℕ
-walkedAfter context count cells rows =
-    pick (ltb (length rows) (rowCells * count)) rows (treeRows context count (treeAt cells count 1) cells rows)
+unfoldable pub walkedAfter : CalleeOrder → ℕ → ℕ → List ℕ → List ℕ → List ℕ
+walkedAfter order context count cells rows =
+    pick (ltb (length rows) (rowCells * count)) rows (treeRows order context count (treeAt cells count 1) cells rows)
 
 -- 12. "A lent buffer is too short: five cells a node for rows, three for the walk's scratch"
 unfoldable pub decideRefusal12 : ℕ → ℕ → ℕ → Bool
@@ -59,11 +60,11 @@ decided context count cells rows scratch =
     pick (eqb (refusal context count cells) 0) (pick (decideRefusal12 count rows scratch) 12 0) (refusal context count cells)
 
 -- the rows afterwards. "Otherwise .. every lent buffer keeps its contents. On 0, cells past the answer keep theirs."
-unfoldable pub rowsAfter : ℕ → ℕ → List ℕ → List ℕ → List ℕ → List ℕ
-rowsAfter context count cells rows scratch =
+unfoldable pub rowsAfter : CalleeOrder → ℕ → ℕ → List ℕ → List ℕ → List ℕ → List ℕ
+rowsAfter order context count cells rows scratch =
     pick
     (eqb (decided context count cells (length rows) (length scratch)) 0)
-    (treeRows context count (treeAt cells count 1) cells rows)
+    (treeRows order context count (treeAt cells count 1) cells rows)
     rows
 
 -- the scratch afterwards. "On 0 the walk's scratch holds zeros in the three cells of each node."

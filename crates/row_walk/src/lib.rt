@@ -1,6 +1,7 @@
 // The rows of all nodes of an accepted tree.
 use expr::Handed;
 use expr::first_operand;
+use expr::order::CalleeOrder;
 use expr::second_operand;
 use fixup::context::FixupContext;
 use row::Row;
@@ -20,6 +21,7 @@ ghost use lib.ListN.{length, replicate};
 ghost use Rattle.laws.specs.Lists.{over};
 ghost use Rattle.tree.specs.Sizes.{rowCells};
 ghost use Rattle.tree.specs.Trees.{treeAt};
+ghost use Rattle.expr.specs.declared.order.CalleeOrder.the-variants.{Ours};
 ghost use Rattle.row.specs.Rows.{zeros, rowsOf};
 ghost use Rattle.row_walk.specs.Steps.{placedFirst, placedBelow, placedAlone};
 ghost use Rattle.row_walk.specs.Walk.{contextNumbered, rootHanded, rowStored, placed, walkedAfter, decided, rowsAfter, scratchAfter};
@@ -51,35 +53,50 @@ fn store(rows: &mut [u16], node: u16, row: Row)
 }
 
 // The rows of a node and of all below it.
-fn walk_from(handed: Handed, table: &[u16], count: u16, node: u16, rows: &mut [u16])
+fn walk_from(
+    order: CalleeOrder,
+    handed: Handed,
+    table: &[u16],
+    count: u16,
+    node: u16,
+    rows: &mut [u16],
+)
     requires { ⌜ rowCells * count ≤ length (now rows) ⌝ }
-    ensures { λ _. ⌜ now (rows .exit) ≡ placed (now (table .entry)) count node (rowsOf handed (treeAt (now (table .entry)) count node)) (now (rows .entry)) ⌝ }
+    ensures { λ _. ⌜ now (rows .exit) ≡ placed (now (table .entry)) count node (rowsOf order handed (treeAt (now (table .entry)) count node)) (now (rows .entry)) ⌝ }
 {
     if class_of(form_at(table, count, node)) != 1 {
-        walk_alone(table, count, node, rows);
+        walk_alone(order, table, count, node, rows);
         return;
     }
     let decision = decision_of(handed, table, count, node);
     let row = decision.row;
     store(rows, node, row);
     if decision.outer {
-        walk_operands(FixupContext::none(), table, count, node, rows);
+        walk_operands(order, FixupContext::none(), table, count, node, rows);
         return;
     }
     let own = handed.fixup;
-    walk_operands(own, table, count, node, rows);
+    walk_operands(order, own, table, count, node, rows);
 }
 
 // The rows below a node that is there, printed in a context of its own. "An absent operand ends the question before anything else".
-fn walk_operands(own: FixupContext, table: &[u16], count: u16, node: u16, rows: &mut [u16])
+fn walk_operands(
+    order: CalleeOrder,
+    own: FixupContext,
+    table: &[u16],
+    count: u16,
+    node: u16,
+    rows: &mut [u16],
+)
     requires { ⌜ (1 ≤ node) × (node ≤ count) × (rowCells * count ≤ length (now rows)) ⌝ }
-    ensures { λ _. ⌜ now (rows .exit) ≡ placedBelow own (now (table .entry)) count node (now (rows .entry)) ⌝ }
+    ensures { λ _. ⌜ now (rows .exit) ≡ placedBelow order own (now (table .entry)) count node (now (rows .entry)) ⌝ }
 {
-    walk_first(own, table, count, node, rows);
+    walk_first(order, own, table, count, node, rows);
     let Operand::Present(operand) = operand_at(table, count, node, columns::SECOND) else {
         return;
     };
     walk_from(
+        order,
         second_operand(own, table, count, node),
         table,
         count,
@@ -89,15 +106,23 @@ fn walk_operands(own: FixupContext, table: &[u16], count: u16, node: u16, rows: 
 }
 
 // The rows of its first operand and below. What an absent operand would get is not worked out.
-fn walk_first(own: FixupContext, table: &[u16], count: u16, node: u16, rows: &mut [u16])
+fn walk_first(
+    order: CalleeOrder,
+    own: FixupContext,
+    table: &[u16],
+    count: u16,
+    node: u16,
+    rows: &mut [u16],
+)
     requires { ⌜ (1 ≤ node) × (node ≤ count) × (rowCells * count ≤ length (now rows)) ⌝ }
-    ensures { λ _. ⌜ now (rows .exit) ≡ placedFirst own (now (table .entry)) count node (now (rows .entry)) ⌝ }
+    ensures { λ _. ⌜ now (rows .exit) ≡ placedFirst order own (now (table .entry)) count node (now (rows .entry)) ⌝ }
 {
     let Operand::Present(operand) = operand_at(table, count, node, columns::FIRST) else {
         return;
     };
     walk_from(
-        first_operand(own, table, count, node),
+        order,
+        first_operand(order, own, table, count, node),
         table,
         count,
         operand,
@@ -106,9 +131,9 @@ fn walk_first(own: FixupContext, table: &[u16], count: u16, node: u16, rows: &mu
 }
 
 // The same as `walk_from` for what no owner tests, in NONE: items, types and links, a list in a loop. Number 0 stands for an operand that is absent.
-fn walk_alone(table: &[u16], count: u16, node: u16, rows: &mut [u16])
+fn walk_alone(order: CalleeOrder, table: &[u16], count: u16, node: u16, rows: &mut [u16])
     requires { ⌜ rowCells * count ≤ length (now rows) ⌝ }
-    ensures { λ _. ⌜ now (rows .exit) ≡ placedAlone (now (table .entry)) count node (now (rows .entry)) ⌝ }
+    ensures { λ _. ⌜ now (rows .exit) ≡ placedAlone order (now (table .entry)) count node (now (rows .entry)) ⌝ }
 {
     let mut at = node;
     while 0 < at {
@@ -117,11 +142,12 @@ fn walk_alone(table: &[u16], count: u16, node: u16, rows: &mut [u16])
         }
         if class_of(form_at(table, count, at)) == 1 {
             store(rows, at, lone_row(table, count, at));
-            walk_operands(FixupContext::none(), table, count, at, rows);
+            walk_operands(order, FixupContext::none(), table, count, at, rows);
             return;
         }
         store(rows, at, no_row());
         walk_alone(
+            order,
             table,
             count,
             operand_number(table, count, at, columns::FIRST),
@@ -156,13 +182,20 @@ fn root_handed(context: u16, table: &[u16], count: u16) -> Handed
 }
 
 // The rows of all nodes of a table whose rules nobody checks here; where `rows` is too short for them, it stays. A node with several owners, which no accepted table has, is walked once for each path to it.
-pub fn walk(context: u16, count: u16, table: &[u16], rows: &mut [u16])
-    ensures { λ _. ⌜ now (rows .exit) ≡ walkedAfter context count (now (table .entry)) (now (rows .entry)) ⌝ }
+pub fn walk(order: CalleeOrder, context: u16, count: u16, table: &[u16], rows: &mut [u16])
+    ensures { λ _. ⌜ now (rows .exit) ≡ walkedAfter order context count (now (table .entry)) (now (rows .entry)) ⌝ }
 {
     if rows.len() < sizes::ROW_CELLS * (count as usize) {
         return;
     }
-    walk_from(root_handed(context, table, count), table, count, 1, rows);
+    walk_from(
+        order,
+        root_handed(context, table, count),
+        table,
+        count,
+        1,
+        rows,
+    );
 }
 
 // Zeros over the start of a buffer.
@@ -177,10 +210,17 @@ fn clear(buffer: &mut [u16], cells: usize)
     }
 }
 
-// The rows of all nodes of a table into `rows`: 0, or the first refusal that applies.
-pub fn decide(context: u16, count: u16, table: &[u16], rows: &mut [u16], scratch: &mut [u16]) -> u16
+// The rows of all nodes of a table into `rows`, in a callee order: 0, or the first refusal that applies.
+pub fn decide_by(
+    order: CalleeOrder,
+    context: u16,
+    count: u16,
+    table: &[u16],
+    rows: &mut [u16],
+    scratch: &mut [u16],
+) -> u16
     ensures reply { λ r. ⌜ r ≡ decided context count (now (table .entry)) (length (now (rows .entry))) (length (now (scratch .entry))) ⌝ }
-    ensures rows { λ r. ⌜ now (rows .exit) ≡ rowsAfter context count (now (table .entry)) (now (rows .entry)) (now (scratch .entry)) ⌝ }
+    ensures rows { λ r. ⌜ now (rows .exit) ≡ rowsAfter order context count (now (table .entry)) (now (rows .entry)) (now (scratch .entry)) ⌝ }
     ensures scratch { λ r. ⌜ now (scratch .exit) ≡ scratchAfter context count (now (table .entry)) (now (rows .entry)) (now (scratch .entry)) ⌝ }
 {
     let refused = check(context, count, table);
@@ -194,7 +234,16 @@ pub fn decide(context: u16, count: u16, table: &[u16], rows: &mut [u16], scratch
     if scratch.len() < sizes::SCRATCH_CELLS * nodes {
         return 12;
     }
-    walk(context, count, table, rows);
+    walk(order, context, count, table, rows);
     clear(scratch, sizes::SCRATCH_CELLS * nodes);
     0
+}
+
+// The same in our order.
+pub fn decide(context: u16, count: u16, table: &[u16], rows: &mut [u16], scratch: &mut [u16]) -> u16
+    ensures reply { λ r. ⌜ r ≡ decided context count (now (table .entry)) (length (now (rows .entry))) (length (now (scratch .entry))) ⌝ }
+    ensures rows { λ r. ⌜ now (rows .exit) ≡ rowsAfter Ours context count (now (table .entry)) (now (rows .entry)) (now (scratch .entry)) ⌝ }
+    ensures scratch { λ r. ⌜ now (scratch .exit) ≡ scratchAfter context count (now (table .entry)) (now (rows .entry)) (now (scratch .entry)) ⌝ }
+{
+    decide_by(CalleeOrder::Ours, context, count, table, rows, scratch)
 }

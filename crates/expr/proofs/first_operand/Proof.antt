@@ -7,4 +7,4 @@ use Rattle.expr.proofs.first_operand.Tie as tie
 
 pub first-operand-spec : {M : Type 1} → statement M
 first-operand-spec =
-    tie.close (tie.spec free free (λ c. c .first-given .ensures ∙ rw (c .before .operand-number .ensures) (first-is _ _ _ _)))
+    tie.close (tie.spec free free (λ c. c .first-given .ensures ∙ rw (c .before .operand-number .ensures) (first-is _ _ _ _ _)))
