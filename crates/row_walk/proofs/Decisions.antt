@@ -20,6 +20,7 @@ use Rattle.tree.proofs.Matches.{form-in, form-none}
 use Rattle.fixup.specs.declared.context.FixupContext.{FixupContext}
 use Rattle.fixup.specs.Contexts.{NONE}
 use Rattle.expr.specs.declared.Handed.{Handed}
+use Rattle.expr.specs.declared.order.CalleeOrder.{CalleeOrder}
 use Rattle.expr.specs.Handed.{ungrouped, neither}
 use Rattle.expr.specs.Expr.{firstLines, handsFirst, secondLines, handsSecond}
 use Rattle.row.specs.Rows.{outerPair, expressionRow, zeros, isExpression, rowOf, ownContext, rowsOf}
@@ -65,9 +66,9 @@ other-row : {A : Type 0} (rows : List (Line A)) (other : A) (form : ℕ) → T (
 other-row rows other form t u (inl e) = rw e (not-found rows other (0 ∷ []) 0 t refl)
 other-row rows other form t u (inr h) = past-rows rows other 41 form u h
 
-first-node : (x : FixupContext) (l : Label) (a b : Tree) → isExpression (node l a b) ≡ false → alone a ≡ handsFirst x (node l a b)
+first-node : (order : CalleeOrder) (x : FixupContext) (l : Label) (a b : Tree) → isExpression (node l a b) ≡ false → alone a ≡ handsFirst order x (node l a b)
 unfolding handsFirst firstLines
-first-node x l a b e = sym (other-row (firstLines x l a) (alone a) (l .form) tt tt (other-form (l .form) e))
+first-node order x l a b e = sym (other-row (firstLines order x l a) (alone a) (l .form) tt tt (other-form (l .form) e))
 
 second-node : (x : FixupContext) (l : Label) (a b : Tree) → isExpression (node l a b) ≡ false → alone b ≡ handsSecond x (node l a b)
 unfolding handsSecond secondLines
@@ -77,17 +78,17 @@ module _ (x : FixupContext) (cells : List ℕ) (count i : ℕ) (low : 1 ≤ i) (
   unfolded : treeAt cells count i ≡ node (labelAt cells i) (treeAt cells count (operandAt cells count i firstColumn)) (treeAt cells count (operandAt cells count i secondColumn))
   unfolded = unfolds cells count i low high
 
-  pub first-other : alone (treeAt cells count (operandAt cells count i firstColumn)) ≡ handsFirst x (treeAt cells count i)
-  first-other = first-node x _ _ _ (sym (ap isExpression unfolded) ∙ e) ∙ ap (handsFirst x) (sym unfolded)
+  pub first-other : (order : CalleeOrder) → alone (treeAt cells count (operandAt cells count i firstColumn)) ≡ handsFirst order x (treeAt cells count i)
+  first-other order = first-node order x _ _ _ (sym (ap isExpression unfolded) ∙ e) ∙ ap (handsFirst order x) (sym unfolded)
 
   pub second-other : alone (treeAt cells count (operandAt cells count i secondColumn)) ≡ handsSecond x (treeAt cells count i)
   second-other = second-node x _ _ _ (sym (ap isExpression unfolded) ∙ e) ∙ ap (handsSecond x) (sym unfolded)
 
 -- what is handed to a type or a link does not matter
-pub rows-other : (h : Handed) (t : Tree) → isExpression t ≡ false → rowsOf (alone t) t ≡ rowsOf h t
+pub rows-other : (order : CalleeOrder) (h : Handed) (t : Tree) → isExpression t ≡ false → rowsOf order (alone t) t ≡ rowsOf order h t
 unfolding rowsOf
-rows-other h none e = refl
-rows-other h (node l a b) e =
+rows-other order h none e = refl
+rows-other order h (node l a b) e =
     rw (← row-other h (node l a b) e, ← row-other (alone (node l a b)) (node l a b) e, ← own-other h (node l a b) e, ← own-other (alone (node l a b)) (node l a b) e)
 
 -- whether a node is an expression, by its number

@@ -22,8 +22,10 @@ use Rattle.fixup_scan.specs.Linear.{onwards}
 use Rattle.fixup_scan.proofs.Spine.{along, scan-along}
 use Rattle.fixup.specs.Contexts.{NONE}
 use Rattle.expr.specs.declared.Handed.{Handed}
+use Rattle.expr.specs.declared.order.CalleeOrder.{CalleeOrder}
 use Rattle.expr.specs.Handed.{neither}
-use Rattle.expr.specs.Expr.{callNeedsGroup, binaryLeft, binaryRight, firstLines, handsFirst, secondLines, handsSecond}
+use Rattle.expr.specs.declared.order.CalleeOrder.the-variants.{Crates, Ours}
+use Rattle.expr.specs.Expr.{calleeLines, namedField, callNeedsGroup, binaryLeft, binaryRight, firstLines, handsFirst, secondLines, handsSecond}
 use Rattle.row.specs.Rows.{outerPair, innerLines, innerPair, expressionRow, isExpression, rowOf, ownContext, rowsOf}
 use Rattle.row_walk.specs.Walk.{contextNumbered, rootHanded}
 
@@ -56,6 +58,10 @@ trailing-erase t = walked pathLines (λ l. false) false (λ l a b. refl) (λ l. 
 leading-erase : (t : Tree) → leadingLabel (erase t) ≡ leadingLabel t
 unfolding leadingLabel labelLines
 leading-erase t = walked labelLines (λ l. false) false (λ l a b. refl) (λ l. refl) t
+
+named-erase : (t : Tree) → namedField (erase t) ≡ namedField t
+unfolding namedField calleeLines
+named-erase t = walked calleeLines (λ l. false) false (λ l a b. refl) (λ l. refl) t
 
 -- ---- questions that a node answers by itself
 
@@ -114,10 +120,11 @@ unfolding armOf armLines atRoot erase
 arm-erase none = refl
 arm-erase (node l a b) = rw (leading-erase a)
 
-call-erase : (t : Tree) → callNeedsGroup (erase t) ≡ callNeedsGroup t
+call-erase : (order : CalleeOrder) (t : Tree) → callNeedsGroup order (erase t) ≡ callNeedsGroup order t
 unfolding callNeedsGroup atRoot erase
-call-erase none = refl
-call-erase (node l a b) = refl
+call-erase Crates none = refl
+call-erase Crates (node l a b) = refl
+call-erase Ours t = fun-ext (λ left. rw (named-erase t))
 
 inner-erase : (t : Tree) → innerPair (erase t) ≡ innerPair t
 unfolding innerLines atRoot erase
@@ -204,10 +211,10 @@ neither-erase : (x : FixupContext) (t : Tree) → neither x (erase t) ≡ neithe
 unfolding neither
 neither-erase x t = rw (effective-erase x t)
 
-first-erase : (x : FixupContext) (t : Tree) → handsFirst x (erase t) ≡ handsFirst x t
+first-erase : (order : CalleeOrder) (x : FixupContext) (t : Tree) → handsFirst order x (erase t) ≡ handsFirst order x t
 unfolding handsFirst firstLines binaryLeft erase
-first-erase x none = refl
-first-erase x (node l a b) = rw (leftmosts a, rightmosts a, call-erase a, leading-erase a, neither-erase x a, neither-erase NONE a)
+first-erase order x none = refl
+first-erase order x (node l a b) = rw (leftmosts a, rightmosts a, call-erase order a, leading-erase a, neither-erase x a, neither-erase NONE a)
 
 second-erase : (x : FixupContext) (t : Tree) → handsSecond x (erase t) ≡ handsSecond x t
 unfolding handsSecond secondLines binaryRight erase
@@ -228,13 +235,13 @@ own-erase : (h : Handed) (t : Tree) → ownContext h (erase t) ≡ ownContext h 
 unfolding ownContext
 own-erase h t = rw (class-erase t, outer-erase h t)
 
-pub rows-erase : (h : Handed) (t : Tree) → rowsOf h (erase t) ≡ rowsOf h t
+pub rows-erase : (order : CalleeOrder) (h : Handed) (t : Tree) → rowsOf order h (erase t) ≡ rowsOf order h t
 unfolding erase rowsOf
-rows-erase h none = refl
-rows-erase h (node l a b) =
+rows-erase order h none = refl
+rows-erase order h (node l a b) =
     let t = node l a b in
-    rw (row-erase h t, own-erase h t, first-erase (ownContext h t) t, second-erase (ownContext h t) t, rows-erase (handsFirst (ownContext h t) t) a, rows-erase (handsSecond (ownContext h t) t) b)
+    rw (row-erase h t, own-erase h t, first-erase order (ownContext h t) t, second-erase (ownContext h t) t, rows-erase order (handsFirst order (ownContext h t) t) a, rows-erase order (handsSecond (ownContext h t) t) b)
 
 -- the rows of a whole tree, in any context of a file
-pub all-rows-erase : (context : ℕ) (t : Tree) → rowsOf (rootHanded context (erase t)) (erase t) ≡ rowsOf (rootHanded context t) t
-all-rows-erase context t = rw (neither-erase (contextNumbered context) t) (rows-erase (rootHanded context t) t)
+pub all-rows-erase : (order : CalleeOrder) (context : ℕ) (t : Tree) → rowsOf order (rootHanded context (erase t)) (erase t) ≡ rowsOf order (rootHanded context t) t
+all-rows-erase order context t = rw (neither-erase (contextNumbered context) t) (rows-erase order (rootHanded context t) t)

@@ -8,6 +8,7 @@ use Rattle.tree.specs.Trees.{Label, Tree, node}
 use Rattle.fixup.specs.declared.context.FixupContext.{FixupContext}
 use Rattle.fixup.specs.Contexts.{NONE}
 use Rattle.expr.specs.declared.Handed.{Handed}
+use Rattle.expr.specs.declared.order.CalleeOrder.{CalleeOrder}
 use Rattle.expr.specs.Handed.{neither}
 use Rattle.expr.specs.Expr.{firstLines, handsFirst, secondLines, handsSecond}
 use Rattle.row.specs.Rows.{isExpression, outerPair, rowOf, ownContext, present, rowsOf}
@@ -18,13 +19,13 @@ module _ (l : Label) (a b : Tree) (x : FixupContext) where
   unfolding handsSecond secondLines lookup pick
   index-handed e = rw e
 
-  pub item-handed : l .form ≡ Link → handsFirst x (node l a b) ≡ neither NONE a
+  pub item-handed : (order : CalleeOrder) → l .form ≡ Link → handsFirst order x (node l a b) ≡ neither NONE a
   unfolding handsFirst firstLines lookup pick
-  item-handed e = rw e
+  item-handed order e = rw e
 
-  pub paren-handed : l .form ≡ ExprParen → handsFirst x (node l a b) ≡ neither NONE a
+  pub paren-handed : (order : CalleeOrder) → l .form ≡ ExprParen → handsFirst order x (node l a b) ≡ neither NONE a
   unfolding handsFirst firstLines lookup pick
-  paren-handed e = rw e
+  paren-handed order e = rw e
 
 module _ (h : Handed) (l : Label) (a b : Tree) where
   abbrev here : Tree
@@ -35,6 +36,6 @@ module _ (h : Handed) (l : Label) (a b : Tree) where
   own-reset e o = rw (pick-true (pick (outerPair h here) NONE (h .fixup)) NONE e) (pick-true NONE (h .fixup) o)
 
   -- the rows inside an outer pair depend on the expression alone
-  pub outer-local : isExpression here ≡ true → outerPair h here ≡ true → rowsOf h here ≡ present (rowOf h here) (rowsOf (handsFirst NONE here) a) (rowsOf (handsSecond NONE here) b)
+  pub outer-local : (order : CalleeOrder) → isExpression here ≡ true → outerPair h here ≡ true → rowsOf order h here ≡ present (rowOf h here) (rowsOf order (handsFirst order NONE here) a) (rowsOf order (handsSecond NONE here) b)
   unfolding rowsOf
-  outer-local e o = rw (own-reset e o)
+  outer-local order e o = rw (own-reset e o)

@@ -18,6 +18,7 @@ use Rattle.tree.proofs.Unfold.{tree-zero, tree-past, unfolds}
 use Rattle.tree_rules.proofs.Accepted.{count-bounds, first-operand, second-operand, one-owner, owner-smaller}
 use Rattle.tree_rules.proofs.Owned.{OwnedOnce}
 use Rattle.expr.specs.declared.Handed.{Handed}
+use Rattle.expr.specs.declared.order.CalleeOrder.{CalleeOrder}
 use Rattle.expr.specs.Expr.{handsFirst, handsSecond}
 use Rattle.row.specs.declared.Row.{Row}
 use Rattle.row.specs.Rows.{rowOf, ownContext, rowsOf}
@@ -116,9 +117,9 @@ tree-here : (t : Tree) → treeBy t [] ≡ t
 tree-here none = refl
 tree-here (node l a b) = refl
 
-handed-here : (h : Handed) (t : Tree) → handedBy h t [] ≡ h
-handed-here h none = refl
-handed-here h (node l a b) = refl
+handed-here : (order : CalleeOrder) (h : Handed) (t : Tree) → handedBy order h t [] ≡ h
+handed-here order h none = refl
+handed-here order h (node l a b) = refl
 
 module _ (cells : List ℕ) (count : ℕ) where
   pub tree-at : (i : ℕ) (p : List Branch) → 1 ≤ i → i ≤ count → 1 ≤ numberAt cells count i p → treeAt cells count (numberAt cells count i p) ≡ treeBy (treeAt cells count i) p
@@ -169,33 +170,33 @@ module _ (cells : List ℕ) (count : ℕ) where
   abbrev Apart : ℕ → ℕ → Type 0
   Apart i j = (p : List Branch) → numberAt cells count i p ≡ j → ⊥
 
-  abbrev Untouched : Tree → Type 0
-  Untouched t = (i : ℕ) → treeAt cells count i ≡ t → (h : Handed) (into : List ℕ) (j : ℕ) → 1 ≤ j → Apart i j → rowIn (placed cells count i (rowsOf h (treeAt cells count i)) into) j ≡ rowIn into j
+  abbrev Untouched : CalleeOrder → Tree → Type 0
+  Untouched order t = (i : ℕ) → treeAt cells count i ≡ t → (h : Handed) (into : List ℕ) (j : ℕ) → 1 ≤ j → Apart i j → rowIn (placed cells count i (rowsOf order h (treeAt cells count i)) into) j ≡ rowIn into j
 
-  untouched-none : (i : ℕ) → treeAt cells count i ≡ none → (h : Handed) (into : List ℕ) (j : ℕ) → rowIn (placed cells count i (rowsOf h (treeAt cells count i)) into) j ≡ rowIn into j
-  untouched-none i e h into j = ap (λ (r : List ℕ). rowIn r j) (placed-none cells count i h into e)
+  untouched-none : (order : CalleeOrder) (i : ℕ) → treeAt cells count i ≡ none → (h : Handed) (into : List ℕ) (j : ℕ) → rowIn (placed cells count i (rowsOf order h (treeAt cells count i)) into) j ≡ rowIn into j
+  untouched-none order i e h into j = ap (λ (r : List ℕ). rowIn r j) (placed-none order cells count i h into e)
 
-  untouched-node : (l : Label) (a b : Tree) → Untouched a → Untouched b → Untouched (node l a b)
-  untouched-node l a b below-a below-b i e h into j there far = go (decLe 1 i) (decLe i count)
+  untouched-node : (order : CalleeOrder) (l : Label) (a b : Tree) → Untouched order a → Untouched order b → Untouched order (node l a b)
+  untouched-node order l a b below-a below-b i e h into j there far = go (decLe 1 i) (decLe i count)
     where
-      inside : 1 ≤ i → i ≤ count → rowIn (placed cells count i (rowsOf h (treeAt cells count i)) into) j ≡ rowIn into j
+      inside : 1 ≤ i → i ≤ count → rowIn (placed cells count i (rowsOf order h (treeAt cells count i)) into) j ≡ rowIn into j
       inside low high =
           let u = sym (unfolds cells count i low high) ∙ e in
           let ea : treeAt cells count (operandAt cells count i firstColumn) ≡ a = cc in
           let eb : treeAt cells count (operandAt cells count i secondColumn) ≡ b = cc in
-          ap (λ (r : List ℕ). rowIn r j) (placed-node cells count i h into low high)
+          ap (λ (r : List ℕ). rowIn r j) (placed-node order cells count i h into low high)
           ∙ below-b (operandAt cells count i secondColumn) eb _ _ j there (λ p. far (second ∷ p))
           ∙ below-a (operandAt cells count i firstColumn) ea _ _ j there (λ p. far (first ∷ p))
           ∙ row-other i _ into j low there (far [])
 
-      go : Dec (1 ≤ i) → Dec (i ≤ count) → rowIn (placed cells count i (rowsOf h (treeAt cells count i)) into) j ≡ rowIn into j
+      go : Dec (1 ≤ i) → Dec (i ≤ count) → rowIn (placed cells count i (rowsOf order h (treeAt cells count i)) into) j ≡ rowIn into j
       go (yes low) (yes high) = inside low high
-      go (yes low) (no k) = untouched-none i (tree-past cells count i (omega arith)) h into j
-      go (no k) d = untouched-none i (let z : i ≡ 0 = omega arith in rw z (tree-zero cells count)) h into j
+      go (yes low) (no k) = untouched-none order i (tree-past cells count i (omega arith)) h into j
+      go (no k) d = untouched-none order i (let z : i ≡ 0 = omega arith in rw z (tree-zero cells count)) h into j
 
-  untouched : (t : Tree) → Untouched t
-  untouched none = λ i e h into j there far. untouched-none i e h into j
-  untouched (node l a b) = untouched-node l a b (untouched a) (untouched b)
+  untouched : (order : CalleeOrder) (t : Tree) → Untouched order t
+  untouched order none = λ i e h into j there far. untouched-none order i e h into j
+  untouched order (node l a b) = untouched-node order l a b (untouched order a) (untouched order b)
 
   -- a node is not below its own operand
   not-own : (i k : ℕ) → 1 ≤ i → i ≤ count → (k ≡ firstColumn) ⊎ (k ≡ secondColumn) → Apart (operandAt cells count i k) i
@@ -208,32 +209,32 @@ module _ (cells : List ℕ) (count : ℕ) where
   -- ---- the row of the node at a path
 
   module _ (context : ℕ) (ok : Accepted context count cells) where
-    pub row-at : (i : ℕ) (p : List Branch) (h : Handed) (into : List ℕ) → 1 ≤ i → i ≤ count → rowCells * count ≤ length into → 1 ≤ numberAt cells count i p
-        → rowIn (placed cells count i (rowsOf h (treeAt cells count i)) into) (numberAt cells count i p) ≡ rowOf (handedBy h (treeAt cells count i) p) (treeBy (treeAt cells count i) p)
-    row-at i [] h into low high room there =
-        ap (λ (r : List ℕ). rowIn r i) (placed-node cells count i h into low high)
-        ∙ untouched _ (operandAt cells count i secondColumn) refl _ _ i low (not-own i secondColumn low high (inr refl))
-        ∙ untouched _ (operandAt cells count i firstColumn) refl _ _ i low (not-own i firstColumn low high (inl refl))
+    pub row-at : (order : CalleeOrder) (i : ℕ) (p : List Branch) (h : Handed) (into : List ℕ) → 1 ≤ i → i ≤ count → rowCells * count ≤ length into → 1 ≤ numberAt cells count i p
+        → rowIn (placed cells count i (rowsOf order h (treeAt cells count i)) into) (numberAt cells count i p) ≡ rowOf (handedBy order h (treeAt cells count i) p) (treeBy (treeAt cells count i) p)
+    row-at order i [] h into low high room there =
+        ap (λ (r : List ℕ). rowIn r i) (placed-node order cells count i h into low high)
+        ∙ untouched order _ (operandAt cells count i secondColumn) refl _ _ i low (not-own i secondColumn low high (inr refl))
+        ∙ untouched order _ (operandAt cells count i firstColumn) refl _ _ i low (not-own i firstColumn low high (inl refl))
         ∙ row-same i (rowOf h (treeAt cells count i)) into low (omega arith)
-        ∙ rw (handed-here h (treeAt cells count i), tree-here (treeAt cells count i))
-    row-at i (first ∷ p) h into low high room there =
+        ∙ rw (handed-here order h (treeAt cells count i), tree-here (treeAt cells count i))
+    row-at order i (first ∷ p) h into low high room there =
         let w = owns cells count i firstColumn p low high (inl refl) there in
         let s = operand-most cells count w in
         let b = path-below cells count (operandAt cells count i firstColumn) p (w .there) (s .1) there in
-        ap (λ (r : List ℕ). rowIn r (numberAt cells count (operandAt cells count i firstColumn) p)) (placed-node cells count i h into low high)
-        ∙ untouched _ (operandAt cells count i secondColumn) refl _ _ _ there (other w b)
-        ∙ row-at (operandAt cells count i firstColumn) p _ _ (w .there) (s .1) (rw (length-stored i (rowOf h (treeAt cells count i)) into) room) there
+        ap (λ (r : List ℕ). rowIn r (numberAt cells count (operandAt cells count i firstColumn) p)) (placed-node order cells count i h into low high)
+        ∙ untouched order _ (operandAt cells count i secondColumn) refl _ _ _ there (other w b)
+        ∙ row-at order (operandAt cells count i firstColumn) p _ _ (w .there) (s .1) (rw (length-stored i (rowOf h (treeAt cells count i)) into) room) there
         ∙ rw (unfolds cells count i low high)
       where
         other : Owns cells count i firstColumn (operandAt cells count i firstColumn) → Below cells count (operandAt cells count i firstColumn) (numberAt cells count (operandAt cells count i firstColumn) p) → Apart (operandAt cells count i secondColumn) (numberAt cells count (operandAt cells count i firstColumn) p)
         other w b q e =
             let v = owns cells count i secondColumn q low high (inr refl) (rw e there) in
             apart cells count context ok w v b (rw e at (path-below cells count (operandAt cells count i secondColumn) q (v .there) (operand-most cells count v .1) (rw e there)))
-    row-at i (second ∷ p) h into low high room there =
+    row-at order i (second ∷ p) h into low high room there =
         let w = owns cells count i secondColumn p low high (inr refl) there in
         let s = operand-most cells count w in
-        ap (λ (r : List ℕ). rowIn r (numberAt cells count (operandAt cells count i secondColumn) p)) (placed-node cells count i h into low high)
-        ∙ row-at (operandAt cells count i secondColumn) p _ _ (w .there) (s .1) (rw (length-placed cells count (operandAt cells count i firstColumn) (rowsOf (handsFirst (ownContext h (treeAt cells count i)) (treeAt cells count i)) (treeAt cells count (operandAt cells count i firstColumn))) (rowStored i (rowOf h (treeAt cells count i)) into), length-stored i (rowOf h (treeAt cells count i)) into) room) there
+        ap (λ (r : List ℕ). rowIn r (numberAt cells count (operandAt cells count i secondColumn) p)) (placed-node order cells count i h into low high)
+        ∙ row-at order (operandAt cells count i secondColumn) p _ _ (w .there) (s .1) (rw (length-placed cells count (operandAt cells count i firstColumn) (rowsOf order (handsFirst order (ownContext h (treeAt cells count i)) (treeAt cells count i)) (treeAt cells count (operandAt cells count i firstColumn))) (rowStored i (rowOf h (treeAt cells count i)) into), length-stored i (rowOf h (treeAt cells count i)) into) room) there
         ∙ rw (unfolds cells count i low high)
 
     -- ---- each node is at one path
@@ -300,14 +301,14 @@ module _ (cells : List ℕ) (count : ℕ) where
 -- ---- numbering does not matter
 
 -- two accepted tables of one tree, in one context: the nodes at a path have the same row
-pub renumbered : (context count count′ : ℕ) (cells cells′ : List ℕ) → Accepted context count cells → Accepted context count′ cells′
+pub renumbered : (order : CalleeOrder) (context count count′ : ℕ) (cells cells′ : List ℕ) → Accepted context count cells → Accepted context count′ cells′
     → treeAt cells count 1 ≡ treeAt cells′ count′ 1
     → (into into′ : List ℕ) → rowCells * count ≤ length into → rowCells * count′ ≤ length into′
     → (p : List Branch) → 1 ≤ numberAt cells count 1 p → 1 ≤ numberAt cells′ count′ 1 p
-    → rowIn (placed cells count 1 (rowsOf (rootHanded context (treeAt cells count 1)) (treeAt cells count 1)) into) (numberAt cells count 1 p)
-    ≡ rowIn (placed cells′ count′ 1 (rowsOf (rootHanded context (treeAt cells′ count′ 1)) (treeAt cells′ count′ 1)) into′) (numberAt cells′ count′ 1 p)
-renumbered context count count′ cells cells′ ok ok′ e into into′ room room′ p there there′ =
+    → rowIn (placed cells count 1 (rowsOf order (rootHanded context (treeAt cells count 1)) (treeAt cells count 1)) into) (numberAt cells count 1 p)
+    ≡ rowIn (placed cells′ count′ 1 (rowsOf order (rootHanded context (treeAt cells′ count′ 1)) (treeAt cells′ count′ 1)) into′) (numberAt cells′ count′ 1 p)
+renumbered order context count count′ cells cells′ ok ok′ e into into′ room room′ p there there′ =
     let k = count-bounds context count cells ok in
     let k′ = count-bounds context count′ cells′ ok′ in
-    row-at cells count context ok 1 p (rootHanded context (treeAt cells count 1)) into (omega arith) (k .0) room there
-    ∙ rw e (sym (row-at cells′ count′ context ok′ 1 p (rootHanded context (treeAt cells′ count′ 1)) into′ (omega arith) (k′ .0) room′ there′))
+    row-at cells count context ok order 1 p (rootHanded context (treeAt cells count 1)) into (omega arith) (k .0) room there
+    ∙ rw e (sym (row-at cells′ count′ context ok′ order 1 p (rootHanded context (treeAt cells′ count′ 1)) into′ (omega arith) (k′ .0) room′ there′))

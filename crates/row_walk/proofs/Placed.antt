@@ -10,6 +10,7 @@ use Rattle.tree.proofs.Unfold.{unfolds, tree-zero}
 use Rattle.fixup.specs.declared.context.FixupContext.{FixupContext}
 use Rattle.fixup.specs.Contexts.{NONE}
 use Rattle.expr.specs.declared.Handed.{Handed}
+use Rattle.expr.specs.declared.order.CalleeOrder.{CalleeOrder}
 use Rattle.expr.specs.Expr.{handsFirst, handsSecond}
 use Rattle.row.specs.declared.Row.{Row}
 use Rattle.row.specs.Rows.{Rows, zeros, isExpression, rowOf, ownContext, rowsOf}
@@ -33,38 +34,38 @@ length-placed cells count i (rows.present r a b) into =
     ∙ length-placed cells count (operandAt cells count i firstColumn) a _
     ∙ length-stored i r into
 
-pub length-below : (x : FixupContext) (cells : List ℕ) (count i : ℕ) (into : List ℕ) → length (placedBelow x cells count i into) ≡ length into
-length-below x cells count i into = length-placed cells count _ _ _ ∙ length-placed cells count _ _ into
+pub length-below : (order : CalleeOrder) (x : FixupContext) (cells : List ℕ) (count i : ℕ) (into : List ℕ) → length (placedBelow order x cells count i into) ≡ length into
+length-below order x cells count i into = length-placed cells count _ _ _ ∙ length-placed cells count _ _ into
 
 -- ---- one node
 
-module _ (cells : List ℕ) (count i : ℕ) (h : Handed) (into : List ℕ) where
-  pub placed-none : treeAt cells count i ≡ none → placed cells count i (rowsOf h (treeAt cells count i)) into ≡ into
+module _ (order : CalleeOrder) (cells : List ℕ) (count i : ℕ) (h : Handed) (into : List ℕ) where
+  pub placed-none : treeAt cells count i ≡ none → placed cells count i (rowsOf order h (treeAt cells count i)) into ≡ into
   unfolding placed rowsOf
   placed-none e = rw e
 
-  pub placed-node : 1 ≤ i → i ≤ count → placed cells count i (rowsOf h (treeAt cells count i)) into
-      ≡ placed cells count (operandAt cells count i secondColumn) (rowsOf (handsSecond (ownContext h (treeAt cells count i)) (treeAt cells count i)) (treeAt cells count (operandAt cells count i secondColumn)))
-      (placed cells count (operandAt cells count i firstColumn) (rowsOf (handsFirst (ownContext h (treeAt cells count i)) (treeAt cells count i)) (treeAt cells count (operandAt cells count i firstColumn)))
+  pub placed-node : 1 ≤ i → i ≤ count → placed cells count i (rowsOf order h (treeAt cells count i)) into
+      ≡ placed cells count (operandAt cells count i secondColumn) (rowsOf order (handsSecond (ownContext h (treeAt cells count i)) (treeAt cells count i)) (treeAt cells count (operandAt cells count i secondColumn)))
+      (placed cells count (operandAt cells count i firstColumn) (rowsOf order (handsFirst order (ownContext h (treeAt cells count i)) (treeAt cells count i)) (treeAt cells count (operandAt cells count i firstColumn)))
       (rowStored i (rowOf h (treeAt cells count i)) into))
   unfolding placed rowsOf
   placed-node low high = rw (unfolds cells count i low high)
 
   -- the same by steps: the node's own row, then its operands'
   pub placed-by : 1 ≤ i → i ≤ count → (x : FixupContext) → x ≡ ownContext h (treeAt cells count i) → (r : Row) → r ≡ rowOf h (treeAt cells count i)
-      → (own : List ℕ) → own ≡ rowStored i r into → (out : List ℕ) → out ≡ placedBelow x cells count i own
-      → out ≡ placed cells count i (rowsOf h (treeAt cells count i)) into
+      → (own : List ℕ) → own ≡ rowStored i r into → (out : List ℕ) → out ≡ placedBelow order x cells count i own
+      → out ≡ placed cells count i (rowsOf order h (treeAt cells count i)) into
   placed-by low high x ex r er own eown out eout = eout ∙ rw (eown, er, ex) (sym (placed-node low high))
 
   -- an operand that is absent
-  pub placed-absent : i ≡ 0 → placed cells count i (rowsOf h (treeAt cells count i)) into ≡ into
+  pub placed-absent : i ≡ 0 → placed cells count i (rowsOf order h (treeAt cells count i)) into ≡ into
   placed-absent e = placed-none (rw e (tree-zero cells count))
 
 -- a type or a link: what is left is its second operand's
-pub placed-other : (cells : List ℕ) (count i : ℕ) (into : List ℕ) → 1 ≤ i → i ≤ count → isExpression (treeAt cells count i) ≡ false
-    → (own : List ℕ) → own ≡ rowStored i zeros into → (o : ℕ) → o ≡ operandAt cells count i firstColumn → (first : List ℕ) → first ≡ placedAlone cells count o own → (p : ℕ) → p ≡ operandAt cells count i secondColumn
-    → placedAlone cells count p first ≡ placedAlone cells count i into
-placed-other cells count i into low high e own eown o eo first ef p ep =
+pub placed-other : (order : CalleeOrder) (cells : List ℕ) (count i : ℕ) (into : List ℕ) → 1 ≤ i → i ≤ count → isExpression (treeAt cells count i) ≡ false
+    → (own : List ℕ) → own ≡ rowStored i zeros into → (o : ℕ) → o ≡ operandAt cells count i firstColumn → (first : List ℕ) → first ≡ placedAlone order cells count o own → (p : ℕ) → p ≡ operandAt cells count i secondColumn
+    → placedAlone order cells count p first ≡ placedAlone order cells count i into
+placed-other order cells count i into low high e own eown o eo first ef p ep =
     let h = alone (treeAt cells count i) in
-    placed-by cells count i h into low high NONE (own-other h (treeAt cells count i) e) zeros (row-other h (treeAt cells count i) e) own eown _
-    (rw (ep, ef, eo, ← first-other NONE cells count i low high e, ← second-other NONE cells count i low high e))
+    placed-by order cells count i h into low high NONE (own-other h (treeAt cells count i) e) zeros (row-other h (treeAt cells count i) e) own eown _
+    (rw (ep, ef, eo, ← first-other NONE cells count i low high e order, ← second-other NONE cells count i low high e))

@@ -14,33 +14,34 @@ use Rattle.tree.specs.Sizes.{rowCells, scratchCells}
 use Rattle.tree.specs.Trees.{treeAt}
 use Rattle.tree_rules.specs.Refusals.{refusal}
 use Rattle.expr.specs.declared.Handed.{Handed}
+use Rattle.expr.specs.declared.order.CalleeOrder.{CalleeOrder}
 use Rattle.row.specs.Rows.{rowsOf}
 use Rattle.row_walk.specs.Walk.{rootHanded, placed, treeRows, walkedAfter, decideRefusal12, decided, rowsAfter, scratchAfter}
 
 -- ---- `walk`
 
-module _ (context count : ℕ) (cells rows : List ℕ) where
-  pub stays : length rows < rowCells * count → rows ≡ walkedAfter context count cells rows
+module _ (order : CalleeOrder) (context count : ℕ) (cells rows : List ℕ) where
+  pub stays : length rows < rowCells * count → rows ≡ walkedAfter order context count cells rows
   unfolding walkedAfter
   stays h = sym (pick-true _ _ (lt-ltb _ _ h))
 
-  pub walked : rowCells * count ≤ length rows → walkedAfter context count cells rows ≡ treeRows context count (treeAt cells count 1) cells rows
+  pub walked : rowCells * count ≤ length rows → walkedAfter order context count cells rows ≡ treeRows order context count (treeAt cells count 1) cells rows
   unfolding walkedAfter
   walked h = pick-false _ _ (le-ltb _ _ h)
 
   pub walks : rowCells * count ≤ length rows → (h : Handed) → h ≡ rootHanded context (treeAt cells count 1)
-      → (after : List ℕ) → after ≡ placed cells count 1 (rowsOf h (treeAt cells count 1)) rows
-      → after ≡ walkedAfter context count cells rows
+      → (after : List ℕ) → after ≡ placed cells count 1 (rowsOf order h (treeAt cells count 1)) rows
+      → after ≡ walkedAfter order context count cells rows
   walks k h eh after e = e ∙ rw eh (sym (walked k))
 
 -- ---- `decide`
 
-module _ (context count : ℕ) (cells rows scratch : List ℕ) where
+module _ (order : CalleeOrder) (context count : ℕ) (cells rows scratch : List ℕ) where
   -- what the three clauses of the contract say of a reply and of the buffers afterwards
   abbrev pub Decides : ℕ → List ℕ → List ℕ → Type 0
   Decides r rows′ scratch′ =
       (r ≡ decided context count cells (length rows) (length scratch))
-      × ((rows′ ≡ rowsAfter context count cells rows scratch)
+      × ((rows′ ≡ rowsAfter order context count cells rows scratch)
       × (scratch′ ≡ scratchAfter context count cells rows scratch))
 
   -- a reply that is not 0 leaves the buffers as they were
@@ -71,10 +72,10 @@ module _ (context count : ℕ) (cells rows scratch : List ℕ) where
       unfolding decideRefusal12
       short-scratch h = short (or-next _ (le-ltb _ _ fits) ∙ lt-ltb _ _ h)
 
-      pub done : scratchCells * count ≤ length scratch → (rows′ : List ℕ) → rows′ ≡ walkedAfter context count cells rows
+      pub done : scratchCells * count ≤ length scratch → (rows′ : List ℕ) → rows′ ≡ walkedAfter order context count cells rows
           → (scratch′ : List ℕ) → scratch′ ≡ over (replicate (scratchCells * count) 0) scratch
           → Decides 0 rows′ scratch′
       unfolding decideRefusal12 rowsAfter scratchAfter
       done k rows′ er scratch′ es =
           let e : decided context count cells (length rows) (length scratch) ≡ 0 = after ∙ pick-false 12 0 (or-next _ (le-ltb _ _ fits) ∙ le-ltb _ _ k) in
-          (sym e, (er ∙ walked context count cells rows fits ∙ sym (pick-true _ _ (eq-eqb _ 0 e)), es ∙ sym (pick-true _ _ (eq-eqb _ 0 e))))
+          (sym e, (er ∙ walked order context count cells rows fits ∙ sym (pick-true _ _ (eq-eqb _ 0 e)), es ∙ sym (pick-true _ _ (eq-eqb _ 0 e))))

@@ -47,16 +47,16 @@ use Rattle.row_walk.proofs.+walk_alone+walk_first+walk_from+walk_operan
 use Rattle.row_walk.proofs.+walk_alone+walk_first+walk_from+walk_operands.Tie.{close}
 
 abbrev μ-walk-alone : Measures 2 walk-alone-kinds.ps ℕ
-μ-walk-alone κs a = 4 * left (a .1 .1 .0) + 2
+μ-walk-alone κs a = 4 * left (a .1 .1 .1 .0) + 2
 
 abbrev μ-walk-first : Measures 2 walk-first-kinds.ps ℕ
-μ-walk-first κs a = 4 * left (a .1 .1 .1 .0)
+μ-walk-first κs a = 4 * left (a .1 .1 .1 .1 .0)
 
 abbrev μ-walk-from : Measures 2 walk-from-kinds.ps ℕ
-μ-walk-from κs a = 4 * left (a .1 .1 .1 .0) + 3
+μ-walk-from κs a = 4 * left (a .1 .1 .1 .1 .0) + 3
 
 abbrev μ-walk-operands : Measures 2 walk-operands-kinds.ps ℕ
-μ-walk-operands κs a = 4 * left (a .1 .1 .1 .0) + 1
+μ-walk-operands κs a = 4 * left (a .1 .1 .1 .1 .0) + 1
 
 -- what the callees ask and ensure
 abbrev walk-alone-claims : ℕ → walk-alone-lts.Claims
@@ -72,10 +72,10 @@ abbrev walk-operands-claims : ℕ → walk-operands-lts.Claims
 walk-operands-claims t = (given-below 2 walk-first-kinds.ps μ-walk-first walk-first.Pre t, walk-first.Post, operand-at-reads.Asked, operand-at-reads.Learnt, second-operand-reads.Asked, second-operand-reads.Learnt, given-below 2 walk-from-kinds.ps μ-walk-from walk-from.Pre t, walk-from.Post)
 
 abbrev walk-alone-Inv-loop : walk-alone-lts.InvT-loop
-walk-alone-Inv-loop table count node rows₀ at₀ rows at = (left at ≤ left node) × (length rows ≡ length rows₀) × (placedAlone table count at rows ≡ placedAlone table count node rows₀)
+walk-alone-Inv-loop order table count node rows₀ at₀ rows at = (left at ≤ left node) × (length rows ≡ length rows₀) × (placedAlone order table count at rows ≡ placedAlone order table count node rows₀)
 
 abbrev walk-alone-μ-loop : walk-alone-lts.MeasureT-loop
-walk-alone-μ-loop table count node rows₀ at₀ rows at = left at
+walk-alone-μ-loop order table count node rows₀ at₀ rows at = left at
 
 walk-alone-returns : (t : ℕ) → walk-alone-lts.Need-returns (walk-alone-claims t) (given-at 2 walk-alone-kinds.ps μ-walk-alone walk-alone.Pre t) walk-alone.Post walk-alone-Inv-loop walk-alone-μ-loop
 walk-alone-returns t c =
@@ -83,7 +83,7 @@ walk-alone-returns t c =
     let a = s .args in
     let l = c .before .before .loop in
     let k = c .if1 .taken in
-    sym (placed-none (a .table .now) (a .count) (l .at) (alone (treeAt (a .table .now) (a .count) (l .at))) _ (tree-past _ _ _ (omega arith))) ∙ l .inv .2
+    sym (placed-none (a .order) (a .table .now) (a .count) (l .at) (alone (treeAt (a .table .now) (a .count) (l .at))) _ (tree-past _ _ _ (omega arith))) ∙ l .inv .2
 
 walk-alone-returns-2 : (t : ℕ) → walk-alone-lts.Need-returns-2 (walk-alone-claims t) (given-at 2 walk-alone-kinds.ps μ-walk-alone walk-alone.Pre t) walk-alone.Post walk-alone-Inv-loop walk-alone-μ-loop
 walk-alone-returns-2 t c =
@@ -93,7 +93,7 @@ walk-alone-returns-2 t c =
     let j = c .before .before .before .before .before .before .before .before .before .before .before .before .before .before .loop-test in
     let k = c .before .before .before .before .before .before .before .before .before .before .before .before .before .if1 .left in
     let e = is-expression (a .table .now) (a .count) (l .at) (c .before .before .before .before .before .before .before .before .before .before .before .before .form-at .ensures) (c .before .before .before .before .before .before .before .before .before .before .before .class-of .ensures) (c .before .before .before .before .before .before .before .before .before .before .if2 .taken) in
-    placed-by (a .table .now) (a .count) (l .at) (alone (treeAt (a .table .now) (a .count) (l .at))) _ (omega arith) (omega arith) _ (c .before .before .before .before .none .ensures ∙ own-alone _ e) _ (c .before .before .before .before .before .before .before .before .lone-row .ensures ∙ row-expression (alone (treeAt (a .table .now) (a .count) (l .at))) _ e) _ (c .before .before .before .before .before .before .before .store .ensures) _ (c .before .before .walk-operands .ensures)
+    placed-by (a .order) (a .table .now) (a .count) (l .at) (alone (treeAt (a .table .now) (a .count) (l .at))) _ (omega arith) (omega arith) _ (c .before .before .before .before .none .ensures ∙ own-alone _ e) _ (c .before .before .before .before .before .before .before .before .lone-row .ensures ∙ row-expression (alone (treeAt (a .table .now) (a .count) (l .at))) _ e) _ (c .before .before .before .before .before .before .before .store .ensures) _ (c .before .before .walk-operands .ensures)
     ∙ l .inv .2
 
 walk-alone-walk-alone-requires : (t : ℕ) → walk-alone-lts.Need-walk-alone-requires (walk-alone-claims t) (given-at 2 walk-alone-kinds.ps μ-walk-alone walk-alone.Pre t) walk-alone.Post walk-alone-Inv-loop walk-alone-μ-loop
@@ -126,13 +126,13 @@ walk-alone-loop-again t c =
     let o = c .operand-number2 .ensures in (
       rw o (omega arith),
       ap length (c .before .before .before .walk-alone .ensures) ∙ length-placed _ _ _ _ _ ∙ ap length (c .before .before .before .before .before .before .before .before .store2 .ensures) ∙ length-stored _ _ _ ∙ l .inv .1,
-      placed-other (a .table .now) (a .count) (l .at) _ (omega arith) (omega arith) e _ (c .before .before .before .before .before .before .before .before .store2 .ensures ∙ ap (λ (r : Row). rowStored (l .at) r (l .rows)) (c .before .before .before .before .before .before .before .before .before .no-row .ensures)) _ (c .before .before .before .before .before .operand-number .ensures) _ (c .before .before .before .walk-alone .ensures) _ o ∙ l .inv .2,
+      placed-other (a .order) (a .table .now) (a .count) (l .at) _ (omega arith) (omega arith) e _ (c .before .before .before .before .before .before .before .before .store2 .ensures ∙ ap (λ (r : Row). rowStored (l .at) r (l .rows)) (c .before .before .before .before .before .before .before .before .before .no-row .ensures)) _ (c .before .before .before .before .before .operand-number .ensures) _ (c .before .before .before .walk-alone .ensures) _ o ∙ l .inv .2,
     )
 
 walk-first-returns : (t : ℕ) → walk-first-lts.Need-returns (walk-first-claims t) (given-at 2 walk-first-kinds.ps μ-walk-first walk-first.Pre t) walk-first.Post
 walk-first-returns t c =
     let a = c .before .before .before .before .before .args in
-    sym (placed-absent (a .table .now) (a .count) (operandAt (a .table .now) (a .count) (a .node) firstColumn) (handsFirst (a .own) (treeAt (a .table .now) (a .count) (a .node))) _ (absent-zero _ (sym (c .before .before .operand-at .ensures) ∙ c .enum-told .given .1)))
+    sym (placed-absent (a .order) (a .table .now) (a .count) (operandAt (a .table .now) (a .count) (a .node) firstColumn) (handsFirst (a .order) (a .own) (treeAt (a .table .now) (a .count) (a .node))) _ (absent-zero _ (sym (c .before .before .operand-at .ensures) ∙ c .enum-told .given .1)))
 
 walk-first-walk-from-requires : (t : ℕ) → walk-first-lts.Need-walk-from-requires (walk-first-claims t) (given-at 2 walk-first-kinds.ps μ-walk-first walk-first.Pre t) walk-first.Post
 walk-first-walk-from-requires t c κs =
@@ -156,7 +156,7 @@ walk-from-returns t c =
     let s = c .before .before .before .before .before .before .before .before .before in
     let a = s .args in
     c .before .before .walk-alone .ensures
-    ∙ ap (λ (r : Rows). placed (a .table .now) (a .count) (a .node) r (a .rows .now)) (rows-other (a .handed) (treeAt (a .table .now) (a .count) (a .node)) (is-other (a .table .now) (a .count) (a .node) (c .before .before .before .before .before .before .form-at .ensures) (c .before .before .before .before .before .class-of .ensures) (c .before .before .before .before .if1 .taken)))
+    ∙ ap (λ (r : Rows). placed (a .table .now) (a .count) (a .node) r (a .rows .now)) (rows-other (a .order) (a .handed) (treeAt (a .table .now) (a .count) (a .node)) (is-other (a .table .now) (a .count) (a .node) (c .before .before .before .before .before .before .form-at .ensures) (c .before .before .before .before .before .class-of .ensures) (c .before .before .before .before .if1 .taken)))
 
 walk-from-returns-2 : (t : ℕ) → walk-from-lts.Need-returns-2 (walk-from-claims t) (given-at 2 walk-from-kinds.ps μ-walk-from walk-from.Pre t) walk-from.Post
 walk-from-returns-2 t c =
@@ -164,7 +164,7 @@ walk-from-returns-2 t c =
     let a = s .args in
     let e = is-expression (a .table .now) (a .count) (a .node) (c .before .before .before .before .before .before .before .before .before .before .before .before .before .before .form-at .ensures) (c .before .before .before .before .before .before .before .before .before .before .before .before .before .class-of .ensures) (c .before .before .before .before .before .before .before .before .before .before .before .before .if1 .left) in
     let r = there (a .table .now) (a .count) (a .node) e in
-    placed-by (a .table .now) (a .count) (a .node) (a .handed) (a .rows .now) (r .0) (r .1) _ (c .before .before .before .before .none .ensures ∙ own-outer (a .handed) _ e (sym (ap (λ (d : Decision). d .outer) (c .before .before .before .before .before .before .before .before .before .before .before .decision-of .ensures)) ∙ c .before .before .before .before .before .if2 .taken)) _ (ap (λ (d : Decision). d .row) (c .before .before .before .before .before .before .before .before .before .before .before .decision-of .ensures) ∙ row-expression (a .handed) _ e) _ (c .before .before .before .before .before .before .before .before .store .ensures) _ (c .before .before .walk-operands .ensures)
+    placed-by (a .order) (a .table .now) (a .count) (a .node) (a .handed) (a .rows .now) (r .0) (r .1) _ (c .before .before .before .before .none .ensures ∙ own-outer (a .handed) _ e (sym (ap (λ (d : Decision). d .outer) (c .before .before .before .before .before .before .before .before .before .before .before .decision-of .ensures)) ∙ c .before .before .before .before .before .if2 .taken)) _ (ap (λ (d : Decision). d .row) (c .before .before .before .before .before .before .before .before .before .before .before .decision-of .ensures) ∙ row-expression (a .handed) _ e) _ (c .before .before .before .before .before .before .before .before .store .ensures) _ (c .before .before .walk-operands .ensures)
 
 walk-from-returns-3 : (t : ℕ) → walk-from-lts.Need-returns-3 (walk-from-claims t) (given-at 2 walk-from-kinds.ps μ-walk-from walk-from.Pre t) walk-from.Post
 walk-from-returns-3 t c =
@@ -172,13 +172,13 @@ walk-from-returns-3 t c =
     let a = s .args in
     let e = is-expression (a .table .now) (a .count) (a .node) (c .before .before .before .before .before .before .before .before .before .before .before .before .before .before .form-at .ensures) (c .before .before .before .before .before .before .before .before .before .before .before .before .before .class-of .ensures) (c .before .before .before .before .before .before .before .before .before .before .before .before .if1 .left) in
     let r = there (a .table .now) (a .count) (a .node) e in
-    placed-by (a .table .now) (a .count) (a .node) (a .handed) (a .rows .now) (r .0) (r .1) _ (own-kept (a .handed) _ e (sym (ap (λ (d : Decision). d .outer) (c .before .before .before .before .before .before .before .before .before .before .before .decision-of .ensures)) ∙ c .before .before .before .before .before .if2 .left)) _ (ap (λ (d : Decision). d .row) (c .before .before .before .before .before .before .before .before .before .before .before .decision-of .ensures) ∙ row-expression (a .handed) _ e) _ (c .before .before .before .before .before .before .before .before .store .ensures) _ (c .before .before .walk-operands2 .ensures)
+    placed-by (a .order) (a .table .now) (a .count) (a .node) (a .handed) (a .rows .now) (r .0) (r .1) _ (own-kept (a .handed) _ e (sym (ap (λ (d : Decision). d .outer) (c .before .before .before .before .before .before .before .before .before .before .before .decision-of .ensures)) ∙ c .before .before .before .before .before .if2 .left)) _ (ap (λ (d : Decision). d .row) (c .before .before .before .before .before .before .before .before .before .before .before .decision-of .ensures) ∙ row-expression (a .handed) _ e) _ (c .before .before .before .before .before .before .before .before .store .ensures) _ (c .before .before .walk-operands2 .ensures)
 
 walk-operands-returns : (t : ℕ) → walk-operands-lts.Need-returns (walk-operands-claims t) (given-at 2 walk-operands-kinds.ps μ-walk-operands walk-operands.Pre t) walk-operands.Post
 walk-operands-returns t c =
     let a = c .before .before .before .before .before .before .before .before .before .args in
     c .before .before .before .before .before .walk-first .ensures
-    ∙ sym (placed-absent (a .table .now) (a .count) (operandAt (a .table .now) (a .count) (a .node) secondColumn) (handsSecond (a .own) (treeAt (a .table .now) (a .count) (a .node))) _ (absent-zero _ (sym (c .before .before .operand-at .ensures) ∙ c .enum-told .given .1)))
+    ∙ sym (placed-absent (a .order) (a .table .now) (a .count) (operandAt (a .table .now) (a .count) (a .node) secondColumn) (handsSecond (a .own) (treeAt (a .table .now) (a .count) (a .node))) _ (absent-zero _ (sym (c .before .before .operand-at .ensures) ∙ c .enum-told .given .1)))
 
 walk-operands-walk-from-requires : (t : ℕ) → walk-operands-lts.Need-walk-from-requires (walk-operands-claims t) (given-at 2 walk-operands-kinds.ps μ-walk-operands walk-operands.Pre t) walk-operands.Post
 walk-operands-walk-from-requires t c κs =
@@ -208,13 +208,13 @@ pub +walk-alone+walk-first+walk-from+walk-operands-spec : {M : Type 1} → state
     (λ c κs. omega (arith, c .before .before .before .before .before .before .before .loop .inv .1, c .before .before .before .before .before .before .loop-test, c .before .before .before .before .before .if1 .left, c .before .before .before .before .before .before .before .before .before .before .pre .1))
     free
     (λ c κs. let z = ap length (c .before .before .before .before .store .ensures) ∙ length-stored _ _ _ in (omega (arith, c .before .before .before .before .before .before .before .before .before .before .before .before .loop .inv .0, c .before .before .before .before .before .before .before .before .before .before .before .before .before .before .before .pre .0), (omega (arith, c .before .before .before .before .before .before .before .before .before .before .before .loop-test), omega (arith, c .before .before .before .before .before .before .before .before .before .before .if1 .left), omega (arith, c .before .before .before .before .before .before .before .before .before .before .before .before .loop .inv .1, c .before .before .before .before .before .before .before .before .before .before .before .before .before .before .before .pre .1))))
-    (λ c. ap length (c .before .before .walk-operands .ensures) ∙ length-below _ _ _ _ _ ∙ ap length (c .before .before .before .before .before .before .before .store .ensures) ∙ length-stored _ _ _ ∙ c .before .before .before .before .before .before .before .before .before .before .before .before .before .before .before .loop .inv .1)
+    (λ c. ap length (c .before .before .walk-operands .ensures) ∙ length-below _ _ _ _ _ _ ∙ ap length (c .before .before .before .before .before .before .before .store .ensures) ∙ length-stored _ _ _ ∙ c .before .before .before .before .before .before .before .before .before .before .before .before .before .before .before .loop .inv .1)
     (walk-alone-returns-2 t) free
     (λ c κs. omega (arith, c .before .before .before .before .before .before .before .loop .inv .1, c .before .before .before .before .before .before .loop-test, c .before .before .before .before .before .if1 .left, c .before .before .before .before .before .before .before .before .before .before .pre .1))
     free (walk-alone-walk-alone-requires t) free
     (λ c. let a = c .before .before .before .before .before .before .before .before .before .before .before .before .before .before .before .before .before .before .before .args in let l = c .before .before .before .before .before .before .before .before .before .before .before .before .before .before .before .before .loop in let w = c .before .before .before .before .before .before .before .before .before .before .before .before .before .before .before .before .before .before .before .fits in rw (c .operand-number2 .ensures) (left-falls (a .count) (l .at) (cellAt (a .table .now) (l .at) secondColumn) (omega (arith, c .before .before .before .before .before .before .before .before .before .before .before .before .before .before .before .loop-test)) (omega (arith, c .before .before .before .before .before .before .before .before .before .before .before .before .before .before .if1 .left)) (omega arith)))
     (walk-alone-loop-again t) (λ c. c .before .loop .inv .1)
-    (λ c. let a = c .before .before .before .before .args in sym (placed-absent (a .table .now) (a .count) (c .before .loop .at) (alone (treeAt (a .table .now) (a .count) (c .before .loop .at))) _ (omega (arith, c .loop-test))) ∙ c .before .loop .inv .2))
+    (λ c. let a = c .before .before .before .before .args in sym (placed-absent (a .order) (a .table .now) (a .count) (c .before .loop .at) (alone (treeAt (a .table .now) (a .count) (c .before .loop .at))) _ (omega (arith, c .loop-test))) ∙ c .before .loop .inv .2))
     (λ t. walk-first-lts.spec (walk-first-claims t) (given-at 2 walk-first-kinds.ps μ-walk-first walk-first.Pre t)
     walk-first.Post free (λ c. search needs) (λ c. search needs) (walk-first-returns t) free
     (walk-first-walk-from-requires t) (λ c. search needs) (walk-first-returns-2 t))

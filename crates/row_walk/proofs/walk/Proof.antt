@@ -8,12 +8,12 @@ use Rattle.row_walk.proofs.walk.Tie as tie
 returns : tie.Need-returns
 returns c =
     let a = c .before .before .before .args in
-    stays (a .context) (a .count) (a .table .now) (a .rows .now) (c .if1 .taken)
+    stays (a .order) (a .context) (a .count) (a .table .now) (a .rows .now) (c .if1 .taken)
 
 returns-2 : tie.Need-returns-2
 returns-2 c =
     let a = c .before .before .before .before .before .before .before .before .args in
-    walks (a .context) (a .count) (a .table .now) (a .rows .now) (c .before .before .before .before .before .if1 .left) _ (c .before .before .before .before .root-handed .ensures) _ (c .before .before .walk-from .ensures)
+    walks (a .order) (a .context) (a .count) (a .table .now) (a .rows .now) (c .before .before .before .before .before .if1 .left) _ (c .before .before .before .before .root-handed .ensures) _ (c .before .before .walk-from .ensures)
 
 pub walk-spec : {M : Type 1} → statement M
 walk-spec = tie.close (tie.spec (λ c. search needs) returns free (λ c κs. c .before .before .if1 .left) (λ c. search needs) returns-2)
