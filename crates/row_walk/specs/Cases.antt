@@ -6,7 +6,6 @@ use lib.Dec.{eqb}
 use lib.ListN.{length, take, drop, replicate}
 use Rattle.tree.specs.Sizes.{nodeCells, rowCells, scratchCells}
 use Rattle.tree.specs.Forms.{ExprBinary, ExprBreak, ExprCall, ExprCast, ExprField, ExprGroup, ExprLoop, ExprMatch, ExprPath, ExprReturn, ExprStruct, TypePath, Link}
-use Rattle.expr.specs.declared.order.CalleeOrder.{CalleeOrder}
 use Rattle.expr.specs.declared.order.CalleeOrder.the-variants.{Ours}
 use Rattle.row_walk.specs.Walk.{decided, rowsAfter}
 

@@ -188,14 +188,8 @@ pub fn walk(order: CalleeOrder, context: u16, count: u16, table: &[u16], rows: &
     if rows.len() < sizes::ROW_CELLS * (count as usize) {
         return;
     }
-    walk_from(
-        order,
-        root_handed(context, table, count),
-        table,
-        count,
-        1,
-        rows,
-    );
+    let handed = root_handed(context, table, count);
+    walk_from(order, handed, table, count, 1, rows);
 }
 
 // Zeros over the start of a buffer.
