@@ -1,6 +1,7 @@
 // The rows of all nodes.
 ghost use mathlib.Core.Path.{_≡_};
 ghost use lib.ListN.{length};
+ghost use Rattle.expr.specs.declared.order.CalleeOrder.the-variants.{Ours};
 ghost use Rattle.row_walk.specs.Walk.{decided, rowsAfter, scratchAfter};
 
 // row_walk::decide.
@@ -13,7 +14,7 @@ pub extern "C" fn tezhukor_decide(
     scratch: &mut [u16],
 ) -> u16
     ensures reply { λ r. ⌜ r ≡ decided context count (now (table .entry)) (length (now (rows .entry))) (length (now (scratch .entry))) ⌝ }
-    ensures rows { λ r. ⌜ now (rows .exit) ≡ rowsAfter context count (now (table .entry)) (now (rows .entry)) (now (scratch .entry)) ⌝ }
+    ensures rows { λ r. ⌜ now (rows .exit) ≡ rowsAfter Ours context count (now (table .entry)) (now (rows .entry)) (now (scratch .entry)) ⌝ }
     ensures scratch { λ r. ⌜ now (scratch .exit) ≡ scratchAfter context count (now (table .entry)) (now (rows .entry)) (now (scratch .entry)) ⌝ }
 {
     row_walk::decide(context, count, table, rows, scratch)

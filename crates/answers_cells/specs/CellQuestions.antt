@@ -10,6 +10,7 @@ use Rattle.precedence.specs.Precedences.{rankOf}
 use Rattle.fixup.specs.declared.context.FixupContext.{FixupContext}
 use Rattle.fixup.specs.Contexts.{NONE, newStmt, newMatchArm, newCondition, withOperator, withDot, rightmost}
 use Rattle.expr.specs.declared.Handed.{Handed}
+use Rattle.expr.specs.declared.order.CalleeOrder.the-variants.{Crates, Ours}
 use Rattle.expr.specs.Expr.{handsFirst, handsSecond}
 use Rattle.row_pack.specs.Cells.{flagsOf}
 
@@ -53,11 +54,12 @@ handedCells h =
 unfoldable pub handedCell : ℕ → Handed → ℕ
 handedCell cell h = lookup (handedCells h) (cellOf cell (h .fixup)) cell
 
--- the operand at the first place, and the one at the second
+-- the operand at the first place in the crate's callee order, the one at the second, and the one at the first in ours
 unfoldable pub handedQuestions : ℕ → FixupContext → Tree → List (Line ℕ)
 handedQuestions cell x t =
-    line (0 ∷ []) (handedCell cell (handsFirst x t)) ∷
+    line (0 ∷ []) (handedCell cell (handsFirst Crates x t)) ∷
     line (1 ∷ []) (handedCell cell (handsSecond x t)) ∷
+    line (2 ∷ []) (handedCell cell (handsFirst Ours x t)) ∷
     []
 
 unfoldable pub handedAnswered : ℕ → ℕ → FixupContext → Tree → ℕ

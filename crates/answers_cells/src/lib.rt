@@ -3,6 +3,7 @@
 use bools::bit;
 use expr::Handed;
 use expr::first_operand;
+use expr::order::CalleeOrder;
 use expr::second_operand;
 use fixup::context::FixupContext;
 use precedence::Precedence;
@@ -67,7 +68,7 @@ fn handed_cell(cell: u16, handed: Handed) -> u16
     }
 }
 
-// A cell of what a node hands to an operand: 0 the one at its first place, 1 the one at its second.
+// A cell of what a node hands to an operand: 0 the one at its first place in the crate's callee order, 1 the one at its second, 2 the first in ours.
 pub fn handed_answer(
     question: u16,
     cell: u16,
@@ -79,8 +80,15 @@ pub fn handed_answer(
     ensures { λ r. ⌜ r ≡ handedAnswered question cell fixup (treeAt (now (table .entry)) count node) ⌝ }
 {
     match question {
-        0 => handed_cell(cell, first_operand(fixup, table, count, node)),
+        0 => handed_cell(
+            cell,
+            first_operand(CalleeOrder::Crates, fixup, table, count, node),
+        ),
         1 => handed_cell(cell, second_operand(fixup, table, count, node)),
+        2 => handed_cell(
+            cell,
+            first_operand(CalleeOrder::Ours, fixup, table, count, node),
+        ),
         _ => 65535,
     }
 }

@@ -11,6 +11,7 @@ use Rattle.tree.specs.Trees.{treeAt}
 use Rattle.file_loader.specs.declared.Loaded.{Loaded}
 use Rattle.file_loader.specs.declared.Loaded.the-variants.{Refused, Accepted}
 use Rattle.file_loader.specs.Files.{cellsIn, loaded}
+use Rattle.expr.specs.declared.order.CalleeOrder.the-variants.{Ours}
 use Rattle.row.specs.Rows.{rowsOf}
 use Rattle.row_walk.specs.Walk.{rootHanded, placed}
 use Rattle.text.specs.Numbers.{rowLine, joined, okLine, noLine}
@@ -27,9 +28,9 @@ linesOf count cells rows n = joined (nodeText count cells rows) n
 unfoldable pub allLines : ℕ → List ℕ → List ℕ → List ℕ
 allLines count cells rows = okLine count ++ linesOf count cells rows count
 
--- the rows of the tree at node 1, five cells for each of up to 4,096 nodes
+-- the rows of the tree at node 1 in our callee order, five cells for each of up to 4,096 nodes
 unfoldable pub rowsIn : ℕ → ℕ → List ℕ → List ℕ
-rowsIn context count cells = placed cells count 1 (rowsOf (rootHanded context (treeAt cells count 1)) (treeAt cells count 1)) (replicate (rowCells * mostNodes) 0)
+rowsIn context count cells = placed cells count 1 (rowsOf Ours (rootHanded context (treeAt cells count 1)) (treeAt cells count 1)) (replicate (rowCells * mostNodes) 0)
 
 unfoldable pub acceptedText : ℕ → ℕ → List ℕ → List ℕ
 acceptedText context count cells = allLines count cells (rowsIn context count cells)

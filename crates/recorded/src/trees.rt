@@ -7,6 +7,7 @@ use crate::record;
 use crate::record::FILE;
 use crate::record::Header;
 use crate::record::Sizes;
+use expr::order::CalleeOrder;
 use file_loader::Loaded;
 use token_writer::Written;
 use tree::sizes;
@@ -52,7 +53,7 @@ pub(crate) fn loads(file: &[u8; FILE], h: Header, cells: &[u8; BYTES], s: Sizes)
 
 // ---- rows
 
-// The reply to deciding the rows of a loaded table.
+// The reply to deciding the rows of a loaded table, in the crate's callee order: they were recorded from the crate.
 fn decide_loaded(
     loaded: Loaded,
     table: &[u16; TABLE],
@@ -66,7 +67,8 @@ fn decide_loaded(
     match loaded {
         Loaded::Refused(why) => why,
         Loaded::Accepted(context, count) => {
-            row_walk::decide(
+            row_walk::decide_by(
+                CalleeOrder::Crates,
                 context,
                 count,
                 table,

@@ -17,6 +17,7 @@ use Rattle.fixup_scan.specs.Linear.{rightVisitsBy, spine}
 use Rattle.fixup_scan.proofs.Linear.{pick-within, visits-at-most-twice}
 use Rattle.fixup_scan.proofs.Levels.{spine-levels}
 use Rattle.expr.specs.declared.Handed.{Handed}
+use Rattle.expr.specs.declared.order.CalleeOrder.{CalleeOrder}
 use Rattle.expr.specs.Expr.{handsFirst, handsSecond}
 use Rattle.row.specs.Rows.{ownContext}
 use Rattle.row_walk.specs.Walk.{rootHanded}
@@ -52,20 +53,20 @@ second-visits : (l : Label) (t : Tree) (x : FixupContext) → levels t ≤ mostL
 unfolding secondVisits lookup
 second-visits l t x d = within-levels t d _ (pick-within _ (rightVisits t x) _ (right-visits t x))
 
-pub walk-visits : (own : ℕ) (h : Handed) (t : Tree) → own ≤ 258 → levels t ≤ mostLevels → walkVisits own h t ≤ 258 * size t
+pub walk-visits : (order : CalleeOrder) (own : ℕ) (h : Handed) (t : Tree) → own ≤ 258 → levels t ≤ mostLevels → walkVisits order own h t ≤ 258 * size t
 unfolding walkVisits size levels
-walk-visits own h none o d = omega arith
-walk-visits own h (node l a b) o d =
+walk-visits order own h none o d = omega arith
+walk-visits order own h (node l a b) o d =
     let x = ownContext h (node l a b) in
-    let f = handsFirst x (node l a b) in
+    let f = handsFirst order x (node l a b) in
     let g = handsSecond x (node l a b) in
-    let p = walk-visits (firstVisits l a (f .fixup)) f a (first-visits l a (f .fixup) (omega arith)) (omega arith) in
-    let q = walk-visits (secondVisits l b (g .fixup)) g b (second-visits l b (g .fixup) (omega arith)) (omega arith) in
+    let p = walk-visits order (firstVisits l a (f .fixup)) f a (first-visits l a (f .fixup) (omega arith)) (omega arith) in
+    let q = walk-visits order (secondVisits l b (g .fixup)) g b (second-visits l b (g .fixup) (omega arith)) (omega arith) in
     omega arith
 
 -- In an accepted table, a walk takes at most 258 visits a node: 2 for each of 128 levels, and 2 for a node that is none.
-pub bounded-work : (context count : ℕ) (cells : List ℕ) → Accepted context count cells → decideVisits context count cells ≤ 258 * count
-bounded-work context count cells ok =
-    let v = walk-visits 0 (rootHanded context (treeAt cells count 1)) (treeAt cells count 1) (omega arith) (levels-bound context count cells ok) in
+pub bounded-work : (order : CalleeOrder) (context count : ℕ) (cells : List ℕ) → Accepted context count cells → decideVisits order context count cells ≤ 258 * count
+bounded-work order context count cells ok =
+    let v = walk-visits order 0 (rootHanded context (treeAt cells count 1)) (treeAt cells count 1) (omega arith) (levels-bound context count cells ok) in
     let s = size-accepted context count cells ok in
     omega arith

@@ -10,6 +10,7 @@ use Rattle.precedence.specs.Precedences.{same}
 use Rattle.fixup.specs.declared.context.FixupContext.{FixupContext}
 use Rattle.fixup_scan.specs.Linear.{rightVisitsBy, visits}
 use Rattle.expr.specs.declared.Handed.{Handed}
+use Rattle.expr.specs.declared.order.CalleeOrder.{CalleeOrder}
 use Rattle.expr.specs.Expr.{handsFirst, handsSecond}
 use Rattle.row.specs.Rows.{ownContext}
 use Rattle.row_walk.specs.Walk.{rootHanded}
@@ -35,14 +36,14 @@ unfoldable pub secondVisits : Label → Tree → FixupContext → ℕ
 secondVisits l t x = lookup (line (ExprAssign ∷ ExprBinary ∷ ExprRange ∷ []) (rightVisits t x) ∷ []) 0 (l .form)
 
 -- the walk goes as `rowsOf` of crate row; `own` are the visits for the precedence of the tree's root
-unfoldable pub walkVisits : ℕ → Handed → Tree → ℕ
-walkVisits own h none = 0
-walkVisits own h (node l a b) =
+unfoldable pub walkVisits : CalleeOrder → ℕ → Handed → Tree → ℕ
+walkVisits order own h none = 0
+walkVisits order own h (node l a b) =
     let x = ownContext h (node l a b) in
     own
-    + walkVisits (firstVisits l a (handsFirst x (node l a b) .fixup)) (handsFirst x (node l a b)) a
-    + walkVisits (secondVisits l b (handsSecond x (node l a b) .fixup)) (handsSecond x (node l a b)) b
+    + walkVisits order (firstVisits l a (handsFirst order x (node l a b) .fixup)) (handsFirst order x (node l a b)) a
+    + walkVisits order (secondVisits l b (handsSecond x (node l a b) .fixup)) (handsSecond x (node l a b)) b
 
--- the visits of `row_walk::decide` on an accepted table
-abbrev pub decideVisits : ℕ → ℕ → List ℕ → ℕ
-decideVisits context count cells = walkVisits 0 (rootHanded context (treeAt cells count 1)) (treeAt cells count 1)
+-- the visits of `row_walk::decide_by` on an accepted table
+abbrev pub decideVisits : CalleeOrder → ℕ → ℕ → List ℕ → ℕ
+decideVisits order context count cells = walkVisits order 0 (rootHanded context (treeAt cells count 1)) (treeAt cells count 1)

@@ -7,6 +7,7 @@ use crate::stems::ENDS;
 use crate::stems::NEXTS;
 use crate::stems::ROWS;
 use crate::stems::SCRATCH;
+use expr::order::CalleeOrder;
 ghost use Prim.Native.Nat.{_<_, _≤_};
 
 // The forms of a block, by the numbers of their stems, from the top down: one, two or three of them.
@@ -17,7 +18,7 @@ pub struct Forms {
     pub third: usize,
 }
 
-// The digest with the rows of the tree of so many nodes, in context 0. A refusal counts as a tree of more nodes than any
+// The digest with the rows of the tree of so many nodes, in context 0 and the crate's callee order. A refusal counts as a tree of more nodes than any
 // has.
 fn with_tree(digest: u64, cells: &[u16; CELLS], count: usize) -> u64
     requires { ⌜ digest < 70_368_744_177_643 ⌝ }
@@ -26,7 +27,14 @@ fn with_tree(digest: u64, cells: &[u16; CELLS], count: usize) -> u64
 {
     let mut rows = [0u16; ROWS];
     let mut scratch = [0u16; SCRATCH];
-    let reply = row_walk::decide(0, count as u16, cells, &mut rows, &mut scratch);
+    let reply = row_walk::decide_by(
+        CalleeOrder::Crates,
+        0,
+        count as u16,
+        cells,
+        &mut rows,
+        &mut scratch,
+    );
     if reply != 0 {
         return digest::add(digest, 1_000);
     }

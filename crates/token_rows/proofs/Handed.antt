@@ -19,6 +19,7 @@ use Rattle.fixup_scan.specs.Scans.{scanned}
 use Rattle.fixup_subexpression.specs.Subexpressions.{leftmostWithOperator, leftmostWithDot, rightmostOperand}
 use Rattle.expr.specs.declared.Handed.{Handed}
 use Rattle.expr.specs.Handed.{groupedBy, ungrouped, neither}
+use Rattle.expr.specs.declared.order.CalleeOrder.the-variants.{Ours}
 use Rattle.expr.specs.Expr.{canBeginExpr, canBeginGenerics, leftNeedsGroup, rightNeedsGroup, binaryLeft, binaryRight, callNeedsGroup, firstLines, handsFirst, secondLines, handsSecond}
 use Rattle.row.specs.Rows.{outerPair}
 use Rattle.token_grammar.specs.Tokens.{Operator, number}
@@ -106,7 +107,7 @@ module _ (k : Context) (x : FixupContext) (c : Calm k x) (s : Settled x) where
 
   -- ---- owner by owner
 
-  pub prefix-first : (p : Prefix) (a : Expr one) → Operand k (handsFirst x (treeOf (prefix p a))) a (tooWeak k (after prefixes) g a) g
+  pub prefix-first : (p : Prefix) (a : Expr one) → Operand k (handsFirst Ours x (treeOf (prefix p a))) a (tooWeak k (after prefixes) g a) g
   unfolding handsFirst firstLines lookup pick
   prefix-first neg a = after-prefix a
   prefix-first deref a = after-prefix a
@@ -114,11 +115,11 @@ module _ (k : Context) (x : FixupContext) (c : Calm k x) (s : Settled x) where
   prefix-first ref a = after-prefix a
   prefix-first refMut a = after-prefix a
 
-  pub binary-first : (o : Operator) (a b : Expr one) → Operand k (handsFirst x (treeOf (binary o a b))) a (tooWeakBefore k o a) (opensArguments o)
+  pub binary-first : (o : Operator) (a b : Expr one) → Operand k (handsFirst Ours x (treeOf (binary o a b))) a (tooWeakBefore k o a) (opensArguments o)
   unfolding handsFirst firstLines lookup pick operatorLabel opensArguments kind
   binary-first o a b = go (operated o)
     where
-      go : Operating o → Operand k (handsFirst x (treeOf (binary o a b))) a (tooWeakBefore k o a) (opensArguments o)
+      go : Operating o → Operand k (handsFirst Ours x (treeOf (binary o a b))) a (tooWeakBefore k o a) (opensArguments o)
       go (assigning e) = rw e (before-other false rank.Assign (leftNeedsGroup Right rank.Assign) a _ (omega arith) (assign-left a))
       go (operating h e) = rw e (before-binary o h a)
 
@@ -132,37 +133,37 @@ module _ (k : Context) (x : FixupContext) (c : Calm k x) (s : Settled x) where
           rw e
           (at-end (ofBinop (number o)) (rightNeedsGroup (binopBinding (number o) .lean) (ofBinop (number o))) b _ (rw (binop-level o h) (omega (arith, operator-high o))) (right-test o h g b))
 
-  pub cast-first : (a : Expr one) (t : Ty one) → Operand k (handsFirst x (treeOf (cast a t))) a (tooWeak k (before casts) false a) false
+  pub cast-first : (a : Expr one) (t : Ty one) → Operand k (handsFirst Ours x (treeOf (cast a t))) a (tooWeak k (before casts) false a) false
   unfolding handsFirst firstLines lookup pick
   cast-first a t = before-other false rank.Cast (λ left. below left rank.Cast) a _ (omega arith) (λ p e. ap (λ n. ltb n 13) e)
 
-  pub member-first : (m : Member) (a : Expr one) → Operand k (handsFirst x (treeOf (member m a))) a (tooWeak k (before postfixes) false a) false
+  pub member-first : (m : Member) (a : Expr one) → Operand k (handsFirst Ours x (treeOf (member m a))) a (tooWeak k (before postfixes) false a) false
   unfolding handsFirst firstLines lookup pick
   member-first (byName y) a = before-dot a
   member-first (byNumber y) a = before-dot a
   member-first awaited a = before-dot a
 
-  pub try-first : (a : Expr one) → Operand k (handsFirst x (treeOf (try a))) a (tooWeak k (before postfixes) false a) false
+  pub try-first : (a : Expr one) → Operand k (handsFirst Ours x (treeOf (try a))) a (tooWeak k (before postfixes) false a) false
   unfolding handsFirst firstLines lookup pick
   try-first a = before-dot a
 
-  pub index-first : (a b : Expr one) → Operand k (handsFirst x (treeOf (index a b))) a (tooWeak k (before postfixes) false a) false
+  pub index-first : (a b : Expr one) → Operand k (handsFirst Ours x (treeOf (index a b))) a (tooWeak k (before postfixes) false a) false
   unfolding handsFirst firstLines lookup pick
   index-first a b = before-other true rank.Unambiguous (λ left. below left rank.Unambiguous) a _ (omega arith) (λ p e. ap (λ n. ltb n 15) e)
 
-  pub call-first : (a : Expr one) (l : Expr list) → Operand k (handsFirst x (treeOf (call a l))) a (tooWeakToCall k a) false
+  pub call-first : (a : Expr one) (l : Expr list) → Operand k (handsFirst Ours x (treeOf (call a l))) a (tooWeakToCall k a) false
   unfolding handsFirst firstLines lookup pick
   call-first a l =
-      subst (λ p. Operand k (handsFirst x (treeOf (call a l))) a p false) (regroup (excluded k a) (ltb (strength false a) 15) (endsInDotName a))
-      (before-other true rank.Unambiguous (callNeedsGroup (treeOf a)) a (weakOrDotName a) (omega arith) (call-test a))
+      subst (λ p. Operand k (handsFirst Ours x (treeOf (call a l))) a p false) (regroup (excluded k a) (ltb (strength false a) 15) (endsInDotName a))
+      (before-other true rank.Unambiguous (callNeedsGroup Ours (treeOf a)) a (weakOrDotName a) (omega arith) (call-test a))
 
-  pub method-first : (y : ℕ) (a : Expr one) (l : Expr list) → Operand k (handsFirst x (treeOf (method y a l))) a (tooWeak k (before postfixes) false a) false
+  pub method-first : (y : ℕ) (a : Expr one) (l : Expr list) → Operand k (handsFirst Ours x (treeOf (method y a l))) a (tooWeak k (before postfixes) false a) false
   unfolding handsFirst firstLines lookup pick
   method-first y a l = before-dot a
 
 -- ---- owners that hand down NONE
 
-pub paren-first : (x : FixupContext) (a : Expr one) → handsFirst x (treeOf (paren a)) ≡ neither NONE (treeOf a)
+pub paren-first : (x : FixupContext) (a : Expr one) → handsFirst Ours x (treeOf (paren a)) ≡ neither NONE (treeOf a)
 unfolding handsFirst firstLines lookup pick
 paren-first x a = refl
 
@@ -170,6 +171,6 @@ pub index-second : (x : FixupContext) (a b : Expr one) → handsSecond x (treeOf
 unfolding handsSecond secondLines lookup pick
 index-second x a b = refl
 
-pub link-first : (x : FixupContext) (a b : Tree) → handsFirst x (node (label Link 0) a b) ≡ neither NONE a
+pub link-first : (x : FixupContext) (a b : Tree) → handsFirst Ours x (node (label Link 0) a b) ≡ neither NONE a
 unfolding handsFirst firstLines lookup pick
 link-first x a b = refl

@@ -11,6 +11,7 @@ use Rattle.fixup.specs.declared.context.FixupContext.{FixupContext}
 use Rattle.fixup.specs.Contexts.{NONE}
 use Rattle.expr.specs.declared.Handed.{Handed}
 use Rattle.expr.specs.Handed.{neither}
+use Rattle.expr.specs.declared.order.CalleeOrder.the-variants.{Ours}
 use Rattle.expr.specs.Expr.{handsFirst, handsSecond}
 use Rattle.row.specs.Rows.{ownContext}
 use Rattle.row_walk.specs.Paths.{Branch, first, second, treeBy, handedBy}
@@ -33,8 +34,8 @@ use Rattle.token_rows.proofs.Tokens.{marked, inside, tokensFor, insideF
 
 unfoldable pub insideBut : Branch → (Handed → Tree → List Token → List Token) → FixupContext → Tree → List Token → List Token
 insideBut s but x none rest = rest
-insideBut first but x (node l a b) rest = inside (signsOf l b) (but (handsFirst x (node l a b)) a) (tokensFor (handsSecond x (node l a b)) b) rest
-insideBut second but x (node l a b) rest = inside (signsOf l b) (tokensFor (handsFirst x (node l a b)) a) (but (handsSecond x (node l a b)) b) rest
+insideBut first but x (node l a b) rest = inside (signsOf l b) (but (handsFirst Ours x (node l a b)) a) (tokensFor (handsSecond x (node l a b)) b) rest
+insideBut second but x (node l a b) rest = inside (signsOf l b) (tokensFor (handsFirst Ours x (node l a b)) a) (but (handsSecond x (node l a b)) b) rest
 
 unfoldable pub tokensBut : List Branch → Handed → Tree → List Token → List Token
 tokensBut [] h t rest = insideFor (ownContext h t) t rest
@@ -42,12 +43,12 @@ tokensBut (s ∷ p) h t rest = within (marked h t) (insideBut s (tokensBut p) (o
 
 -- whether the row of the node at a path has an outer pair
 unfoldable pub markedAt : Handed → Tree → List Branch → Bool
-markedAt h t p = marked (handedBy h t p) (treeBy t p)
+markedAt h t p = marked (handedBy Ours h t p) (treeBy t p)
 
 -- the same below a node whose own context is x
 unfoldable pub markedBelow : Branch → List Branch → FixupContext → Tree → Bool
 markedBelow s p x none = false
-markedBelow first p x (node l a b) = markedAt (handsFirst x (node l a b)) a p
+markedBelow first p x (node l a b) = markedAt (handsFirst Ours x (node l a b)) a p
 markedBelow second p x (node l a b) = markedAt (handsSecond x (node l a b)) b p
 
 none-marked : (h : Handed) (p : List Branch) → markedAt h none p ≡ false
@@ -98,13 +99,13 @@ unmarked (moreTypes t l) h (second ∷ p) = unmarked l _ p
 -- ---- by the signs of a node
 
 module _ (x : FixupContext) (l : Label) (a b : Tree) (s : Signs) (e : signsOf l b ≡ s) (but : Handed → Tree → List Token → List Token) (end : List Token) where
-  but-first : insideBut first but x (node l a b) end ≡ inside s (but (handsFirst x (node l a b)) a) (tokensFor (handsSecond x (node l a b)) b) end
+  but-first : insideBut first but x (node l a b) end ≡ inside s (but (handsFirst Ours x (node l a b)) a) (tokensFor (handsSecond x (node l a b)) b) end
   unfolding insideBut
-  but-first = ap (λ z. inside z (but (handsFirst x (node l a b)) a) (tokensFor (handsSecond x (node l a b)) b) end) e
+  but-first = ap (λ z. inside z (but (handsFirst Ours x (node l a b)) a) (tokensFor (handsSecond x (node l a b)) b) end) e
 
-  but-second : insideBut second but x (node l a b) end ≡ inside s (tokensFor (handsFirst x (node l a b)) a) (but (handsSecond x (node l a b)) b) end
+  but-second : insideBut second but x (node l a b) end ≡ inside s (tokensFor (handsFirst Ours x (node l a b)) a) (but (handsSecond x (node l a b)) b) end
   unfolding insideBut
-  but-second = ap (λ z. inside z (tokensFor (handsFirst x (node l a b)) a) (but (handsSecond x (node l a b)) b) end) e
+  but-second = ap (λ z. inside z (tokensFor (handsFirst Ours x (node l a b)) a) (but (handsSecond x (node l a b)) b) end) e
 
 -- ---- an operand: its own pair is left out, or one inside it
 
@@ -201,7 +202,7 @@ link-below h a b s p rest = ap (λ c. within c (insideBut s (tokensBut p) (ownCo
 drops : (s : Sort) (e : Expr s) → Drops s e
 unfolding markedBelow tokensFor signsOf signLines lookup pick
 drops s (atom y) = λ k x c w.
-    split (DropsAt (atom y) k x) (λ p m. nothing (handsFirst x (treeOf (atom y))) p m) (λ p m. nothing (handsSecond x (treeOf (atom y))) p m)
+    split (DropsAt (atom y) k x) (λ p m. nothing (handsFirst Ours x (treeOf (atom y))) p m) (λ p m. nothing (handsSecond x (treeOf (atom y))) p m)
 drops s (paren a) = λ k x c w.
     split (DropsAt (paren a) k x)
     (λ p m.
@@ -226,7 +227,7 @@ drops s (binary o a b) = λ k x c w.
       inl (d .0),
       λ end.
           but-first x _ _ _ (signs [] (operator o ∷ []) []) (operator-signs o (treeOf b)) (tokensBut p) end
-          ∙ ap (λ r. tokensBut p (handsFirst x (treeOf (binary o a b))) (treeOf a) (operator o ∷ r)) (operand-is (binary-second k x c w o a b) (is one b) end)
+          ∙ ap (λ r. tokensBut p (handsFirst Ours x (treeOf (binary o a b))) (treeOf a) (operator o ∷ r)) (operand-is (binary-second k x c w o a b) (is one b) end)
           ∙ d .1 _,
     ))
     (λ p m.
@@ -234,7 +235,7 @@ drops s (binary o a b) = λ k x c w.
       inr (d .0),
       λ end.
           but-second x _ _ _ (signs [] (operator o ∷ []) []) (operator-signs o (treeOf b)) (tokensBut p) end
-          ∙ ap (λ r. tokensFor (handsFirst x (treeOf (binary o a b))) (treeOf a) (operator o ∷ r)) (d .1 end)
+          ∙ ap (λ r. tokensFor (handsFirst Ours x (treeOf (binary o a b))) (treeOf a) (operator o ∷ r)) (d .1 end)
           ∙ operand-is (binary-first k x c w o a b) (is one a) _,
     ))
 drops s (cast a t) = λ k x c w.
@@ -244,7 +245,7 @@ drops s (cast a t) = λ k x c w.
       d .0,
       λ end.
           but-first x _ _ _ (signs [] (As ∷ []) []) refl (tokensBut p) end
-          ∙ ap (λ r. tokensBut p (handsFirst x (treeOf (cast a t))) (treeOf a) (As ∷ r)) (types-are t (handsSecond x (treeOf (cast a t))) end)
+          ∙ ap (λ r. tokensBut p (handsFirst Ours x (treeOf (cast a t))) (treeOf a) (As ∷ r)) (types-are t (handsSecond x (treeOf (cast a t))) end)
           ∙ d .1 _,
     ))
     (λ p m. true-not-false (sym m ∙ unmarked t (handsSecond x (treeOf (cast a t))) p))
@@ -267,8 +268,8 @@ drops s (index a b) = λ k x c w.
       inl (d .0),
       λ end.
           but-first x _ _ _ (signs [] (LeftBracket ∷ []) (RightBracket ∷ [])) refl (tokensBut p) end
-          ∙ ap (λ h. tokensBut p (handsFirst x (treeOf (index a b))) (treeOf a) (LeftBracket ∷ tokensFor h (treeOf b) (RightBracket ∷ end))) (index-second x a b)
-          ∙ ap (λ r. tokensBut p (handsFirst x (treeOf (index a b))) (treeOf a) (LeftBracket ∷ r)) (operand-is (alone b) (is one b) (RightBracket ∷ end))
+          ∙ ap (λ h. tokensBut p (handsFirst Ours x (treeOf (index a b))) (treeOf a) (LeftBracket ∷ tokensFor h (treeOf b) (RightBracket ∷ end))) (index-second x a b)
+          ∙ ap (λ r. tokensBut p (handsFirst Ours x (treeOf (index a b))) (treeOf a) (LeftBracket ∷ r)) (operand-is (alone b) (is one b) (RightBracket ∷ end))
           ∙ d .1 _,
     ))
     (λ p m.
@@ -276,8 +277,8 @@ drops s (index a b) = λ k x c w.
       inr (d .0),
       λ end.
           but-second x _ _ _ (signs [] (LeftBracket ∷ []) (RightBracket ∷ [])) refl (tokensBut p) end
-          ∙ ap (λ h. tokensFor (handsFirst x (treeOf (index a b))) (treeOf a) (LeftBracket ∷ tokensBut p h (treeOf b) (RightBracket ∷ end))) (index-second x a b)
-          ∙ ap (λ r. tokensFor (handsFirst x (treeOf (index a b))) (treeOf a) (LeftBracket ∷ r)) (d .1 (RightBracket ∷ end))
+          ∙ ap (λ h. tokensFor (handsFirst Ours x (treeOf (index a b))) (treeOf a) (LeftBracket ∷ tokensBut p h (treeOf b) (RightBracket ∷ end))) (index-second x a b)
+          ∙ ap (λ r. tokensFor (handsFirst Ours x (treeOf (index a b))) (treeOf a) (LeftBracket ∷ r)) (d .1 (RightBracket ∷ end))
           ∙ operand-is (index-first k x c w a b) (is one a) _,
     ))
 drops s (call a l) = λ k x c w.
@@ -287,7 +288,7 @@ drops s (call a l) = λ k x c w.
       inl (d .0),
       λ end.
           but-first x _ _ _ (signs [] (LeftParen ∷ []) (RightParen ∷ [])) refl (tokensBut p) end
-          ∙ ap (λ r. tokensBut p (handsFirst x (treeOf (call a l))) (treeOf a) (LeftParen ∷ r)) (is list l k (handsSecond x (treeOf (call a l))) end)
+          ∙ ap (λ r. tokensBut p (handsFirst Ours x (treeOf (call a l))) (treeOf a) (LeftParen ∷ r)) (is list l k (handsSecond x (treeOf (call a l))) end)
           ∙ d .1 _,
     ))
     (λ p m.
@@ -295,7 +296,7 @@ drops s (call a l) = λ k x c w.
       inr (d .0),
       λ end.
           but-second x _ _ _ (signs [] (LeftParen ∷ []) (RightParen ∷ [])) refl (tokensBut p) end
-          ∙ ap (λ r. tokensFor (handsFirst x (treeOf (call a l))) (treeOf a) (LeftParen ∷ r)) (d .1 end)
+          ∙ ap (λ r. tokensFor (handsFirst Ours x (treeOf (call a l))) (treeOf a) (LeftParen ∷ r)) (d .1 end)
           ∙ operand-is (call-first k x c w a l) (is one a) _,
     ))
 drops s (method y a l) = λ k x c w.
@@ -305,7 +306,7 @@ drops s (method y a l) = λ k x c w.
       inl (d .0),
       λ end.
           but-first x _ _ _ (signs [] (Dot ∷ Name y ∷ LeftParen ∷ []) (RightParen ∷ [])) refl (tokensBut p) end
-          ∙ ap (λ r. tokensBut p (handsFirst x (treeOf (method y a l))) (treeOf a) (Dot ∷ Name y ∷ LeftParen ∷ r)) (is list l k (handsSecond x (treeOf (method y a l))) end)
+          ∙ ap (λ r. tokensBut p (handsFirst Ours x (treeOf (method y a l))) (treeOf a) (Dot ∷ Name y ∷ LeftParen ∷ r)) (is list l k (handsSecond x (treeOf (method y a l))) end)
           ∙ d .1 _,
     ))
     (λ p m.
@@ -313,7 +314,7 @@ drops s (method y a l) = λ k x c w.
       inr (d .0),
       λ end.
           but-second x _ _ _ (signs [] (Dot ∷ Name y ∷ LeftParen ∷ []) (RightParen ∷ [])) refl (tokensBut p) end
-          ∙ ap (λ r. tokensFor (handsFirst x (treeOf (method y a l))) (treeOf a) (Dot ∷ Name y ∷ LeftParen ∷ r)) (d .1 end)
+          ∙ ap (λ r. tokensFor (handsFirst Ours x (treeOf (method y a l))) (treeOf a) (Dot ∷ Name y ∷ LeftParen ∷ r)) (d .1 end)
           ∙ operand-is (method-first k x c w y a l) (is one a) _,
     ))
 drops s noArguments = λ j h p m. nothing h p m

@@ -16,6 +16,7 @@ use Rattle.tree_rules.specs.Refusals.{Accepted}
 use Rattle.tree_rules.proofs.Accepted.{count-bounds}
 use Rattle.expr.specs.declared.Handed.{Handed}
 use Rattle.expr.specs.Handed.{neither}
+use Rattle.expr.specs.declared.order.CalleeOrder.the-variants.{Ours}
 use Rattle.expr.specs.Expr.{handsFirst, handsSecond}
 use Rattle.row.specs.Rows.{ownContext, rowsOf}
 use Rattle.row_walk.specs.Walk.{contexts, contextNumbered, rootHanded, placed}
@@ -69,7 +70,7 @@ module _ (cells : List ℕ) (count : ℕ) (pair : ℕ → Bool) where
       let x = ownContext h (node l a b) in
       within-by (k [] refl)
       (inside-by (signsOf l b)
-      (tokens-agree a (operandAt cells count i firstColumn) (handsFirst x (node l a b)) (λ p e. k (first ∷ p) e))
+      (tokens-agree a (operandAt cells count i firstColumn) (handsFirst Ours x (node l a b)) (λ p e. k (first ∷ p) e))
       (tokens-agree b (operandAt cells count i secondColumn) (handsSecond x (node l a b)) (λ p e. k (second ∷ p) e)))
       rest
 
@@ -87,21 +88,21 @@ module _ (cells : List ℕ) (count : ℕ) (pair : ℕ → Bool) where
       let x = ownContext h (node l a b) in
       within-by (k .1)
       (inside-by (signsOf l b)
-      (tokens-agree a (operandAt cells count i firstColumn) (handsFirst x (node l a b)) (λ p e. k .0 (first ∷ p) e (differ _ _ (λ z. omega arith))))
+      (tokens-agree a (operandAt cells count i firstColumn) (handsFirst Ours x (node l a b)) (λ p e. k .0 (first ∷ p) e (differ _ _ (λ z. omega arith))))
       (tokens-agree b (operandAt cells count i secondColumn) (handsSecond x (node l a b)) (λ p e. k .0 (second ∷ p) e (differ _ _ (λ z. omega arith)))))
       rest
   tokens-but (first ∷ but) (node l a b) i h e k rest =
       let x = ownContext h (node l a b) in
       within-by (k .0 [] refl (differ _ _ (λ z. omega arith)))
       (inside-by (signsOf l b)
-      (tokens-but but a (operandAt cells count i firstColumn) (handsFirst x (node l a b)) e ((λ p e n. k .0 (first ∷ p) e (λ z. n (ap behind z))), k .1))
+      (tokens-but but a (operandAt cells count i firstColumn) (handsFirst Ours x (node l a b)) e ((λ p e n. k .0 (first ∷ p) e (λ z. n (ap behind z))), k .1))
       (tokens-agree b (operandAt cells count i secondColumn) (handsSecond x (node l a b)) (λ p e. k .0 (second ∷ p) e (differ _ _ (λ z. omega arith)))))
       rest
   tokens-but (second ∷ but) (node l a b) i h e k rest =
       let x = ownContext h (node l a b) in
       within-by (k .0 [] refl (differ _ _ (λ z. omega arith)))
       (inside-by (signsOf l b)
-      (tokens-agree a (operandAt cells count i firstColumn) (handsFirst x (node l a b)) (λ p e. k .0 (first ∷ p) e (differ _ _ (λ z. omega arith))))
+      (tokens-agree a (operandAt cells count i firstColumn) (handsFirst Ours x (node l a b)) (λ p e. k .0 (first ∷ p) e (differ _ _ (λ z. omega arith))))
       (tokens-but but b (operandAt cells count i secondColumn) (handsSecond x (node l a b)) e ((λ p e n. k .0 (second ∷ p) e (λ z. n (ap behind z))), k .1)))
       rest
 
@@ -118,14 +119,14 @@ module _ (k : Context) (count : ℕ) (cells : List ℕ) (ok : Accepted (contextN
 
   -- the rows in the context
   abbrev rows : List ℕ
-  rows = placed cells count 1 (rowsOf (rootHanded (contextNumber k) root) root) into
+  rows = placed cells count 1 (rowsOf Ours (rootHanded (contextNumber k) root) root) into
 
   pub pair-at : (p : List Branch) → isThere (treeBy root p) ≡ true → hasPair rows (numberAt cells count 1 p) ≡ markedAt (neither (begun k) root) root p
   unfolding hasPair markedAt marked
   pair-at p e =
       let b = count-bounds (contextNumber k) count cells ok in
-      ap (λ r. isOneOf (1 ∷ 3 ∷ []) (r .pair)) (row-at cells count (contextNumber k) ok 1 p (rootHanded (contextNumber k) root) into (omega arith) (b .0) room (there-at cells count 1 p e))
-      ∙ ap (λ h. marked (handedBy h root p) (treeBy root p)) (begun-at k root)
+      ap (λ r. isOneOf (1 ∷ 3 ∷ []) (r .pair)) (row-at cells count (contextNumber k) ok Ours 1 p (rootHanded (contextNumber k) root) into (omega arith) (b .0) room (there-at cells count 1 p e))
+      ∙ ap (λ h. marked (handedBy Ours h root p) (treeBy root p)) (begun-at k root)
 
   -- The tokens of the table are those by what is handed down.
   pub tokens-from : (rest : List Token) → tokensAt cells count (hasPair rows) 1 root rest ≡ tokensFor (neither (begun k) root) root rest

@@ -8,7 +8,7 @@ use native.Mathlib.Decide.{decLe}
 use borrow.Author.Tests.{lt-ltb, le-ltb, ltb-true, ltb-false}
 use Rattle.laws.specs.Choice.{pick, lookup}
 use Rattle.laws.proofs.Choice.{alike, alike-same}
-use Rattle.tree.specs.Walks.{atRoot}
+use Rattle.tree.specs.Walks.{follow, walk}
 use Rattle.precedence.specs.declared.Precedence.{Precedence}
 use Rattle.precedence.specs.declared.Precedence.the-variants as rank
 use Rattle.precedence.specs.declared.Lean.{Lean}
@@ -20,7 +20,8 @@ use Rattle.fixup.specs.Fixup.{effective}
 use Rattle.fixup_scan.specs.Scans.{scanned}
 use Rattle.fixup_subexpression.specs.Subexpressions.{operand, leftmostWithOperator, leftmostWithDot, rightmostOperand}
 use Rattle.expr.specs.Handed.{groupedBy, ungrouped, neither}
-use Rattle.expr.specs.Expr.{canBeginExpr, canBeginGenerics, leftNeedsGroup, rightNeedsGroup, callNeedsGroup}
+use Rattle.expr.specs.declared.order.CalleeOrder.the-variants.{Ours}
+use Rattle.expr.specs.Expr.{canBeginExpr, canBeginGenerics, leftNeedsGroup, rightNeedsGroup, calleeLines, namedField, callNeedsGroup}
 use Rattle.row.specs.Rows.{outerPair}
 use Rattle.token_grammar.specs.Tokens.{Operator, number}
 use Rattle.token_grammar.specs.Tokens as token
@@ -176,35 +177,36 @@ right-test o h g b p s =
     right-rank (binopBinding (number o) .lean) (ofBinop (number o)) p
     ∙ ap₂ ltb s (eqb→eq (testRight o) (rightLowest (kind o)) (but-assign (λ q. eqb (testRight q) (rightLowest (kind q))) tt o h))
 
--- ---- what is called: a Field by its member alone, anything else by its strength
+-- ---- what is called, in our callee order: by its strength, or a named Field. Nothing plain is a Group
 
 abbrev pub weakOrDotName : Expr one → Bool
 weakOrDotName a = ltb (strength false a) (before postfixes) || endsInDotName a
 
-weak-call : (a : Expr one) → strength false a < 15 → ltb (strength false a) 15 ≡ weakOrDotName a
-weak-call a h = rw (lt-ltb (strength false a) 15 h)
+abbrev weakOrNamed : Expr one → Bool
+weakOrNamed a = ltb (strength false a) 15 || namedField (treeOf a)
 
-pub call-test : (a : Expr one) → Groups (callNeedsGroup (treeOf a)) false a (weakOrDotName a)
-unfolding callNeedsGroup atRoot lookup pick strength operatorLabel kind
-call-test (atom (path y)) p s = rw s
-call-test (atom (literal y)) p s = rw s
-call-test (atom structure) p s = rw s
-call-test (paren a) p s = rw s
-call-test (prefix neg a) p s = rw s
-call-test (prefix deref a) p s = rw s
-call-test (prefix invert a) p s = rw s
-call-test (prefix ref a) p s = rw s
-call-test (prefix refMut a) p s = rw s
-call-test (binary o a b) p s = go (operated o) s
-  where
-    go : Operating o → rankOf p ≡ strength false (binary o a b) → callNeedsGroup (treeOf (binary o a b)) p ≡ weakOrDotName (binary o a b)
-    go (assigning e) s = rw e (lt-ltb (rankOf p) 15 (rw (s, e) (omega arith)))
-    go (operating h e) s = rw e (ap (λ n. ltb n 15) s ∙ weak-call (binary o a b) (omega (arith, operator-high o)))
-call-test (cast a t) p s = rw s
-call-test (member (byName y) a) p s = refl
-call-test (member (byNumber y) a) p s = refl
-call-test (member awaited a) p s = rw s
-call-test (try a) p s = rw s
-call-test (index a b) p s = rw s
-call-test (call a l) p s = rw s
-call-test (method y a l) p s = rw s
+-- what ends in a dot and a name without being a Field is weaker
+weak-or-named : (a : Expr one) → weakOrNamed a ≡ weakOrDotName a
+unfolding namedField walk follow calleeLines lookup pick strength operatorLabel kind
+weak-or-named (atom (path y)) = refl
+weak-or-named (atom (literal y)) = refl
+weak-or-named (atom structure) = refl
+weak-or-named (paren a) = refl
+weak-or-named (prefix neg a) = refl
+weak-or-named (prefix deref a) = refl
+weak-or-named (prefix invert a) = refl
+weak-or-named (prefix ref a) = refl
+weak-or-named (prefix refMut a) = refl
+weak-or-named (binary o a b) = rw (lt-ltb (strength false (binary o a b)) 15 (omega (arith, operator-high o)))
+weak-or-named (cast a t) = refl
+weak-or-named (member (byName y) a) = refl
+weak-or-named (member (byNumber y) a) = refl
+weak-or-named (member awaited a) = refl
+weak-or-named (try a) = refl
+weak-or-named (index a b) = refl
+weak-or-named (call a l) = refl
+weak-or-named (method y a l) = refl
+
+pub call-test : (a : Expr one) → Groups (callNeedsGroup Ours (treeOf a)) false a (weakOrDotName a)
+unfolding callNeedsGroup
+call-test a p s = ap (λ n. ltb n 15 || namedField (treeOf a)) s ∙ weak-or-named a

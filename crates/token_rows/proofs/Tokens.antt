@@ -12,6 +12,7 @@ use Rattle.fixup.specs.declared.context.FixupContext.{FixupContext}
 use Rattle.fixup.specs.Contexts.{NONE}
 use Rattle.expr.specs.declared.Handed.{Handed}
 use Rattle.expr.specs.Handed.{neither}
+use Rattle.expr.specs.declared.order.CalleeOrder.the-variants.{Ours}
 use Rattle.expr.specs.Expr.{handsFirst, handsSecond}
 use Rattle.row.specs.Rows.{isExpression, outerPair, innerPair, pairBy, expressionRow, rowOf, ownContext}
 use Rattle.token_grammar.specs.Tokens.{Operator, Token, operator, Lt, Gt, As, Name, Dot, LeftParen, RightParen, LeftBracket, RightBracket, Comma, Question}
@@ -46,13 +47,13 @@ tokensFor h none rest = rest
 tokensFor h (node l a b) rest =
     within
     (marked h (node l a b))
-    (inside (signsOf l b) (tokensFor (handsFirst (ownContext h (node l a b)) (node l a b)) a) (tokensFor (handsSecond (ownContext h (node l a b)) (node l a b)) b))
+    (inside (signsOf l b) (tokensFor (handsFirst Ours (ownContext h (node l a b)) (node l a b)) a) (tokensFor (handsSecond (ownContext h (node l a b)) (node l a b)) b))
     rest
 
 -- without a pair of its own, in its own context x
 unfoldable pub insideFor : FixupContext → Tree → List Token → List Token
 insideFor x none rest = rest
-insideFor x (node l a b) rest = inside (signsOf l b) (tokensFor (handsFirst x (node l a b)) a) (tokensFor (handsSecond x (node l a b)) b) rest
+insideFor x (node l a b) rest = inside (signsOf l b) (tokensFor (handsFirst Ours x (node l a b)) a) (tokensFor (handsSecond x (node l a b)) b) rest
 
 -- ---- rows
 
@@ -134,9 +135,9 @@ type-link-signs (moreTypes t l) = refl
 
 -- a node's own tokens by its signs
 inside-at : (x : FixupContext) (l : Label) (a b : Tree) (s : Signs) → signsOf l b ≡ s → (end : List Token)
-    → insideFor x (node l a b) end ≡ inside s (tokensFor (handsFirst x (node l a b)) a) (tokensFor (handsSecond x (node l a b)) b) end
+    → insideFor x (node l a b) end ≡ inside s (tokensFor (handsFirst Ours x (node l a b)) a) (tokensFor (handsSecond x (node l a b)) b) end
 unfolding insideFor
-inside-at x l a b s e end = ap (λ z. inside z (tokensFor (handsFirst x (node l a b)) a) (tokensFor (handsSecond x (node l a b)) b) end) e
+inside-at x l a b s e end = ap (λ z. inside z (tokensFor (handsFirst Ours x (node l a b)) a) (tokensFor (handsSecond x (node l a b)) b) end) e
 
 -- ---- types have no pairs
 
@@ -146,7 +147,7 @@ close list rest = operator Gt ∷ rest
 close items rest = operator Gt ∷ rest
 
 tokens-other : (h : Handed) (l : Label) (a b : Tree) (rest : List Token) → isExpression (node l a b) ≡ false → (s : Signs) → signsOf l b ≡ s
-    → (let x = ownContext h (node l a b) in tokensFor h (node l a b) rest ≡ inside s (tokensFor (handsFirst x (node l a b)) a) (tokensFor (handsSecond x (node l a b)) b) rest)
+    → (let x = ownContext h (node l a b) in tokensFor h (node l a b) rest ≡ inside s (tokensFor (handsFirst Ours x (node l a b)) a) (tokensFor (handsSecond x (node l a b)) b) rest)
 tokens-other h l a b rest e s q = tokens-by h (node l a b) rest ∙ rw (marked-other h (node l a b) e) (inside-at (ownContext h (node l a b)) l a b s q rest)
 
 pub types-are : {s : Sort} (t : Ty s) (h : Handed) (rest : List Token) → tokensFor h (treeOfType t) (close s rest) ≡ writeType (withoutTypeCommas t) rest
@@ -203,27 +204,27 @@ is s (prefix p a) = λ k x c w end.
     inside-at x _ _ _ (signs (prefixToken p ∷ []) [] []) (prefix-signs p) end ∙ ap (λ r. prefixToken p ∷ r) (operand-is (prefix-first k x c w p a) (is one a) end)
 is s (binary o a b) = λ k x c w end.
     inside-at x _ _ _ (signs [] (operator o ∷ []) []) (operator-signs o (treeOf b)) end
-    ∙ ap (λ r. tokensFor (handsFirst x (treeOf (binary o a b))) (treeOf a) (operator o ∷ r)) (operand-is (binary-second k x c w o a b) (is one b) end)
+    ∙ ap (λ r. tokensFor (handsFirst Ours x (treeOf (binary o a b))) (treeOf a) (operator o ∷ r)) (operand-is (binary-second k x c w o a b) (is one b) end)
     ∙ operand-is (binary-first k x c w o a b) (is one a) _
 is s (cast a t) = λ k x c w end.
     inside-at x _ _ _ (signs [] (As ∷ []) []) refl end
-    ∙ ap (λ r. tokensFor (handsFirst x (treeOf (cast a t))) (treeOf a) (As ∷ r)) (types-are t (handsSecond x (treeOf (cast a t))) end)
+    ∙ ap (λ r. tokensFor (handsFirst Ours x (treeOf (cast a t))) (treeOf a) (As ∷ r)) (types-are t (handsSecond x (treeOf (cast a t))) end)
     ∙ operand-is (cast-first k x c w a t) (is one a) _
 is s (member m a) = λ k x c w end.
     inside-at x _ _ _ (signs [] (Dot ∷ memberToken m ∷ []) []) (member-signs m) end ∙ operand-is (member-first k x c w m a) (is one a) _
 is s (try a) = λ k x c w end. inside-at x _ _ _ (signs [] (Question ∷ []) []) refl end ∙ operand-is (try-first k x c w a) (is one a) _
 is s (index a b) = λ k x c w end.
     inside-at x _ _ _ (signs [] (LeftBracket ∷ []) (RightBracket ∷ [])) refl end
-    ∙ ap (λ h. tokensFor (handsFirst x (treeOf (index a b))) (treeOf a) (LeftBracket ∷ tokensFor h (treeOf b) (RightBracket ∷ end))) (index-second x a b)
-    ∙ ap (λ r. tokensFor (handsFirst x (treeOf (index a b))) (treeOf a) (LeftBracket ∷ r)) (operand-is (alone b) (is one b) (RightBracket ∷ end))
+    ∙ ap (λ h. tokensFor (handsFirst Ours x (treeOf (index a b))) (treeOf a) (LeftBracket ∷ tokensFor h (treeOf b) (RightBracket ∷ end))) (index-second x a b)
+    ∙ ap (λ r. tokensFor (handsFirst Ours x (treeOf (index a b))) (treeOf a) (LeftBracket ∷ r)) (operand-is (alone b) (is one b) (RightBracket ∷ end))
     ∙ operand-is (index-first k x c w a b) (is one a) _
 is s (call a l) = λ k x c w end.
     inside-at x _ _ _ (signs [] (LeftParen ∷ []) (RightParen ∷ [])) refl end
-    ∙ ap (λ r. tokensFor (handsFirst x (treeOf (call a l))) (treeOf a) (LeftParen ∷ r)) (is list l k (handsSecond x (treeOf (call a l))) end)
+    ∙ ap (λ r. tokensFor (handsFirst Ours x (treeOf (call a l))) (treeOf a) (LeftParen ∷ r)) (is list l k (handsSecond x (treeOf (call a l))) end)
     ∙ operand-is (call-first k x c w a l) (is one a) _
 is s (method y a l) = λ k x c w end.
     inside-at x _ _ _ (signs [] (Dot ∷ Name y ∷ LeftParen ∷ []) (RightParen ∷ [])) refl end
-    ∙ ap (λ r. tokensFor (handsFirst x (treeOf (method y a l))) (treeOf a) (Dot ∷ Name y ∷ LeftParen ∷ r)) (is list l k (handsSecond x (treeOf (method y a l))) end)
+    ∙ ap (λ r. tokensFor (handsFirst Ours x (treeOf (method y a l))) (treeOf a) (Dot ∷ Name y ∷ LeftParen ∷ r)) (is list l k (handsSecond x (treeOf (method y a l))) end)
     ∙ operand-is (method-first k x c w y a l) (is one a) _
 is s noArguments = λ d h end. refl
 is s (arguments l) = λ d h end. is items l d h end

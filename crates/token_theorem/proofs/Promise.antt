@@ -17,6 +17,7 @@ use Rattle.tree.proofs.Unfold.{unfolds}
 use Rattle.tree_rules.specs.Refusals.{refusal3, Accepted}
 use Rattle.tree_rules.proofs.Accepted.{count-bounds, levels-bound}
 use Rattle.expr.specs.Handed.{neither}
+use Rattle.expr.specs.declared.order.CalleeOrder.the-variants.{Ours}
 use Rattle.row.specs.Rows.{rowsOf}
 use Rattle.row_walk.specs.Walk.{rootHanded, placed}
 use Rattle.row_walk.specs.Paths.{Branch, numberAt, treeBy}
@@ -100,11 +101,11 @@ module _ (k : Context) (count : ℕ) (cells : List ℕ) (ok : Accepted (contextN
   room = rw (length-replicate {A = ℕ} (rowCells * count) 0) (omega arith)
 
   abbrev rows : List ℕ
-  rows = placed cells count 1 (rowsOf (rootHanded context root) root) blank
+  rows = placed cells count 1 (rowsOf Ours (rootHanded context root) root) blank
 
   rows-are : rowsFor context count cells ≡ rows
   unfolding rowsFor
-  rows-are = sym (done context count cells blank (replicate (scratchCells * count) 0) ok room (rw (length-replicate {A = ℕ} (scratchCells * count) 0) (omega arith)) _ refl _ refl .1 .0) ∙ walked context count cells blank room
+  rows-are = sym (done Ours context count cells blank (replicate (scratchCells * count) 0) ok room (rw (length-replicate {A = ℕ} (scratchCells * count) 0) (omega arith)) _ refl _ refl .1 .0) ∙ walked Ours context count cells blank room
 
   -- by any parse tree of the table's tree
   written-by : (e : Expr one) → treeOf e ≡ root → written context count cells ≡ write (withoutCommas (addAll k e)) []

@@ -13,6 +13,7 @@ use Rattle.laws.proofs.Choice.{pick-true, pick-false, or-here, or-next}
 use Rattle.laws.proofs.Putting.{put-over}
 use Rattle.tree.specs.Sizes.{rowCells, scratchCells, tokenCells, tokensPerNode}
 use Rattle.tree_rules.specs.Refusals.{firstOf, refusal}
+use Rattle.expr.specs.declared.order.CalleeOrder.the-variants.{Ours}
 use Rattle.row_walk.specs.Walk.{rowsAfter}
 use Rattle.token_grammar.specs.Tokens.{cellsOf}
 use Rattle.token_plain.specs.Plain.{plainTable}
@@ -26,7 +27,7 @@ use Rattle.token_writer.proofs.Tokens.{length-cells}
 
 -- in a buffer of just the length that they need, and the tokens with them
 pub cells-written : (context count : ℕ) (cells rows scratch after : List ℕ) → rows ≡ replicate (rowCells * count) 0 → scratch ≡ replicate (scratchCells * count) 0
-    → after ≡ rowsAfter context count cells rows scratch → cellsAt cells count after 1 ≡ cellsOf (written context count cells)
+    → after ≡ rowsAfter Ours context count cells rows scratch → cellsAt cells count after 1 ≡ cellsOf (written context count cells)
 unfolding cellsAt written rowsFor
 cells-written context count cells rows scratch after r s e = rw (e, r, s)
 

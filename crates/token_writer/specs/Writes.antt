@@ -9,6 +9,7 @@ use Rattle.laws.specs.Lists.{over}
 use Rattle.tree.specs.Sizes.{rowCells, scratchCells, tokenCells, tokensPerNode}
 use Rattle.tree.specs.Trees.{treeAt}
 use Rattle.tree_rules.specs.Refusals.{refusal, refuse, firstOf}
+use Rattle.expr.specs.declared.order.CalleeOrder.the-variants.{Ours}
 use Rattle.row_walk.specs.Walk.{rowsAfter}
 use Rattle.token_grammar.specs.Tokens.{Token, cellsOf}
 use Rattle.token_grammar.specs.Grammar.{NONE, CONDITION, contextNumber}
@@ -17,9 +18,9 @@ use Rattle.token_plain.specs.Written.{tokensAt, hasPair}
 use Rattle.token_writer.specs.declared.Written.{Written}
 use Rattle.token_writer.specs.declared.Written.the-variants.{Refused, Tokens}
 
--- the rows of a table in a context, in a buffer of just the length that they need
+-- the rows of a table in a context and in our callee order, in a buffer of just the length that they need
 unfoldable pub rowsFor : ℕ → ℕ → List ℕ → List ℕ
-rowsFor context count cells = rowsAfter context count cells (replicate (rowCells * count) 0) (replicate (scratchCells * count) 0)
+rowsFor context count cells = rowsAfter Ours context count cells (replicate (rowCells * count) 0) (replicate (scratchCells * count) 0)
 
 -- "Written for a plain tree are its nodes' tokens in the grammar's order"
 unfoldable pub written : ℕ → ℕ → List ℕ → List Token
