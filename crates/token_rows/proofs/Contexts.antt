@@ -38,7 +38,7 @@ and-on : (b : Bool) → b && true ≡ b
 and-on true = refl
 and-on false = refl
 
-or-off : (b : Bool) → b || false ≡ b
+pub or-off : (b : Bool) → b || false ≡ b
 or-off true = refl
 or-off false = refl
 

@@ -7,3 +7,4 @@ pub mod Handed
 pub mod Tokens
 pub mod LeftOut
 pub mod Numbers
+pub mod Orders

@@ -3,3 +3,4 @@ pub mod Witness
 pub mod LeftOut
 pub mod Structs
 pub mod Smaller
+pub mod Orders

@@ -11,6 +11,8 @@ use Rattle.tree.specs.Forms.{ExprStruct}
 use Rattle.tree.specs.Trees.{Tree, none, node, treeAt}
 use Rattle.tree.specs.Erase.{erase}
 use Rattle.tree_rules.specs.Refusals.{Accepted}
+use Rattle.expr.specs.declared.order.CalleeOrder.the-variants.{Crates, Ours}
+use Rattle.row_walk.specs.Walk.{rowsAfter}
 use Rattle.token_grammar.specs.Tokens.{Token, LeftParen, RightParen, cellsOf}
 use Rattle.token_grammar.specs.Grammar.{Context, NONE, contextNumber}
 use Rattle.token_grammar.specs.Commas.{NoLastComma}
@@ -87,3 +89,9 @@ abbrev pub SameTokens : Type 0
 SameTokens =
     (k : Context) (count : ℕ) (cells : List ℕ) → Accepted (contextNumber k) count cells → plainTable count cells ≡ true → NoStruct (treeAt cells count 1)
     → written (contextNumber k) count cells ≡ written (contextNumber NONE) count cells
+
+-- Document 02, Paper 9: "Plain trees have neither, so their tokens do not move." The rows of a plain table are the same in both callee orders, in any context.
+abbrev pub PlainOrders : Type 0
+PlainOrders =
+    (context count : ℕ) (cells rows scratch : List ℕ) → plainTable count cells ≡ true
+    → rowsAfter Crates context count cells rows scratch ≡ rowsAfter Ours context count cells rows scratch
