@@ -35,7 +35,7 @@ use Rattle.token_grammar.proofs.Levels.{operator-high}
 use Rattle.token_grammar.proofs.Pairs.{strength-no-range, rightLowest}
 use Rattle.token_plain.specs.Trees.{operatorLabel, treeOf}
 use Rattle.token_rows.proofs.Contexts.{begun, Calm, calm-begun, calm-parenthesize, calm-operator, calm-dot, calm-rightmost}
-use Rattle.token_rows.proofs.Nodes.{Operating, assigning, operating, operated, effective-is}
+use Rattle.token_rows.proofs.Nodes.{effective-is}
 use Rattle.token_rows.proofs.Operands.{left-is, Settled, right-is}
 
 -- ---- a test by the operand's strength
