@@ -1,0 +1,3 @@
+pub mod Callees
+pub mod Orders
+pub mod Cases
