@@ -14,7 +14,7 @@ use Rattle.classify.specs.Classify.{commaLines, requiresComma, requiresSemi, la
 use Rattle.fixup_look.specs.Looks.{isLet, isStruct, isBareReturn, isOpenEnded, isPlainBlock, isBareJump, isOpenAhead, isCastToPath}
 use Rattle.fixup.specs.Fixup.{parenthesize, effective, leftOfBinary, scanLeftLines, scanLeft}
 use Rattle.fixup_scan.specs.Scans.{loose, scanned, rightBy, binds, consumes, consumeBy, assign, binary, prefix, range, jump, bareJump, lets, closed, scanLines, scanRight, rightmostPrecedence, bailsOut, leftmostPrecedence}
-use Rattle.expr.specs.Expr.{canBeginExpr, canBeginGenerics, leftNeedsGroup, rightNeedsGroup, binaryLeft, binaryRight, callNeedsGroup, firstLines, handsFirst, secondLines, handsSecond}
+use Rattle.expr.specs.Expr.{canBeginExpr, canBeginGenerics, leftNeedsGroup, rightNeedsGroup, binaryLeft, binaryRight, calleeLines, namedField, callNeedsGroup, firstLines, handsFirst, secondLines, handsSecond}
 use Rattle.expr.specs.Handed.{groupedBy, ungrouped, neither}
 use Rattle.row_pack.specs.Cells.{ofBits, flagsOf}
 use Rattle.row.specs.Rows.{outerPair, innerLines, expressionRow, rowOf, ownContext, rowsOf}
@@ -27,5 +27,5 @@ use Rattle.sheet_edit.specs.Edits.{refusal17, refusal18, editRefusal12, 
 use Rattle.sheet_edit.specs.Cases.{allHold}
 
 pub computed : allHold ≡ true
-unfolding pick lookup some classOf highestAttributes details highestDetail symbols highestSymbol allowed firstPlaces firstPlace secondPlaces secondPlace wrongClass wrongList wrongItem wrongNext wrongAt refusal3 refusal4 badNumbers refusal6 badOperands refusal7 misplaced badOrder owners badOwner refusal8 empty refusal9 plainBlock badOutput refusal10 refusal11 firstOf nodeRefusals refusal cellAt labelAt operandOf treeTo treeAt ownLevel levels follow walk atRoot operators ofBinop prefixAttrs ofLines closedBy precedenceOf commaLines requiresComma requiresSemi lastTypeInPath pathLines trailingPath labelLines leadingLabel parenthesize effective leftOfBinary scanLeftLines scanLeft binds consumes consumeBy loose scanned rightBy scanRight rightmostPrecedence bailsOut leftmostPrecedence canBeginExpr canBeginGenerics leftNeedsGroup rightNeedsGroup binaryLeft binaryRight callNeedsGroup firstLines handsFirst secondLines handsSecond groupedBy ungrouped neither ofBits flagsOf outerPair innerLines expressionRow rowOf ownContext rowsOf contexts contextNumbered rowStored placed decideRefusal12 decided rowsAfter assign binary prefix range jump bareJump lets closed scanLines isLet isStruct isBareReturn isOpenEnded isPlainBlock isBareJump isOpenAhead isCastToPath formIn over size numberOf cellsFrom numbered replaced refusalThen refusal17 refusal18 editRefusal12 editRefusal resultTable resultRows
+unfolding pick lookup some classOf highestAttributes details highestDetail symbols highestSymbol allowed firstPlaces firstPlace secondPlaces secondPlace wrongClass wrongList wrongItem wrongNext wrongAt refusal3 refusal4 badNumbers refusal6 badOperands refusal7 misplaced badOrder owners badOwner refusal8 empty refusal9 plainBlock badOutput refusal10 refusal11 firstOf nodeRefusals refusal cellAt labelAt operandOf treeTo treeAt ownLevel levels follow walk atRoot operators ofBinop prefixAttrs ofLines closedBy precedenceOf commaLines requiresComma requiresSemi lastTypeInPath pathLines trailingPath labelLines leadingLabel parenthesize effective leftOfBinary scanLeftLines scanLeft binds consumes consumeBy loose scanned rightBy scanRight rightmostPrecedence bailsOut leftmostPrecedence canBeginExpr canBeginGenerics leftNeedsGroup rightNeedsGroup binaryLeft binaryRight calleeLines namedField callNeedsGroup firstLines handsFirst secondLines handsSecond groupedBy ungrouped neither ofBits flagsOf outerPair innerLines expressionRow rowOf ownContext rowsOf contexts contextNumbered rowStored placed decideRefusal12 decided rowsAfter assign binary prefix range jump bareJump lets closed scanLines isLet isStruct isBareReturn isOpenEnded isPlainBlock isBareJump isOpenAhead isCastToPath formIn over size numberOf cellsFrom numbered replaced refusalThen refusal17 refusal18 editRefusal12 editRefusal resultTable resultRows
 computed = refl

@@ -13,6 +13,7 @@ use Rattle.tree_rules.specs.Refusals.{Accepted}
 use Rattle.tree_rules.proofs.First.{skip, no-more}
 use Rattle.tree_numbering.specs.Numbered.{size, numbered}
 use Rattle.tree_numbering.proofs.Holds.{over-numbered}
+use Rattle.expr.specs.declared.order.CalleeOrder.the-variants.{Ours}
 use Rattle.row_walk.specs.Paths.{Branch, numberAt, rowIn}
 use Rattle.row_walk.proofs.Paths.{renumbered}
 use Rattle.sheet_edit.specs.Edits.{editRefusal12, Edit, result, editRefusal, freshRows, resultTable, resultRows, tableAfter, editedRows}
@@ -67,7 +68,7 @@ module _ (e : Edit) (rows table lent : List ℕ) (taken : editRefusal e (long e 
   same-rows : (q : List Branch) → 1 ≤ numberAt (previewTable e (length rows) table (length lent)) (size (result e)) 1 q → 1 ≤ numberAt (tableAfter e (length rows)) (size (result e)) 1 q
       → rowIn (previewRows e (length rows) table lent) (numberAt (previewTable e (length rows) table (length lent)) (size (result e)) 1 q)
       ≡ rowIn (editedRows e rows) (numberAt (tableAfter e (length rows)) (size (result e)) 1 q)
-  same-rows q = rw (shown, shown-rows, given, given-rows) (λ there there′. rw (whole table, whole (e .cells)) at (renumbered (e .context) (size (result e)) (size (result e)) (over (numbered (result e)) table) (over (numbered (result e)) (e .cells)) (accepted table) (accepted (e .cells)) (whole table ∙ sym (whole (e .cells))) lent rows (let r = may .rows-room in omega arith) (let r = may .rows-room in omega arith) q there there′))
+  same-rows q = rw (shown, shown-rows, given, given-rows) (λ there there′. rw (whole table, whole (e .cells)) at (renumbered Ours (e .context) (size (result e)) (size (result e)) (over (numbered (result e)) table) (over (numbered (result e)) (e .cells)) (accepted table) (accepted (e .cells)) (whole table ∙ sym (whole (e .cells))) lent rows (let r = may .rows-room in omega arith) (let r = may .rows-room in omega arith) q there there′))
     where
       whole : (cells : List ℕ) → treeAt (over (numbered (result e)) cells) (size (result e)) 1 ≡ result e
       whole cells = over-numbered (result e) cells (let f = may .few in omega arith)

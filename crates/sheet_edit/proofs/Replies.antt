@@ -21,6 +21,7 @@ use Rattle.tree_rules.proofs.First.{stop, skip, no-more, passed, table-refused,
 use Rattle.tree_numbering.specs.Numbered.{size, numbered}
 use Rattle.tree_numbering.proofs.Sizes.{size-accepted}
 use Rattle.tree_numbering.proofs.Holds.{length-numbered, over-numbered}
+use Rattle.expr.specs.declared.order.CalleeOrder.the-variants.{Ours}
 use Rattle.row_walk.specs.Walk.{walkedAfter}
 use Rattle.row_walk.proofs.Replies.{walked}
 use Rattle.sheet_edit.specs.declared.Edited.{Edited}
@@ -144,16 +145,16 @@ module _ (t : Tree) (cells rows : List ℕ) (context : ℕ) where
   -- a table that holds the result, and the rows that the walk writes from it
   pub shows : size t ≤ mostNodes → rowCells * size t ≤ length rows → (n : ℕ) → n ≡ size t
       → (table : List ℕ) → table ≡ over (numbered t) cells
-      → (after : List ℕ) → after ≡ walkedAfter context n table rows
+      → (after : List ℕ) → after ≡ walkedAfter Ours context n table rows
       → Replaces t cells rows context n table after
   shows few wide n m table u after e =
-      (m, (u, e ∙ rw (m, u) (walked context (size t) (over (numbered t) cells) rows wide ∙ rw (over-numbered t cells (omega arith)))))
+      (m, (u, e ∙ rw (m, u) (walked Ours context (size t) (over (numbered t) cells) rows wide ∙ rw (over-numbered t cells (omega arith)))))
 
   -- the result is numbered into an array of its own, which is copied
   pub replaces : size t ≤ mostNodes → rowCells * size t ≤ length rows → (n : ℕ) → n ≡ size t
       → (base own : List ℕ) → own ≡ over (numbered t) base
       → (table : List ℕ) → table ≡ over (take (nodeCells * n) own) cells
-      → (after : List ℕ) → after ≡ walkedAfter context n table rows
+      → (after : List ℕ) → after ≡ walkedAfter Ours context n table rows
       → Replaces t cells rows context n table after
   replaces few wide n m base own eo table et after e =
       shows few wide n m table (et ∙ rw (m, eo, start t base)) after e

@@ -16,6 +16,7 @@ use Rattle.tree_rules.proofs.First.{none-applied}
 use Rattle.tree_rules.proofs.Accepted.{count-bounds}
 use Rattle.tree_numbering.specs.Numbered.{size, numbered}
 use Rattle.tree_numbering.proofs.Holds.{over-numbered}
+use Rattle.expr.specs.declared.order.CalleeOrder.the-variants.{Ours}
 use Rattle.row.specs.Rows.{rowsOf}
 use Rattle.row_walk.specs.Walk.{rootHanded, placed, decideRefusal12, decided, rowsAfter}
 use Rattle.row_walk.specs.Paths.{Branch, numberAt, rowIn}
@@ -50,10 +51,10 @@ module _ (s : Sheet) (c : Change) where
       let r = w .rows-room in
       record {
         accepted = a;
-        room = rw (length-placed (over (numbered (result (editOn s c))) (s .table)) (size (result (editOn s c))) 1 (rowsOf (rootHanded (s .context) (result (editOn s c))) (result (editOn s c))) (s .rows)) r;
+        room = rw (length-placed (over (numbered (result (editOn s c))) (s .table)) (size (result (editOn s c))) 1 (rowsOf Ours (rootHanded (s .context) (result (editOn s c))) (result (editOn s c))) (s .rows)) r;
         rows-right = λ q there.
-            ap (λ (u : Tree). rowIn (placed (over (numbered (result (editOn s c))) (s .table)) (size (result (editOn s c))) 1 (rowsOf (rootHanded (s .context) u) u) (s .rows)) (numberAt (over (numbered (result (editOn s c))) (s .table)) (size (result (editOn s c))) 1 q)) (sym t)
-            ∙ row-at (over (numbered (result (editOn s c))) (s .table)) (size (result (editOn s c))) (s .context) a 1 q (rootHanded (s .context) (treeAt (over (numbered (result (editOn s c))) (s .table)) (size (result (editOn s c))) 1)) (s .rows) (omega arith) (k .0) r there;
+            ap (λ (u : Tree). rowIn (placed (over (numbered (result (editOn s c))) (s .table)) (size (result (editOn s c))) 1 (rowsOf Ours (rootHanded (s .context) u) u) (s .rows)) (numberAt (over (numbered (result (editOn s c))) (s .table)) (size (result (editOn s c))) 1 q)) (sym t)
+            ∙ row-at (over (numbered (result (editOn s c))) (s .table)) (size (result (editOn s c))) (s .context) a Ours 1 q (rootHanded (s .context) (treeAt (over (numbered (result (editOn s c))) (s .table)) (size (result (editOn s c))) 1)) (s .rows) (omega arith) (k .0) r there;
       }
 
   pub changed-right : Right s → Right (changed s c)
@@ -78,8 +79,8 @@ module _ (s : Sheet) (c : Change) where
         w : Allowed (editOn s c) (length (s .table)) (length (s .rows))
         w = allowed (editOn s c) (length (s .table)) (length (s .rows)) z
 
-        same : Same (rootHanded (s .context) (treeAt (s .table) (s .count) 1)) (rootHanded (s .context) (result (editOn s c))) (treeAt (s .table) (s .count) 1) (result (editOn s c)) q
-        same = stays (editOn s c) (w .sheet) (w .named) p q at o
+        same : Same Ours (rootHanded (s .context) (treeAt (s .table) (s .count) 1)) (rootHanded (s .context) (result (editOn s c))) (treeAt (s .table) (s .count) 1) (result (editOn s c)) q
+        same = stays (editOn s c) (w .sheet) (w .named) Ours p q at o
 
         whole : treeAt (over (numbered (result (editOn s c))) (s .table)) (size (result (editOn s c))) 1 ≡ result (editOn s c)
         whole = over-numbered (result (editOn s c)) (s .table) (let f = w .few in omega arith)
@@ -111,11 +112,11 @@ unfolding decided decideRefusal12 refusalThen rowsAfter
 opened-right context count cells rows scratch taken =
     let p = none-applied context count cells (pick (decideRefusal12 count (length rows) (length scratch)) 12 0) taken in
     let room = ltb-false _ _ (or-false _ _ (pick-zero _ 12 0 (omega arith) (p .1) .0) .0) in
-    rw (pick-true (placed cells count 1 (rowsOf (rootHanded context (treeAt cells count 1)) (treeAt cells count 1)) rows) rows (eq-eqb _ 0 taken))
+    rw (pick-true (placed cells count 1 (rowsOf Ours (rootHanded context (treeAt cells count 1)) (treeAt cells count 1)) rows) rows (eq-eqb _ 0 taken))
     (record {
       accepted = p .0;
-      room = rw (length-placed cells count 1 (rowsOf (rootHanded context (treeAt cells count 1)) (treeAt cells count 1)) rows) room;
-      rows-right = λ q there. row-at cells count context (p .0) 1 q (rootHanded context (treeAt cells count 1)) rows (omega arith) (count-bounds context count cells (p .0) .0) room there;
+      room = rw (length-placed cells count 1 (rowsOf Ours (rootHanded context (treeAt cells count 1)) (treeAt cells count 1)) rows) room;
+      rows-right = λ q there. row-at cells count context (p .0) Ours 1 q (rootHanded context (treeAt cells count 1)) rows (omega arith) (count-bounds context count cells (p .0) .0) room there;
     })
 
 -- an opened sheet after any list of edits, refused ones among them

@@ -5,6 +5,7 @@ use Prim.Native.Nat.{ℕ}
 use lib.Dec.{eqb}
 use lib.ListN.{length, take, drop, replicate}
 use Rattle.tree.specs.Forms.{ExprAssign, ExprBinary, ExprBlock, ExprClosure, ExprPath, ExprRange, TypePath, ExprCast}
+use Rattle.expr.specs.declared.order.CalleeOrder.the-variants.{Ours}
 use Rattle.row_walk.specs.Walk.{rowsAfter}
 use Rattle.sheet_edit.specs.Edits.{Edit, editOf, editRefusal, tableAfter, editedRows}
 
@@ -62,7 +63,7 @@ abbrev noise : List ℕ
 noise = replicate 25 99
 
 abbrev before : List ℕ
-before = rowsAfter 1 4 half noise (replicate 12 0)
+before = rowsAfter Ours 1 4 half noise (replicate 12 0)
 
 abbrev after : List ℕ
 after = editedRows (editOf 1 4 half 4 0 2 upTo) noise

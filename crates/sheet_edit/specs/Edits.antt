@@ -13,6 +13,7 @@ use Rattle.tree.specs.Trees.{Tree, treeAt}
 use Rattle.tree_rules.specs.Refusals.{refusal10, refusal11, refuse, firstOf, refusalThen}
 use Rattle.tree_numbering.specs.Numbered.{size, numbered}
 use Rattle.tree_numbering.specs.Replaced.{replacedAt}
+use Rattle.expr.specs.declared.order.CalleeOrder.the-variants.{Ours}
 use Rattle.row_walk.specs.Walk.{treeRows}
 use Rattle.sheet_edit.specs.declared.Edited.{Edited}
 use Rattle.sheet_edit.specs.declared.Edited.the-variants.{Refused, Nodes}
@@ -72,9 +73,9 @@ editRefusal e table rows =
 unfoldable pub editReply : Edit → ℕ → ℕ → Edited
 editReply e table rows = pick (eqb (editRefusal e table rows) 0) (Nodes (size (result e))) (Refused (editRefusal e table rows))
 
--- the rows of a tree under a context, worked out afresh, in the cells of the nodes that a table gives it
+-- the rows of a tree under a context, worked out afresh in our callee order, in the cells of the nodes that a table gives it
 abbrev pub freshRows : ℕ → Tree → List ℕ → List ℕ → List ℕ
-freshRows context t cells rows = treeRows context (size t) t cells rows
+freshRows context t cells rows = treeRows Ours context (size t) t cells rows
 
 -- buffers for the result, where the table and the rows count as so long. "A refused edit changes nothing."
 -- Otherwise the table has "the tree .. numbered as in Paper 2" over its start; what lies behind it stays

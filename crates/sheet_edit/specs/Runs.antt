@@ -9,6 +9,7 @@ use Rattle.tree.specs.Sizes.{rowCells}
 use Rattle.tree.specs.Trees.{treeAt}
 use Rattle.tree_rules.specs.Refusals.{Accepted}
 use Rattle.tree_numbering.specs.Numbered.{size}
+use Rattle.expr.specs.declared.order.CalleeOrder.the-variants.{Ours}
 use Rattle.row.specs.Rows.{rowOf}
 use Rattle.row_walk.specs.Walk.{rootHanded, rowsAfter}
 use Rattle.row_walk.specs.Paths.{Branch, numberAt, treeBy, handedBy, rowIn}
@@ -23,7 +24,7 @@ pub record Sheet : Type 0 where
 
 -- an opened sheet: a table, and the rows that `decide` gives it
 abbrev pub opened : ℕ → ℕ → List ℕ → List ℕ → List ℕ → Sheet
-opened context count cells rows scratch = record { context = context; count = count; table = cells; rows = rowsAfter context count cells rows scratch }
+opened context count cells rows scratch = record { context = context; count = count; table = cells; rows = rowsAfter Ours context count cells rows scratch }
 
 -- a node, and the second tree's context, count and table
 pub record Change : Type 0 where
@@ -55,4 +56,4 @@ pub record Right (s : Sheet) : Type 0 where
   pub accepted : Accepted (s .context) (s .count) (s .table)
   pub room : rowCells * s .count ≤ length (s .rows)
   pub rows-right : (q : List Branch) → 1 ≤ numberAt (s .table) (s .count) 1 q
-      → rowIn (s .rows) (numberAt (s .table) (s .count) 1 q) ≡ rowOf (handedBy (rootHanded (s .context) (treeAt (s .table) (s .count) 1)) (treeAt (s .table) (s .count) 1) q) (treeBy (treeAt (s .table) (s .count) 1) q)
+      → rowIn (s .rows) (numberAt (s .table) (s .count) 1 q) ≡ rowOf (handedBy Ours (rootHanded (s .context) (treeAt (s .table) (s .count) 1)) (treeAt (s .table) (s .count) 1) q) (treeBy (treeAt (s .table) (s .count) 1) q)

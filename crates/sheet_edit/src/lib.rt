@@ -1,4 +1,5 @@
 // An open sheet's edit: the expression at a named node is replaced by another accepted tree. And a look before the edit.
+use expr::order::CalleeOrder;
 use row_walk::walk;
 use tree::columns;
 use tree::forms;
@@ -193,7 +194,7 @@ fn replace(
 {
     let done = number(table, count, place, second, nodes, own);
     copy(own, sizes::NODE_CELLS * (done as usize), table);
-    walk(context, done, table, rows);
+    walk(CalleeOrder::Ours, context, done, table, rows);
     done
 }
 
@@ -326,7 +327,7 @@ fn show(
     ensures { λ r. ⌜ Replaces (joined (now (table .entry)) count place (now (second .entry)) nodes) (now (out .entry)) (now (rows .entry)) context r (now (out .exit)) (now (rows .exit)) ⌝ }
 {
     let done = number(table, count, place, second, nodes, out);
-    walk(context, done, out, rows);
+    walk(CalleeOrder::Ours, context, done, out, rows);
     done
 }
 
