@@ -13,7 +13,7 @@ use Rattle.tree_rules.specs.Refusals.{Accepted}
 use Rattle.tree_rules.proofs.First.{skip, no-more}
 use Rattle.tree_numbering.specs.Numbered.{size, numbered}
 use Rattle.tree_numbering.proofs.Holds.{over-numbered}
-use Rattle.expr.specs.declared.order.CalleeOrder.the-variants.{Ours}
+use Rattle.expr.specs.declared.order.CalleeOrder.{CalleeOrder}
 use Rattle.row_walk.specs.Paths.{Branch, numberAt, rowIn}
 use Rattle.row_walk.proofs.Paths.{renumbered}
 use Rattle.sheet_edit.specs.Edits.{editRefusal12, Edit, result, editRefusal, freshRows, resultTable, resultRows, tableAfter, editedRows}
@@ -49,26 +49,26 @@ module _ (e : Edit) (rows table lent : List ℕ) (taken : editRefusal e (long e 
   unfolding resultTable
   shown = pick-true _ _ (eq-eqb _ 0 taken)
 
-  shown-rows : previewRows e (length rows) table lent ≡ freshRows (e .context) (result e) (over (numbered (result e)) table) lent
+  shown-rows : (order : CalleeOrder) → previewRows order e (length rows) table lent ≡ freshRows order (e .context) (result e) (over (numbered (result e)) table) lent
   unfolding resultRows
-  shown-rows = pick-true _ _ (eq-eqb _ 0 taken)
+  shown-rows order = pick-true _ _ (eq-eqb _ 0 taken)
 
   given : tableAfter e (length rows) ≡ over (numbered (result e)) (e .cells)
   unfolding resultTable
   given = pick-true _ _ (eq-eqb _ 0 edit-taken)
 
-  given-rows : editedRows e rows ≡ freshRows (e .context) (result e) (over (numbered (result e)) (e .cells)) rows
+  given-rows : (order : CalleeOrder) → editedRows order e rows ≡ freshRows order (e .context) (result e) (over (numbered (result e)) (e .cells)) rows
   unfolding resultRows
-  given-rows = pick-true _ _ (eq-eqb _ 0 edit-taken)
+  given-rows order = pick-true _ _ (eq-eqb _ 0 edit-taken)
 
   same-table : take (nodeCells * size (result e)) (previewTable e (length rows) table (length lent)) ≡ take (nodeCells * size (result e)) (tableAfter e (length rows))
   same-table = rw (shown, given) (start (result e) table ∙ sym (start (result e) (e .cells)))
 
   -- however the buffers go on: at each path of the result
-  same-rows : (q : List Branch) → 1 ≤ numberAt (previewTable e (length rows) table (length lent)) (size (result e)) 1 q → 1 ≤ numberAt (tableAfter e (length rows)) (size (result e)) 1 q
-      → rowIn (previewRows e (length rows) table lent) (numberAt (previewTable e (length rows) table (length lent)) (size (result e)) 1 q)
-      ≡ rowIn (editedRows e rows) (numberAt (tableAfter e (length rows)) (size (result e)) 1 q)
-  same-rows q = rw (shown, shown-rows, given, given-rows) (λ there there′. rw (whole table, whole (e .cells)) at (renumbered Ours (e .context) (size (result e)) (size (result e)) (over (numbered (result e)) table) (over (numbered (result e)) (e .cells)) (accepted table) (accepted (e .cells)) (whole table ∙ sym (whole (e .cells))) lent rows (let r = may .rows-room in omega arith) (let r = may .rows-room in omega arith) q there there′))
+  same-rows : (order : CalleeOrder) (q : List Branch) → 1 ≤ numberAt (previewTable e (length rows) table (length lent)) (size (result e)) 1 q → 1 ≤ numberAt (tableAfter e (length rows)) (size (result e)) 1 q
+      → rowIn (previewRows order e (length rows) table lent) (numberAt (previewTable e (length rows) table (length lent)) (size (result e)) 1 q)
+      ≡ rowIn (editedRows order e rows) (numberAt (tableAfter e (length rows)) (size (result e)) 1 q)
+  same-rows order q = rw (shown, shown-rows order, given, given-rows order) (λ there there′. rw (whole table, whole (e .cells)) at (renumbered order (e .context) (size (result e)) (size (result e)) (over (numbered (result e)) table) (over (numbered (result e)) (e .cells)) (accepted table) (accepted (e .cells)) (whole table ∙ sym (whole (e .cells))) lent rows (let r = may .rows-room in omega arith) (let r = may .rows-room in omega arith) q there there′))
     where
       whole : (cells : List ℕ) → treeAt (over (numbered (result e)) cells) (size (result e)) 1 ≡ result e
       whole cells = over-numbered (result e) cells (let f = may .few in omega arith)
@@ -77,4 +77,4 @@ module _ (e : Edit) (rows table lent : List ℕ) (taken : editRefusal e (long e 
       accepted cells = over-accepted e (may .sheet) (may .other) (may .named) (may .fits) cells
 
 pub previewed : Previewed
-previewed e rows table lent z = record { taken = edit-taken e rows table lent z; same-table = same-table e rows table lent z; same-rows = λ q. same-rows e rows table lent z q }
+previewed order e rows table lent z = record { taken = edit-taken e rows table lent z; same-table = same-table e rows table lent z; same-rows = λ q. same-rows e rows table lent z order q }

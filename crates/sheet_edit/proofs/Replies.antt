@@ -21,7 +21,7 @@ use Rattle.tree_rules.proofs.First.{stop, skip, no-more, passed, table-refused,
 use Rattle.tree_numbering.specs.Numbered.{size, numbered}
 use Rattle.tree_numbering.proofs.Sizes.{size-accepted}
 use Rattle.tree_numbering.proofs.Holds.{length-numbered, over-numbered}
-use Rattle.expr.specs.declared.order.CalleeOrder.the-variants.{Ours}
+use Rattle.expr.specs.declared.order.CalleeOrder.{CalleeOrder}
 use Rattle.row_walk.specs.Walk.{walkedAfter}
 use Rattle.row_walk.proofs.Replies.{walked}
 use Rattle.sheet_edit.specs.declared.Edited.{Edited}
@@ -141,21 +141,21 @@ pub start : (t : Tree) (cells : List ℕ) → take (nodeCells * size t) (over (n
 unfolding over
 start t cells = take-at (numbered t) _ (nodeCells * size t) (length-numbered t)
 
-module _ (t : Tree) (cells rows : List ℕ) (context : ℕ) where
+module _ (t : Tree) (cells rows : List ℕ) (context : ℕ) (order : CalleeOrder) where
   -- a table that holds the result, and the rows that the walk writes from it
   pub shows : size t ≤ mostNodes → rowCells * size t ≤ length rows → (n : ℕ) → n ≡ size t
       → (table : List ℕ) → table ≡ over (numbered t) cells
-      → (after : List ℕ) → after ≡ walkedAfter Ours context n table rows
-      → Replaces t cells rows context n table after
+      → (after : List ℕ) → after ≡ walkedAfter order context n table rows
+      → Replaces t cells rows context order n table after
   shows few wide n m table u after e =
-      (m, (u, e ∙ rw (m, u) (walked Ours context (size t) (over (numbered t) cells) rows wide ∙ rw (over-numbered t cells (omega arith)))))
+      (m, (u, e ∙ rw (m, u) (walked order context (size t) (over (numbered t) cells) rows wide ∙ rw (over-numbered t cells (omega arith)))))
 
   -- the result is numbered into an array of its own, which is copied
   pub replaces : size t ≤ mostNodes → rowCells * size t ≤ length rows → (n : ℕ) → n ≡ size t
       → (base own : List ℕ) → own ≡ over (numbered t) base
       → (table : List ℕ) → table ≡ over (take (nodeCells * n) own) cells
-      → (after : List ℕ) → after ≡ walkedAfter Ours context n table rows
-      → Replaces t cells rows context n table after
+      → (after : List ℕ) → after ≡ walkedAfter order context n table rows
+      → Replaces t cells rows context order n table after
   replaces few wide n m base own eo table et after e =
       shows few wide n m table (et ∙ rw (m, eo, start t base)) after e
 
@@ -163,12 +163,12 @@ module _ (t : Tree) (cells rows : List ℕ) (context : ℕ) where
 
 module _ (e : Edit) (long wide : ℕ) where
   -- what the three clauses of the contract say of an answer, the table and the rows
-  abbrev pub Gives : List ℕ → List ℕ → Edited → List ℕ → List ℕ → Type 0
-  Gives cells rows r table after = (r ≡ editReply e long wide) × ((table ≡ resultTable e long wide cells) × (after ≡ resultRows e long wide cells rows))
+  abbrev pub Gives : CalleeOrder → List ℕ → List ℕ → Edited → List ℕ → List ℕ → Type 0
+  Gives order cells rows r table after = (r ≡ editReply e long wide) × ((table ≡ resultTable e long wide cells) × (after ≡ resultRows order e long wide cells rows))
 
-  pub refused : (cells rows : List ℕ) (r : ℕ) → r ≡ editRefusal e long wide → (r ≡ 0 → ⊥) → Gives cells rows (Refused r) cells rows
+  pub refused : (order : CalleeOrder) (cells rows : List ℕ) (r : ℕ) → r ≡ editRefusal e long wide → (r ≡ 0 → ⊥) → Gives order cells rows (Refused r) cells rows
   unfolding editReply resultTable resultRows
-  refused cells rows r q n =
+  refused order cells rows r q n =
       let f = ne-eqb (editRefusal e long wide) 0 (λ z. n (q ∙ z)) in
       (ap Refused q ∙ sym (pick-false _ _ f), (sym (pick-false _ _ f), sym (pick-false _ _ f)))
 
@@ -210,8 +210,8 @@ module _ (e : Edit) (long wide : ℕ) where
           omega arith
 
   -- where nothing is refused: the result numbered over the table, and its rows
-  pub done : (cells rows : List ℕ) → editRefusal e long wide ≡ 0 → (n : ℕ) (table after : List ℕ) → Replaces (result e) cells rows (e .context) n table after → Gives cells rows (Nodes n) table after
+  pub done : (order : CalleeOrder) (cells rows : List ℕ) → editRefusal e long wide ≡ 0 → (n : ℕ) (table after : List ℕ) → Replaces (result e) cells rows (e .context) order n table after → Gives order cells rows (Nodes n) table after
   unfolding editReply resultTable resultRows
-  done cells rows z n table after w =
+  done order cells rows z n table after w =
       let f = eq-eqb (editRefusal e long wide) 0 z in
       (rw (w .0) (sym (pick-true _ _ f)), (w .1 .0 ∙ sym (pick-true _ _ f), w .1 .1 ∙ sym (pick-true _ _ f)))

@@ -16,7 +16,7 @@ use Rattle.tree_rules.proofs.First.{none-applied}
 use Rattle.tree_rules.proofs.Accepted.{count-bounds}
 use Rattle.tree_numbering.specs.Numbered.{size, numbered}
 use Rattle.tree_numbering.proofs.Holds.{over-numbered}
-use Rattle.expr.specs.declared.order.CalleeOrder.the-variants.{Ours}
+use Rattle.expr.specs.declared.order.CalleeOrder.{CalleeOrder}
 use Rattle.row.specs.Rows.{rowsOf}
 use Rattle.row_walk.specs.Walk.{rootHanded, placed, decideRefusal12, decided, rowsAfter}
 use Rattle.row_walk.specs.Paths.{Branch, numberAt, rowIn}
@@ -37,8 +37,9 @@ module _ (s : Sheet) (c : Change) where
       record {
         context = s .context;
         count = size (result (editOn s c));
+        order = s .order;
         table = over (numbered (result (editOn s c))) (s .table);
-        rows = freshRows (s .context) (result (editOn s c)) (over (numbered (result (editOn s c))) (s .table)) (s .rows);
+        rows = freshRows (s .order) (s .context) (result (editOn s c)) (over (numbered (result (editOn s c))) (s .table)) (s .rows);
       }
 
   done-right : editRefusal (editOn s c) (length (s .table)) (length (s .rows)) ≡ 0 → Right Done
@@ -51,10 +52,10 @@ module _ (s : Sheet) (c : Change) where
       let r = w .rows-room in
       record {
         accepted = a;
-        room = rw (length-placed (over (numbered (result (editOn s c))) (s .table)) (size (result (editOn s c))) 1 (rowsOf Ours (rootHanded (s .context) (result (editOn s c))) (result (editOn s c))) (s .rows)) r;
+        room = rw (length-placed (over (numbered (result (editOn s c))) (s .table)) (size (result (editOn s c))) 1 (rowsOf (s .order) (rootHanded (s .context) (result (editOn s c))) (result (editOn s c))) (s .rows)) r;
         rows-right = λ q there.
-            ap (λ (u : Tree). rowIn (placed (over (numbered (result (editOn s c))) (s .table)) (size (result (editOn s c))) 1 (rowsOf Ours (rootHanded (s .context) u) u) (s .rows)) (numberAt (over (numbered (result (editOn s c))) (s .table)) (size (result (editOn s c))) 1 q)) (sym t)
-            ∙ row-at (over (numbered (result (editOn s c))) (s .table)) (size (result (editOn s c))) (s .context) a Ours 1 q (rootHanded (s .context) (treeAt (over (numbered (result (editOn s c))) (s .table)) (size (result (editOn s c))) 1)) (s .rows) (omega arith) (k .0) r there;
+            ap (λ (u : Tree). rowIn (placed (over (numbered (result (editOn s c))) (s .table)) (size (result (editOn s c))) 1 (rowsOf (s .order) (rootHanded (s .context) u) u) (s .rows)) (numberAt (over (numbered (result (editOn s c))) (s .table)) (size (result (editOn s c))) 1 q)) (sym t)
+            ∙ row-at (over (numbered (result (editOn s c))) (s .table)) (size (result (editOn s c))) (s .context) a (s .order) 1 q (rootHanded (s .context) (treeAt (over (numbered (result (editOn s c))) (s .table)) (size (result (editOn s c))) 1)) (s .rows) (omega arith) (k .0) r there;
       }
 
   pub changed-right : Right s → Right (changed s c)
@@ -79,8 +80,8 @@ module _ (s : Sheet) (c : Change) where
         w : Allowed (editOn s c) (length (s .table)) (length (s .rows))
         w = allowed (editOn s c) (length (s .table)) (length (s .rows)) z
 
-        same : Same Ours (rootHanded (s .context) (treeAt (s .table) (s .count) 1)) (rootHanded (s .context) (result (editOn s c))) (treeAt (s .table) (s .count) 1) (result (editOn s c)) q
-        same = stays (editOn s c) (w .sheet) (w .named) Ours p q at o
+        same : Same (s .order) (rootHanded (s .context) (treeAt (s .table) (s .count) 1)) (rootHanded (s .context) (result (editOn s c))) (treeAt (s .table) (s .count) 1) (result (editOn s c)) q
+        same = stays (editOn s c) (w .sheet) (w .named) (s .order) p q at o
 
         whole : treeAt (over (numbered (result (editOn s c))) (s .table)) (size (result (editOn s c))) 1 ≡ result (editOn s c)
         whole = over-numbered (result (editOn s c)) (s .table) (let f = w .few in omega arith)
@@ -105,20 +106,20 @@ unfolding ran
 ran-right s [] right = right
 ran-right s (c ∷ cs) right = ran-right (changed s c) cs (changed-right s c right)
 
--- a sheet that `decide` does not refuse is right once it is opened
-pub opened-right : (context count : ℕ) (cells rows scratch : List ℕ) → decided context count cells (length rows) (length scratch) ≡ 0
-    → Right (opened context count cells rows scratch)
+-- a sheet that is not refused is right once it is opened, in the order in which it is
+pub opened-right : (order : CalleeOrder) (context count : ℕ) (cells rows scratch : List ℕ) → decided context count cells (length rows) (length scratch) ≡ 0
+    → Right (opened order context count cells rows scratch)
 unfolding decided decideRefusal12 refusalThen rowsAfter
-opened-right context count cells rows scratch taken =
+opened-right order context count cells rows scratch taken =
     let p = none-applied context count cells (pick (decideRefusal12 count (length rows) (length scratch)) 12 0) taken in
     let room = ltb-false _ _ (or-false _ _ (pick-zero _ 12 0 (omega arith) (p .1) .0) .0) in
-    rw (pick-true (placed cells count 1 (rowsOf Ours (rootHanded context (treeAt cells count 1)) (treeAt cells count 1)) rows) rows (eq-eqb _ 0 taken))
+    rw (pick-true (placed cells count 1 (rowsOf order (rootHanded context (treeAt cells count 1)) (treeAt cells count 1)) rows) rows (eq-eqb _ 0 taken))
     (record {
       accepted = p .0;
-      room = rw (length-placed cells count 1 (rowsOf Ours (rootHanded context (treeAt cells count 1)) (treeAt cells count 1)) rows) room;
-      rows-right = λ q there. row-at cells count context (p .0) Ours 1 q (rootHanded context (treeAt cells count 1)) rows (omega arith) (count-bounds context count cells (p .0) .0) room there;
+      room = rw (length-placed cells count 1 (rowsOf order (rootHanded context (treeAt cells count 1)) (treeAt cells count 1)) rows) room;
+      rows-right = λ q there. row-at cells count context (p .0) order 1 q (rootHanded context (treeAt cells count 1)) rows (omega arith) (count-bounds context count cells (p .0) .0) room there;
     })
 
 -- an opened sheet after any list of edits, refused ones among them
 pub edits : AnyEdits
-edits context count cells rows scratch taken cs = ran-right (opened context count cells rows scratch) cs (opened-right context count cells rows scratch taken)
+edits order context count cells rows scratch taken cs = ran-right (opened order context count cells rows scratch) cs (opened-right order context count cells rows scratch taken)

@@ -4,8 +4,9 @@ use mathlib.Core.List.{List, [], _∷_}
 use Prim.Native.Nat.{ℕ}
 use lib.Dec.{eqb}
 use lib.ListN.{length, take, drop, replicate}
-use Rattle.tree.specs.Forms.{ExprAssign, ExprBinary, ExprBlock, ExprClosure, ExprPath, ExprRange, TypePath, ExprCast}
-use Rattle.expr.specs.declared.order.CalleeOrder.the-variants.{Ours}
+use Rattle.tree.specs.Forms.{ExprAssign, ExprBinary, ExprBlock, ExprCall, ExprClosure, ExprField, ExprGroup, ExprPath, ExprRange, TypePath, ExprCast}
+use Rattle.expr.specs.declared.order.CalleeOrder.{CalleeOrder}
+use Rattle.expr.specs.declared.order.CalleeOrder.the-variants.{Crates, Ours}
 use Rattle.row_walk.specs.Walk.{rowsAfter}
 use Rattle.sheet_edit.specs.Edits.{Edit, editOf, editRefusal, tableAfter, editedRows}
 
@@ -66,7 +67,7 @@ abbrev before : List ℕ
 before = rowsAfter Ours 1 4 half noise (replicate 12 0)
 
 abbrev after : List ℕ
-after = editedRows (editOf 1 4 half 4 0 2 upTo) noise
+after = editedRows Ours (editOf 1 4 half 4 0 2 upTo) noise
 
 abbrev beside : Bool
 beside =
@@ -75,5 +76,18 @@ beside =
     && (same (take 1 (drop 5 after)) (0 ∷ [])
     && same (take 1 (drop 14 after)) (258 ∷ [])))
 
+-- ---- in the sheet's own order: `f()`, where f becomes a Group over the named Field `a.b`, gets the callee's pair in our order alone
+abbrev call : List ℕ
+call = n ExprCall 0 0 2 0 (name (replicate 12 0))
+
+abbrev grouped : List ℕ
+grouped = n ExprGroup 0 0 2 0 (n ExprField 0 0 3 0 (name []))
+
+abbrev calleeIn : CalleeOrder → List ℕ
+calleeIn order = take 1 (drop 5 (editedRows order (editOf 0 2 call 2 0 3 grouped) noise))
+
+abbrev inOrder : Bool
+inOrder = same (calleeIn Crates) (0 ∷ []) && same (calleeIn Ours) (1 ∷ [])
+
 abbrev pub allHold : Bool
-allHold = grows && (refuses && beside)
+allHold = grows && (refuses && (beside && inOrder))

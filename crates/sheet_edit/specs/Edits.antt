@@ -13,7 +13,7 @@ use Rattle.tree.specs.Trees.{Tree, treeAt}
 use Rattle.tree_rules.specs.Refusals.{refusal10, refusal11, refuse, firstOf, refusalThen}
 use Rattle.tree_numbering.specs.Numbered.{size, numbered}
 use Rattle.tree_numbering.specs.Replaced.{replacedAt}
-use Rattle.expr.specs.declared.order.CalleeOrder.the-variants.{Ours}
+use Rattle.expr.specs.declared.order.CalleeOrder.{CalleeOrder}
 use Rattle.row_walk.specs.Walk.{treeRows}
 use Rattle.sheet_edit.specs.declared.Edited.{Edited}
 use Rattle.sheet_edit.specs.declared.Edited.the-variants.{Refused, Nodes}
@@ -73,26 +73,26 @@ editRefusal e table rows =
 unfoldable pub editReply : Edit → ℕ → ℕ → Edited
 editReply e table rows = pick (eqb (editRefusal e table rows) 0) (Nodes (size (result e))) (Refused (editRefusal e table rows))
 
--- the rows of a tree under a context, worked out afresh in our callee order, in the cells of the nodes that a table gives it
-abbrev pub freshRows : ℕ → Tree → List ℕ → List ℕ → List ℕ
-freshRows context t cells rows = treeRows Ours context (size t) t cells rows
+-- the rows of a tree in a callee order under a context, worked out afresh, in the cells of the nodes that a table gives it
+abbrev pub freshRows : CalleeOrder → ℕ → Tree → List ℕ → List ℕ → List ℕ
+freshRows order context t cells rows = treeRows order context (size t) t cells rows
 
 -- buffers for the result, where the table and the rows count as so long. "A refused edit changes nothing."
 -- Otherwise the table has "the tree .. numbered as in Paper 2" over its start; what lies behind it stays
 unfoldable pub resultTable : Edit → ℕ → ℕ → List ℕ → List ℕ
 resultTable e long wide table = pick (eqb (editRefusal e long wide) 0) (over (numbered (result e)) table) table
 
--- and "all rows equal those worked out afresh, whatever rows were handed in"; "The sheet's context stays"
-unfoldable pub resultRows : Edit → ℕ → ℕ → List ℕ → List ℕ → List ℕ
-resultRows e long wide table rows =
-    pick (eqb (editRefusal e long wide) 0) (freshRows (e .context) (result e) (over (numbered (result e)) table) rows) rows
+-- and "all rows equal those worked out afresh, whatever rows were handed in"; "The sheet's context stays". The callee order is the one that the sheet holds (Paper 10); nothing else of an edit goes by it
+unfoldable pub resultRows : CalleeOrder → Edit → ℕ → ℕ → List ℕ → List ℕ → List ℕ
+resultRows order e long wide table rows =
+    pick (eqb (editRefusal e long wide) 0) (freshRows order (e .context) (result e) (over (numbered (result e)) table) rows) rows
 
 -- the sheet's table after an edit, where its rows have so many cells, and its rows
 abbrev pub tableAfter : Edit → ℕ → List ℕ
 tableAfter e rows = resultTable e (length (e .cells)) rows (e .cells)
 
-abbrev pub editedRows : Edit → List ℕ → List ℕ
-editedRows e rows = resultRows e (length (e .cells)) (length rows) (e .cells) rows
+abbrev pub editedRows : CalleeOrder → Edit → List ℕ → List ℕ
+editedRows order e rows = resultRows order e (length (e .cells)) (length rows) (e .cells) rows
 
 -- "When an answer is an enum, a definition gives this paper's number and values for each of its cases." The reply number, 0 for done, and behind it the value
 abbrev pub editedInNumbers : Edited → List ℕ

@@ -2,6 +2,7 @@
 use mathlib.Core.List.{List}
 use Prim.Native.Nat.{ℕ, min}
 use lib.ListN.{length}
+use Rattle.expr.specs.declared.order.CalleeOrder.{CalleeOrder}
 use Rattle.sheet_edit.specs.declared.Edited.{Edited}
 use Rattle.sheet_edit.specs.Edits.{Edit, editReply, resultTable, resultRows}
 
@@ -13,9 +14,9 @@ long e table = min (length (e .cells)) table
 abbrev pub previewReply : Edit → ℕ → ℕ → ℕ → Edited
 previewReply e rows table lent = editReply e (long e table) (min rows lent)
 
--- the lent table and the lent rows afterwards
+-- the lent table and the lent rows afterwards, these in the sheet's callee order
 abbrev pub previewTable : Edit → ℕ → List ℕ → ℕ → List ℕ
 previewTable e rows table lent = resultTable e (long e (length table)) (min rows lent) table
 
-abbrev pub previewRows : Edit → ℕ → List ℕ → List ℕ → List ℕ
-previewRows e rows table lent = resultRows e (long e (length table)) (min rows (length lent)) table lent
+abbrev pub previewRows : CalleeOrder → Edit → ℕ → List ℕ → List ℕ → List ℕ
+previewRows order e rows table lent = resultRows order e (long e (length table)) (min rows (length lent)) table lent

@@ -1,4 +1,4 @@
--- Document 02, Papers 6 and 7: what is promised of edits of an open sheet, and of previews.
+-- Document 02, Papers 6, 7 and 10: what is promised of edits of an open sheet, and of previews, in either callee order.
 use mathlib.Core.Bool.{true, false}
 use mathlib.Core.List.{List, [], _∷_, _++_}
 use mathlib.Core.Path.{_≡_}
@@ -9,6 +9,7 @@ use Rattle.tree.specs.Sizes.{nodeCells, rowCells}
 use Rattle.tree.specs.Trees.{treeAt}
 use Rattle.tree_rules.specs.Refusals.{refuse, firstOf, Accepted}
 use Rattle.tree_numbering.specs.Numbered.{size, numbered}
+use Rattle.expr.specs.declared.order.CalleeOrder.{CalleeOrder}
 use Rattle.row_walk.specs.Walk.{decided}
 use Rattle.row_walk.specs.Paths.{Branch, numberAt, treeBy, rowIn}
 use Rattle.sheet_edit.specs.Edits.{Edit, result, refusal17, refusal18, editRefusal12, editRefusal, editReply, tableAfter, editedRows}
@@ -37,11 +38,11 @@ EditLocal =
     → numberAt (s .table) (s .count) 1 p ≡ c .place → 1 ≤ numberAt (s .table) (s .count) 1 q → sheltered (treeAt (s .table) (s .count) 1) p q ≡ true
     → Stays s (changed s c) q
 
--- "After any run of edits", refused ones among them, a sheet that `decide` opened is accepted, and its rows are those worked out afresh.
+-- "After any run of edits", refused ones among them, an opened sheet is accepted, and its rows are those worked out afresh in the order in which it was opened.
 abbrev pub AnyEdits : Type 0
 AnyEdits =
-    (context count : ℕ) (cells rows scratch : List ℕ) → decided context count cells (length rows) (length scratch) ≡ 0
-    → (cs : List Change) → Right (ran (opened context count cells rows scratch) cs)
+    (order : CalleeOrder) (context count : ℕ) (cells rows scratch : List ℕ) → decided context count cells (length rows) (length scratch) ≡ 0
+    → (cs : List Change) → Right (ran (opened order context count cells rows scratch) cs)
 
 -- "Replacing node 1 is allowed.": the result is the second tree, and nothing but 12 is left to refuse it.
 abbrev pub EditRoot : Type 0
@@ -62,13 +63,13 @@ abbrev pub SameReply : Type 0
 SameReply = (e : Edit) (rows table lent : ℕ) → length (e .cells) ≤ table → rows ≤ lent → previewReply e rows table lent ≡ editReply e (length (e .cells)) rows
 
 -- and, in whatever buffers it is not refused, what the edit would give: it is not refused, its cells are the same, and so is the row at each path.
-pub record SameResult (e : Edit) (rows table lent : List ℕ) : Type 0 where
+pub record SameResult (order : CalleeOrder) (e : Edit) (rows table lent : List ℕ) : Type 0 where
   pub taken : editRefusal e (length (e .cells)) (length rows) ≡ 0
   pub same-table : take (nodeCells * size (result e)) (previewTable e (length rows) table (length lent)) ≡ take (nodeCells * size (result e)) (tableAfter e (length rows))
   pub same-rows : (q : List Branch)
       → 1 ≤ numberAt (previewTable e (length rows) table (length lent)) (size (result e)) 1 q → 1 ≤ numberAt (tableAfter e (length rows)) (size (result e)) 1 q
-      → rowIn (previewRows e (length rows) table lent) (numberAt (previewTable e (length rows) table (length lent)) (size (result e)) 1 q)
-      ≡ rowIn (editedRows e rows) (numberAt (tableAfter e (length rows)) (size (result e)) 1 q)
+      → rowIn (previewRows order e (length rows) table lent) (numberAt (previewTable e (length rows) table (length lent)) (size (result e)) 1 q)
+      ≡ rowIn (editedRows order e rows) (numberAt (tableAfter e (length rows)) (size (result e)) 1 q)
 
 abbrev pub Previewed : Type 0
-Previewed = (e : Edit) (rows table lent : List ℕ) → editRefusal e (long e (length table)) (min (length rows) (length lent)) ≡ 0 → SameResult e rows table lent
+Previewed = (order : CalleeOrder) (e : Edit) (rows table lent : List ℕ) → editRefusal e (long e (length table)) (min (length rows) (length lent)) ≡ 0 → SameResult order e rows table lent

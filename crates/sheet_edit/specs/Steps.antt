@@ -10,6 +10,7 @@ use Rattle.tree.specs.Forms.{ExprClosure}
 use Rattle.tree.specs.Table.{formAt, detailAt, firstAt}
 use Rattle.tree.specs.Trees.{Tree, treeAt}
 use Rattle.tree_numbering.specs.Numbered.{size, numbered}
+use Rattle.expr.specs.declared.order.CalleeOrder.{CalleeOrder}
 use Rattle.sheet_edit.specs.Edits.{edited, freshRows}
 
 -- the result's tree, by the sheet's table and count, the named node, and the second tree's table and count
@@ -20,9 +21,9 @@ joined cells count j second nodes = edited cells count j (treeAt second nodes 1)
 unfoldable pub ownsOutput : List ℕ → ℕ → ℕ → Bool
 ownsOutput cells j i = eqb (formAt cells i) ExprClosure && (eqb (detailAt cells i) 1 && eqb (firstAt cells i) j)
 
--- the result t, numbered over a table, its rows over others, and how many nodes it has
-abbrev pub Replaces : Tree → List ℕ → List ℕ → ℕ → ℕ → List ℕ → List ℕ → Type 0
-Replaces t cells rows context n table after = (n ≡ size t) × ((table ≡ over (numbered t) cells) × (after ≡ freshRows context t (over (numbered t) cells) rows))
+-- the result t, numbered over a table, its rows in a callee order over others, and how many nodes it has
+abbrev pub Replaces : Tree → List ℕ → List ℕ → ℕ → CalleeOrder → ℕ → List ℕ → List ℕ → Type 0
+Replaces t cells rows context order n table after = (n ≡ size t) × ((table ≡ over (numbered t) cells) × (after ≡ freshRows order context t (over (numbered t) cells) rows))
 
 -- what the result t asks of the second tree's count and of the lengths of the array that it is numbered into, of the table and of the rows
 pub record Fits (t : Tree) (nodes own table rows : ℕ) : Type 0 where

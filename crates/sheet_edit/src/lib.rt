@@ -182,6 +182,7 @@ fn first_refusal(
 fn replace(
     context: u16,
     count: u16,
+    order: CalleeOrder,
     table: &mut [u16],
     rows: &mut [u16],
     place: u16,
@@ -190,11 +191,11 @@ fn replace(
     own: &mut [u16],
 ) -> u16
     requires { ⌜ Fits (joined (now table) count place (now second) nodes) nodes (length (now own)) (length (now table)) (length (now rows)) ⌝ }
-    ensures { λ r. ⌜ Replaces (joined (now (table .entry)) count place (now (second .entry)) nodes) (now (table .entry)) (now (rows .entry)) context r (now (table .exit)) (now (rows .exit)) ⌝ }
+    ensures { λ r. ⌜ Replaces (joined (now (table .entry)) count place (now (second .entry)) nodes) (now (table .entry)) (now (rows .entry)) context order r (now (table .exit)) (now (rows .exit)) ⌝ }
 {
     let done = number(table, count, place, second, nodes, own);
     copy(own, sizes::NODE_CELLS * (done as usize), table);
-    walk(CalleeOrder::Ours, context, done, table, rows);
+    walk(order, context, done, table, rows);
     done
 }
 
@@ -202,6 +203,7 @@ fn replace(
 fn replace_small(
     context: u16,
     count: u16,
+    order: CalleeOrder,
     table: &mut [u16],
     rows: &mut [u16],
     place: u16,
@@ -209,16 +211,27 @@ fn replace_small(
     second: &[u16],
 ) -> u16
     requires { ⌜ Fits (joined (now table) count place (now second) nodes) nodes (nodeCells * 64) (length (now table)) (length (now rows)) ⌝ }
-    ensures { λ r. ⌜ Replaces (joined (now (table .entry)) count place (now (second .entry)) nodes) (now (table .entry)) (now (rows .entry)) context r (now (table .exit)) (now (rows .exit)) ⌝ }
+    ensures { λ r. ⌜ Replaces (joined (now (table .entry)) count place (now (second .entry)) nodes) (now (table .entry)) (now (rows .entry)) context order r (now (table .exit)) (now (rows .exit)) ⌝ }
 {
     let mut own = [0u16; sizes::NODE_CELLS * 64];
-    replace(context, count, table, rows, place, nodes, second, &mut own)
+    replace(
+        context,
+        count,
+        order,
+        table,
+        rows,
+        place,
+        nodes,
+        second,
+        &mut own,
+    )
 }
 
 // The same for fewer than 512.
 fn replace_medium(
     context: u16,
     count: u16,
+    order: CalleeOrder,
     table: &mut [u16],
     rows: &mut [u16],
     place: u16,
@@ -226,16 +239,27 @@ fn replace_medium(
     second: &[u16],
 ) -> u16
     requires { ⌜ Fits (joined (now table) count place (now second) nodes) nodes (nodeCells * 512) (length (now table)) (length (now rows)) ⌝ }
-    ensures { λ r. ⌜ Replaces (joined (now (table .entry)) count place (now (second .entry)) nodes) (now (table .entry)) (now (rows .entry)) context r (now (table .exit)) (now (rows .exit)) ⌝ }
+    ensures { λ r. ⌜ Replaces (joined (now (table .entry)) count place (now (second .entry)) nodes) (now (table .entry)) (now (rows .entry)) context order r (now (table .exit)) (now (rows .exit)) ⌝ }
 {
     let mut own = [0u16; sizes::NODE_CELLS * 512];
-    replace(context, count, table, rows, place, nodes, second, &mut own)
+    replace(
+        context,
+        count,
+        order,
+        table,
+        rows,
+        place,
+        nodes,
+        second,
+        &mut own,
+    )
 }
 
 // The same for any number of nodes that a table may have.
 fn replace_large(
     context: u16,
     count: u16,
+    order: CalleeOrder,
     table: &mut [u16],
     rows: &mut [u16],
     place: u16,
@@ -243,16 +267,27 @@ fn replace_large(
     second: &[u16],
 ) -> u16
     requires { ⌜ Fits (joined (now table) count place (now second) nodes) nodes (nodeCells * mostNodes) (length (now table)) (length (now rows)) ⌝ }
-    ensures { λ r. ⌜ Replaces (joined (now (table .entry)) count place (now (second .entry)) nodes) (now (table .entry)) (now (rows .entry)) context r (now (table .exit)) (now (rows .exit)) ⌝ }
+    ensures { λ r. ⌜ Replaces (joined (now (table .entry)) count place (now (second .entry)) nodes) (now (table .entry)) (now (rows .entry)) context order r (now (table .exit)) (now (rows .exit)) ⌝ }
 {
     let mut own = [0u16; sizes::NODE_CELLS * (sizes::MOST_NODES as usize)];
-    replace(context, count, table, rows, place, nodes, second, &mut own)
+    replace(
+        context,
+        count,
+        order,
+        table,
+        rows,
+        place,
+        nodes,
+        second,
+        &mut own,
+    )
 }
 
-// The expression at a node of an open sheet replaced by another accepted tree: the sheet's context, count, table and rows, the node, and the second tree.
+// The expression at a node of an open sheet replaced by another accepted tree: the sheet's context, count, callee order, table and rows, the node, and the second tree.
 pub fn edit(
     context: u16,
     count: u16,
+    order: CalleeOrder,
     table: &mut [u16],
     rows: &mut [u16],
     node: u16,
@@ -262,7 +297,7 @@ pub fn edit(
 ) -> Edited
     ensures reply { λ r. ⌜ r ≡ editReply (editOf context count (now (table .entry)) node «second_context» «second_count» (now (second .entry))) (length (now (table .entry))) (length (now (rows .entry))) ⌝ }
     ensures table { λ _. ⌜ now (table .exit) ≡ tableAfter (editOf context count (now (table .entry)) node «second_context» «second_count» (now (second .entry))) (length (now (rows .entry))) ⌝ }
-    ensures rows { λ _. ⌜ now (rows .exit) ≡ editedRows (editOf context count (now (table .entry)) node «second_context» «second_count» (now (second .entry))) (now (rows .entry)) ⌝ }
+    ensures rows { λ _. ⌜ now (rows .exit) ≡ editedRows order (editOf context count (now (table .entry)) node «second_context» «second_count» (now (second .entry))) (now (rows .entry)) ⌝ }
 {
     let refused = first_refusal(
         context,
@@ -283,6 +318,7 @@ pub fn edit(
         return Edited::Nodes(replace_small(
             context,
             count,
+            order,
             table,
             rows,
             node,
@@ -294,6 +330,7 @@ pub fn edit(
         return Edited::Nodes(replace_medium(
             context,
             count,
+            order,
             table,
             rows,
             node,
@@ -301,7 +338,16 @@ pub fn edit(
             second,
         ));
     }
-    Edited::Nodes(replace_large(context, count, table, rows, node, second_count, second))
+    Edited::Nodes(replace_large(
+        context,
+        count,
+        order,
+        table,
+        rows,
+        node,
+        second_count,
+        second,
+    ))
 }
 
 // ---- the preview
@@ -316,6 +362,7 @@ fn smaller(a: usize, b: usize) -> usize
 fn show(
     context: u16,
     count: u16,
+    order: CalleeOrder,
     table: &[u16],
     place: u16,
     nodes: u16,
@@ -324,10 +371,10 @@ fn show(
     rows: &mut [u16],
 ) -> u16
     requires { ⌜ Fits (joined (now table) count place (now second) nodes) nodes (length (now out)) (length (now out)) (length (now rows)) ⌝ }
-    ensures { λ r. ⌜ Replaces (joined (now (table .entry)) count place (now (second .entry)) nodes) (now (out .entry)) (now (rows .entry)) context r (now (out .exit)) (now (rows .exit)) ⌝ }
+    ensures { λ r. ⌜ Replaces (joined (now (table .entry)) count place (now (second .entry)) nodes) (now (out .entry)) (now (rows .entry)) context order r (now (out .exit)) (now (rows .exit)) ⌝ }
 {
     let done = number(table, count, place, second, nodes, out);
-    walk(CalleeOrder::Ours, context, done, out, rows);
+    walk(order, context, done, out, rows);
     done
 }
 
@@ -335,6 +382,7 @@ fn show(
 pub fn preview(
     context: u16,
     count: u16,
+    order: CalleeOrder,
     table: &[u16],
     rows: &[u16],
     node: u16,
@@ -346,7 +394,7 @@ pub fn preview(
 ) -> Edited
     ensures reply { λ r. ⌜ r ≡ previewReply (editOf context count (now (table .entry)) node «second_context» «second_count» (now (second .entry))) (length (now (rows .entry))) (length (now («result_table» .entry))) (length (now («result_rows» .entry))) ⌝ }
     ensures table { λ _. ⌜ now («result_table» .exit) ≡ previewTable (editOf context count (now (table .entry)) node «second_context» «second_count» (now (second .entry))) (length (now (rows .entry))) (now («result_table» .entry)) (length (now («result_rows» .entry))) ⌝ }
-    ensures rows { λ _. ⌜ now («result_rows» .exit) ≡ previewRows (editOf context count (now (table .entry)) node «second_context» «second_count» (now (second .entry))) (length (now (rows .entry))) (now («result_table» .entry)) (now («result_rows» .entry)) ⌝ }
+    ensures rows { λ _. ⌜ now («result_rows» .exit) ≡ previewRows order (editOf context count (now (table .entry)) node «second_context» «second_count» (now (second .entry))) (length (now (rows .entry))) (now («result_table» .entry)) (now («result_rows» .entry)) ⌝ }
 {
     let cells = smaller(table.len(), result_table.len());
     let lent = smaller(rows.len(), result_rows.len());
@@ -367,6 +415,7 @@ pub fn preview(
     Edited::Nodes(show(
         context,
         count,
+        order,
         table,
         node,
         second_count,

@@ -13,7 +13,7 @@ use Rattle.sheet_edit.proofs.edit.Tie as tie
 returns : tie.Need-returns
 returns c =
     let a = c .before .before .before .before .before .before .args in
-    refused (editOf (a .context) (a .count) (a .table .now) (a .node) (a .second-context) (a .second-count) (a .second .now)) (length (a .table .now)) (length (a .rows .now)) (a .table .now) (a .rows .now) _ (c .before .first-refusal .ensures) (c .if1 .taken)
+    refused (editOf (a .context) (a .count) (a .table .now) (a .node) (a .second-context) (a .second-count) (a .second .now)) (length (a .table .now)) (length (a .rows .now)) (a .order) (a .table .now) (a .rows .now) _ (c .before .first-refusal .ensures) (c .if1 .taken)
 
 add-most : tie.Need-add-most
 add-most c =
@@ -35,7 +35,7 @@ replace-small-requires c κs =
 returns-2 : tie.Need-returns-2
 returns-2 c =
     let a = c .before .before .before .before .before .before .before .before .before .before .before .before .before .before .args in
-    done (editOf (a .context) (a .count) (a .table .now) (a .node) (a .second-context) (a .second-count) (a .second .now)) (length (a .table .now)) (length (a .rows .now)) (a .table .now) (a .rows .now) (sym (c .before .before .before .before .before .before .before .before .before .first-refusal .ensures) ∙ c .before .before .before .before .before .before .before .before .if1 .left) _ _ _ (c .before .before .before .before .replace-small .ensures)
+    done (editOf (a .context) (a .count) (a .table .now) (a .node) (a .second-context) (a .second-count) (a .second .now)) (length (a .table .now)) (length (a .rows .now)) (a .order) (a .table .now) (a .rows .now) (sym (c .before .before .before .before .before .before .before .before .before .first-refusal .ensures) ∙ c .before .before .before .before .before .before .before .before .if1 .left) _ _ _ (c .before .before .before .before .replace-small .ensures)
 
 replace-medium-requires : tie.Need-replace-medium-requires
 replace-medium-requires c κs =
@@ -49,7 +49,7 @@ replace-medium-requires c κs =
 returns-3 : tie.Need-returns-3
 returns-3 c =
     let a = c .before .before .before .before .before .before .before .before .before .before .before .before .before .before .before .args in
-    done (editOf (a .context) (a .count) (a .table .now) (a .node) (a .second-context) (a .second-count) (a .second .now)) (length (a .table .now)) (length (a .rows .now)) (a .table .now) (a .rows .now) (sym (c .before .before .before .before .before .before .before .before .before .before .first-refusal .ensures) ∙ c .before .before .before .before .before .before .before .before .before .if1 .left) _ _ _ (c .before .before .before .before .replace-medium .ensures)
+    done (editOf (a .context) (a .count) (a .table .now) (a .node) (a .second-context) (a .second-count) (a .second .now)) (length (a .table .now)) (length (a .rows .now)) (a .order) (a .table .now) (a .rows .now) (sym (c .before .before .before .before .before .before .before .before .before .before .first-refusal .ensures) ∙ c .before .before .before .before .before .before .before .before .before .if1 .left) _ _ _ (c .before .before .before .before .replace-medium .ensures)
 
 replace-large-requires : tie.Need-replace-large-requires
 replace-large-requires c κs =
@@ -62,7 +62,7 @@ replace-large-requires c κs =
 returns-4 : tie.Need-returns-4
 returns-4 c =
     let a = c .before .before .before .before .before .before .before .before .before .before .before .before .before .before .before .args in
-    done (editOf (a .context) (a .count) (a .table .now) (a .node) (a .second-context) (a .second-count) (a .second .now)) (length (a .table .now)) (length (a .rows .now)) (a .table .now) (a .rows .now) (sym (c .before .before .before .before .before .before .before .before .before .before .first-refusal .ensures) ∙ c .before .before .before .before .before .before .before .before .before .if1 .left) _ _ _ (c .before .before .before .before .replace-large .ensures)
+    done (editOf (a .context) (a .count) (a .table .now) (a .node) (a .second-context) (a .second-count) (a .second .now)) (length (a .table .now)) (length (a .rows .now)) (a .order) (a .table .now) (a .rows .now) (sym (c .before .before .before .before .before .before .before .before .before .before .first-refusal .ensures) ∙ c .before .before .before .before .before .before .before .before .before .if1 .left) _ _ _ (c .before .before .before .before .replace-large .ensures)
 
 pub edit-spec : {M : Type 1} → statement M
 edit-spec =

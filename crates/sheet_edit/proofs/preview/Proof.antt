@@ -15,7 +15,7 @@ returns : tie.Need-returns
 returns c =
     let a = c .before .before .before .before .before .before .before .before .before .args in
     let q = rw (c .before .before .before .smaller .ensures, c .before .before .smaller2 .ensures) at (c .before .first-refusal .ensures) in
-    refused (editOf (a .context) (a .count) (a .table .now) (a .node) (a .second-context) (a .second-count) (a .second .now)) (min (length (a .table .now)) (length (a .result-table .now))) (min (length (a .rows .now)) (length (a .result-rows .now))) (a .result-table .now) (a .result-rows .now) _ q (c .if1 .taken)
+    refused (editOf (a .context) (a .count) (a .table .now) (a .node) (a .second-context) (a .second-count) (a .second .now)) (min (length (a .table .now)) (length (a .result-table .now))) (min (length (a .rows .now)) (length (a .result-rows .now))) (a .order) (a .result-table .now) (a .result-rows .now) _ q (c .if1 .taken)
 
 show-requires : tie.Need-show-requires
 show-requires c κs =
@@ -30,7 +30,7 @@ returns-2 : tie.Need-returns-2
 returns-2 c =
     let a = c .before .before .before .before .before .before .before .before .before .before .before .before .before .before .before .before .args in
     let q = rw (c .before .before .before .before .before .before .before .before .before .before .smaller .ensures, c .before .before .before .before .before .before .before .before .before .smaller2 .ensures) at (c .before .before .before .before .before .before .before .before .first-refusal .ensures) in
-    done (editOf (a .context) (a .count) (a .table .now) (a .node) (a .second-context) (a .second-count) (a .second .now)) (min (length (a .table .now)) (length (a .result-table .now))) (min (length (a .rows .now)) (length (a .result-rows .now))) (a .result-table .now) (a .result-rows .now) (sym q ∙ c .before .before .before .before .before .before .before .if1 .left) _ _ _ (c .before .before .before .before .show .ensures)
+    done (editOf (a .context) (a .count) (a .table .now) (a .node) (a .second-context) (a .second-count) (a .second .now)) (min (length (a .table .now)) (length (a .result-table .now))) (min (length (a .rows .now)) (length (a .result-rows .now))) (a .order) (a .result-table .now) (a .result-rows .now) (sym q ∙ c .before .before .before .before .before .before .before .if1 .left) _ _ _ (c .before .before .before .before .show .ensures)
 
 pub preview-spec : {M : Type 1} → statement M
 preview-spec =
