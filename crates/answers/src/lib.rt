@@ -5,4 +5,5 @@ pub mod rows; // rows.rt: the rows of all nodes
 pub mod plain; // plain.rt: the tokens of plain trees, and their readings
 pub mod sheets; // sheets.rt: open sheets
 pub mod previews; // previews.rt: a look before an edit
+pub mod carries; // carries.rt: open sheets carried to our callee order
 pub mod operators; // operators.rt: how operators bind
