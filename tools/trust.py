@@ -17,20 +17,23 @@ import re
 import sys
 from pathlib import Path
 
-# What is promised: demand 3, commas, both contexts, open sheets, one file for one tree, the order on files, and the
-# contracts of the functions of the boundary.
+# What is promised: demand 3, commas, both contexts, the two callee orders, open sheets, one file for one tree, the
+# order on files, and the contracts of the functions of the boundary.
 ROOTS = [
     'token_theorem/Statement',
     'token_plain/Commas',
     'token_plain/Contexts',
+    'row_orders/Statement',
     'sheet_edit/Statement',
     'sheet_written/Statement',
+    'sheet_carry/Statement',
     'file_save/Statement',
     'file_order/Statement',
     'file_loader/Files',
     'file_save/Saves',
     'file_order/Orders',
     'row_walk/Walk',
+    'sheet_carry/Carries',
     'token_writer/Writes',
     'token_reader/Reading',
     'answers/Replies',
@@ -38,7 +41,7 @@ ROOTS = [
 ]
 
 # What the promises are checked against: not cited by them.
-BESIDE = ['precedence/Reference', 'row_walk/Cases', 'sheet_edit/Cases']
+BESIDE = ['precedence/Reference', 'row_walk/Cases', 'row_orders/Cases', 'sheet_edit/Cases']
 
 CRATES = Path(__file__).resolve().parent.parent / 'crates'
 GHOST_USE = re.compile(r'ghost use Rattle·(\w+)(?:·specs)?\.specs\.(\w+)\.\{([^}]*)\}')
