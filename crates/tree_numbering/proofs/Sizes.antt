@@ -1,5 +1,5 @@
--- An accepted table's tree has as many nodes as the table: each node's size is counted once more than its operands'. Assumes nothing.
-use mathlib.Core.Path.{_≡_, refl, sym}
+-- A sum over the nodes of an accepted table's tree is the sum over its node numbers; so the tree has as many nodes as the table. Assumes nothing.
+use mathlib.Core.Path.{_≡_, refl, sym, _∙_}
 use mathlib.Core.List.{List}
 use Prim.Native.Nat.{ℕ, zero, suc, _+_, _*_, _≤_, _<_}
 use native.Mathlib.Omega.{arith}
@@ -8,18 +8,14 @@ use lib.Dec.{eqb}
 use borrow.Author.Tests.{eq-eqb, ne-eqb}
 use Rattle.laws.specs.Choice.{pick}
 use Rattle.tree.specs.Table.{firstAt, secondAt, firstColumn, secondColumn}
-use Rattle.tree.specs.Trees.{none, operandAt, treeAt}
+use Rattle.tree.specs.Trees.{Tree, none, node, operandAt, treeAt}
 use Rattle.tree_rules.specs.Refusals.{owners, Accepted}
 use Rattle.tree.proofs.Unfold.{tree-zero, unfolds}
 use Rattle.tree_rules.proofs.Accepted.{count-bounds, first-most, second-most, first-operand, second-operand, counted-once}
 use Rattle.tree_numbering.specs.Numbered.{size}
+use Rattle.tree_numbering.specs.Sums.{sum}
 
 -- ---- sums
-
--- f 1 + .. + f n
-abbrev sum : (ℕ → ℕ) → ℕ → ℕ
-sum f zero = 0
-sum f (suc n) = sum f n + f (suc n)
 
 sum-same : (f h : ℕ → ℕ) (n : ℕ) → ((j : ℕ) → 1 ≤ j → j ≤ n → f j ≡ h j) → sum f n ≡ sum h n
 sum-same f h zero e = refl
@@ -102,6 +98,21 @@ module _ (cells : List ℕ) (count i : ℕ) where
   unfolding size
   size-node p q = rw (unfolds cells count i p q)
 
+-- the weights of the nodes of the tree at node i, by their numbers
+unfoldable pub weigh : List ℕ → ℕ → (ℕ → ℕ) → ℕ → Tree → ℕ
+weigh cells count w i none = 0
+weigh cells count w i (node l a b) = w i + (weigh cells count w (operandAt cells count i firstColumn) a + weigh cells count w (operandAt cells count i secondColumn) b)
+
+weigh-ones : (cells : List ℕ) (count : ℕ) (t : Tree) (i : ℕ) → weigh cells count (λ j. 1) i t ≡ size t
+unfolding weigh size
+weigh-ones cells count none i = refl
+weigh-ones cells count (node l a b) i =
+    omega (arith, weigh-ones cells count a (operandAt cells count i firstColumn), weigh-ones cells count b (operandAt cells count i secondColumn))
+
+unowned : (n o s : ℕ) → 1 ≤ n → n + o * s ≡ s → o ≡ 0
+unowned n zero s p h = refl
+unowned n (suc o) s p h = absurd (omega arith)
+
 module _ (context count : ℕ) (cells : List ℕ) (ok : Accepted context count cells) where
   abbrev pub sized : ℕ → ℕ
   sized i = size (treeAt cells count i)
@@ -110,20 +121,38 @@ module _ (context count : ℕ) (cells : List ℕ) (ok : Accepted context count c
   sized-node i p q =
       rw (size-node cells count i p q, first-operand context count cells ok i p q, second-operand context count cells ok i p q) (omega arith)
 
-  once : (j : ℕ) → 2 ≤ j → j ≤ count → sized j ≡ owners cells count j * sized j
-  once j p q = rw (counted-once context count cells ok j p q) (omega arith)
+  -- ---- weights
 
-  only-one : (o s : ℕ) → 1 ≤ count → count + o * s ≡ s → s ≡ count
-  only-one zero s p h = omega arith
-  only-one (suc o) s p h = absurd (omega arith)
+  module _ (w : ℕ → ℕ) where
+    abbrev heavy : ℕ → ℕ
+    heavy i = weigh cells count w i (treeAt cells count i)
 
-  -- each node's size is one more than its operands', and each node but 1 is an operand once
+    heavy-none : heavy 0 ≡ 0
+    unfolding weigh
+    heavy-none = rw (tree-zero cells count)
+
+    heavy-node : (i : ℕ) → 1 ≤ i → i ≤ count → heavy i ≡ w i + (heavy (firstAt cells i) + heavy (secondAt cells i))
+    unfolding weigh
+    heavy-node i p q = rw (unfolds cells count i p q, first-operand context count cells ok i p q, second-operand context count cells ok i p q)
+
+    once : (j : ℕ) → 2 ≤ j → j ≤ count → heavy j ≡ owners cells count j * heavy j
+    once j p q = rw (counted-once context count cells ok j p q) (omega arith)
+
+    -- each node's weight is its own and its operands', and each node but 1 is an operand once
+    balance : sum w count + owners cells count 1 * heavy 1 ≡ heavy 1
+    balance =
+        let k = count-bounds context count cells ok in
+        let a = sum-same heavy (λ i. w i + (heavy (firstAt cells i) + heavy (secondAt cells i))) count heavy-node in
+        let b = sum-add w (λ i. heavy (firstAt cells i) + heavy (secondAt cells i)) count in
+        let d = by-owners heavy heavy-none cells count count (λ i p q. (first-most context count cells ok i p q, second-most context count cells ok i p q)) in
+        let e = sum-but-first heavy (λ j. owners cells count j * heavy j) count (k .0) once in
+        omega arith
+
+  root-unowned : owners cells count 1 ≡ 0
+  root-unowned = unowned count (owners cells count 1) (heavy (λ j. 1) 1) (count-bounds context count cells ok .0) (let s = sum-ones count in omega (arith, balance (λ j. 1)))
+
+  pub weighed : (w : ℕ → ℕ) → weigh cells count w 1 (treeAt cells count 1) ≡ sum w count
+  weighed w = let b : sum w count + 0 * heavy w 1 ≡ heavy w 1 = rw root-unowned at (balance w) in omega arith
+
   pub size-accepted : size (treeAt cells count 1) ≡ count
-  size-accepted =
-      let k = count-bounds context count cells ok in
-      let a = sum-same sized (λ i. 1 + (sized (firstAt cells i) + sized (secondAt cells i))) count sized-node in
-      let b = sum-add (λ i. 1) (λ i. sized (firstAt cells i) + sized (secondAt cells i)) count in
-      let c = sum-ones count in
-      let d = by-owners sized (size-none cells count 0 (tree-zero cells count)) cells count count (λ i p q. (first-most context count cells ok i p q, second-most context count cells ok i p q)) in
-      let e = sum-but-first sized (λ j. owners cells count j * sized j) count (k .0) once in
-      only-one (owners cells count 1) (sized 1) (k .0) (omega arith)
+  size-accepted = sym (weigh-ones cells count (treeAt cells count 1) 1) ∙ weighed (λ j. 1) ∙ sum-ones count

@@ -3,3 +3,4 @@ pub mod Renumbering
 pub mod Replaced
 pub mod Accepting
 pub mod Passes
+pub mod Sums
