@@ -96,7 +96,7 @@ ALLOWED = [
     ('levels', 'row_pack/*', '', 'the weight of a flag'),
     ('a node', 'text/* parens/* tokens/* reading/*', '', 'the most bytes of a number with its space'),
     ('bytes', '*/proofs/*', r'65536 - |count < 65536', 'what a loop counts down from: all numbers of two bytes'),
-    ('bytes', 'answers/*', r'65536 \*', 'a refusal as a part of one number'),
+    ('bytes', 'answers/*', r'65536 \*|joined 65536', 'a refusal or a value as a part of one number'),
     ('bytes', 'recorded/src/* spines/src/*', '', 'the weight of a byte'),
 ]
 

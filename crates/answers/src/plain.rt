@@ -1,25 +1,26 @@
-// The tokens of plain trees, and the readings of token lists. An answer is the refusal times 65,536, or the count of what was stored.
+// The tokens of plain trees, and the readings of token lists. The reader's answer is the refusal times 65,536, or the count of
+// nodes stored; the writer's the refusal times 2^32, or the pairs times 65,536 and the count of tokens stored.
 use token_reader::Reply;
 use token_writer::Written;
 ghost use mathlib.Core.Path.{_≡_};
 ghost use lib.ListN.{length};
 ghost use Rattle.token_writer.specs.Writes.{answered, tokensAfter, writtenInNumbers};
 ghost use Rattle.token_reader.specs.Reading.{replyInNumbers};
-ghost use Rattle.answers.specs.Replies.{oneNumber, ReadNumber};
+ghost use Rattle.answers.specs.Replies.{oneNumber, wideNumber, ReadNumber};
 
-fn written_number(answer: Written) -> u32
-    ensures { λ r. ⌜ r ≡ oneNumber (writtenInNumbers answer) ⌝ }
+fn written_number(answer: Written) -> u64
+    ensures { λ r. ⌜ r ≡ wideNumber (writtenInNumbers answer) ⌝ }
 {
     match answer {
-        Written::Refused(refusal) => 65536 * (refusal as u32),
-        Written::Tokens(stored) => stored as u32,
+        Written::Refused(refusal) => 65536 * 65536 * (refusal as u64),
+        Written::Tokens(pairs, stored) => 65536 * (pairs as u64) + (stored as u64),
     }
 }
 
 // token_writer::write.
 #[no_mangle]
-pub extern "C" fn tezhukor_write(context: u16, count: u16, table: &[u16], tokens: &mut [u16]) -> u32
-    ensures reply { λ r. ⌜ r ≡ oneNumber (writtenInNumbers (answered context count (now (table .entry)) (length (now (tokens .entry))))) ⌝ }
+pub extern "C" fn tezhukor_write(context: u16, count: u16, table: &[u16], tokens: &mut [u16]) -> u64
+    ensures reply { λ r. ⌜ r ≡ wideNumber (writtenInNumbers (answered context count (now (table .entry)) (length (now (tokens .entry))))) ⌝ }
     ensures tokens { λ r. ⌜ now (tokens .exit) ≡ tokensAfter context count (now (table .entry)) (now (tokens .entry)) ⌝ }
 {
     written_number(token_writer::write(context, count, table, tokens))

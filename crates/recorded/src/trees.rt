@@ -141,7 +141,7 @@ fn write(file: &[u8; FILE], size: usize, tokens: &mut [u16; TABLE], lent: usize)
 fn wrote(answer: Written, h: Header) -> bool {
     match answer {
         Written::Refused(why) => record::refuses(h, why),
-        Written::Tokens(n) => record::counts(h, n),
+        Written::Tokens(_, n) => record::counts(h, n),
     }
 }
 

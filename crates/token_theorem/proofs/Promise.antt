@@ -50,7 +50,7 @@ use Rattle.token_rows.proofs.Tokens.{tokensFor, tokens-are}
 use Rattle.token_rows.proofs.LeftOut.{tokensBut, markedAt, tokens-without}
 use Rattle.token_rows.proofs.Numbers.{pair-at, tokens-from, tokens-leaving}
 use Rattle.token_writer.specs.declared.Written.the-variants.{Tokens}
-use Rattle.token_writer.specs.Writes.{rowsFor, written, takesContext, answered, tokensAfter}
+use Rattle.token_writer.specs.Writes.{rowsFor, written, pairsWritten, takesContext, answered, tokensAfter}
 use Rattle.token_writer.proofs.Bounds.{tokens-bound}
 use Rattle.token_writer.proofs.Replies.{not-refused}
 use Rattle.token_writer.proofs.Tokens.{length-cells}
@@ -80,35 +80,35 @@ module _ (k : Context) (count : ℕ) (cells : List ℕ) (ok : Accepted (contextN
   abbrev context : ℕ
   context = contextNumber k
 
-  bounds : (1 ≤ count) × (count ≤ mostNodes) × (nodeCells * count ≤ length cells)
+  pub bounds : (1 ≤ count) × (count ≤ mostNodes) × (nodeCells * count ≤ length cells)
   bounds = count-bounds context count cells ok
 
   -- ---- the writer
 
   stores : (tokens : List ℕ) → tokenCells * tokensPerNode * count ≤ length tokens
-      → (answered context count cells (length tokens) ≡ Tokens (length (written context count cells)))
+      → (answered context count cells (length tokens) ≡ Tokens (pairsWritten context count cells) (length (written context count cells)))
       × (tokensAfter context count cells tokens ≡ over (cellsOf (written context count cells)) tokens)
   unfolding answered tokensAfter
   stores tokens room = let e = eq-eqb _ 0 (not-refused context count cells tokens ok room (taken k) plain) in (pick-true _ _ e, pick-true _ _ e)
 
-  abbrev root : Tree
+  abbrev pub root : Tree
   root = treeAt cells count 1
 
-  abbrev blank : List ℕ
+  abbrev pub blank : List ℕ
   blank = replicate (rowCells * count) 0
 
-  room : rowCells * count ≤ length blank
+  pub room : rowCells * count ≤ length blank
   room = rw (length-replicate {A = ℕ} (rowCells * count) 0) (omega arith)
 
-  abbrev rows : List ℕ
+  abbrev pub rows : List ℕ
   rows = placed cells count 1 (rowsOf Ours (rootHanded context root) root) blank
 
-  rows-are : rowsFor context count cells ≡ rows
+  pub rows-are : rowsFor context count cells ≡ rows
   unfolding rowsFor
   rows-are = sym (done Ours context count cells blank (replicate (scratchCells * count) 0) ok room (rw (length-replicate {A = ℕ} (scratchCells * count) 0) (omega arith)) _ refl _ refl .1 .0) ∙ walked Ours context count cells blank room
 
   -- by any parse tree of the table's tree
-  written-by : (e : Expr one) → treeOf e ≡ root → written context count cells ≡ write (withoutCommas (addAll k e)) []
+  pub written-by : (e : Expr one) → treeOf e ≡ root → written context count cells ≡ write (withoutCommas (addAll k e)) []
   unfolding written
   written-by e is =
       ap (λ r. tokensAt cells count (hasPair r) 1 root []) rows-are

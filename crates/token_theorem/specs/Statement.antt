@@ -23,7 +23,7 @@ use Rattle.token_plain.specs.Reads.{Reads}
 use Rattle.tree_numbering.specs.Numbered.{size, numbered}
 use Rattle.file_loader.specs.Files.{contextIn, countIn, cellsIn, fileRefusal}
 use Rattle.token_writer.specs.declared.Written.the-variants.{Tokens}
-use Rattle.token_writer.specs.Writes.{rowsFor, written, answered, tokensAfter}
+use Rattle.token_writer.specs.Writes.{rowsFor, written, pairsWritten, answered, tokensAfter}
 use Rattle.token_reader.specs.declared.Reply.{Reply}
 use Rattle.token_reader.specs.declared.Reply.the-variants.{Nodes}
 use Rattle.token_reader.specs.Reading.{Answers}
@@ -49,9 +49,9 @@ pub record Removed (inside before after : List Token) : Type 0 where
 
 -- Document 02, Paper 5: "Demand 3 holds in both contexts, with writer, reader and grammar in the same one."
 pub record Demand3 (k : Context) (count : ℕ) (cells : List ℕ) : Type 0 where
-  -- The writer stores the tokens written, two cells each, over the start of any buffer of twelve cells a node, and answers how many they are.
+  -- The writer stores the tokens written, two cells each, over the start of any buffer of twelve cells a node, and answers how many pairs and tokens they are.
   pub stores : (tokens : List ℕ) → tokenCells * tokensPerNode * count ≤ length tokens
-      → (answered (contextNumber k) count cells (length tokens) ≡ Tokens (length (written (contextNumber k) count cells)))
+      → (answered (contextNumber k) count cells (length tokens) ≡ Tokens (pairsWritten (contextNumber k) count cells) (length (written (contextNumber k) count cells)))
       × (tokensAfter (contextNumber k) count cells tokens ≡ over (cellsOf (written (contextNumber k) count cells)) tokens)
   -- They have a reading, which is T without its own parentheses,
   pub reads : Reads k (cellsOf (written (contextNumber k) count cells)) (meant count cells)

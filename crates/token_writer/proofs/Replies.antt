@@ -1,5 +1,5 @@
 -- The replies of `write`, and what they leave in the buffer. Assumes nothing.
-use mathlib.Core.Path.{_≡_, refl, sym, ap, _∙_}
+use mathlib.Core.Path.{_≡_, refl, sym, ap, ap₂, _∙_}
 use mathlib.Core.Bool.{true, false, not}
 use mathlib.Core.List.{List, _∷_}
 use Prim.Native.Nat.{ℕ, zero, suc, _*_, _/_, _≤_, _<_}
@@ -8,6 +8,7 @@ use lib.Dec.{eqb}
 use lib.ListN.{length, take, replicate, length-replicate}
 use borrow.Author.Tests.{eq-eqb, ne-eqb, lt-ltb, le-ltb}
 use Rattle.laws.specs.Choice.{pick}
+use Rattle.laws.specs.Lists.{over}
 use Rattle.laws.specs.Puts.{Put}
 use Rattle.laws.proofs.Choice.{pick-true, pick-false, or-here, or-next}
 use Rattle.laws.proofs.Putting.{put-over}
@@ -15,21 +16,37 @@ use Rattle.tree.specs.Sizes.{rowCells, scratchCells, tokenCells, tokensPerNode}
 use Rattle.tree_rules.specs.Refusals.{firstOf, refusal}
 use Rattle.expr.specs.declared.order.CalleeOrder.the-variants.{Ours}
 use Rattle.row_walk.specs.Walk.{rowsAfter}
+use Rattle.tree_numbering.specs.Sums.{sum}
 use Rattle.token_grammar.specs.Tokens.{cellsOf}
 use Rattle.token_plain.specs.Plain.{plainTable}
 use Rattle.token_writer.specs.declared.Written.{Written}
 use Rattle.token_writer.specs.declared.Written.the-variants.{Refused, Tokens}
 use Rattle.token_writer.specs.Puts.{cellsAt}
-use Rattle.token_writer.specs.Writes.{takesContext, rowsFor, written, writeRefusal12, refusal13, writeRefusal, answered, tokensAfter}
+use Rattle.token_writer.specs.Writes.{takesContext, rowsFor, written, onePair, pairsWritten, writeRefusal12, refusal13, writeRefusal, answered, tokensAfter}
 use Rattle.token_writer.proofs.Tokens.{length-cells}
 
 -- ---- the rows
 
--- in a buffer of just the length that they need, and the tokens with them
-pub cells-written : (context count : ℕ) (cells rows scratch after : List ℕ) → rows ≡ replicate (rowCells * count) 0 → scratch ≡ replicate (scratchCells * count) 0
-    → after ≡ rowsAfter Ours context count cells rows scratch → cellsAt cells count after 1 ≡ cellsOf (written context count cells)
-unfolding cellsAt written rowsFor
-cells-written context count cells rows scratch after r s e = rw (e, r, s)
+-- in a buffer of just the length that they need
+pub rows-made : (context count : ℕ) (cells rows scratch after : List ℕ) → rows ≡ replicate (rowCells * count) 0 → scratch ≡ replicate (scratchCells * count) 0
+    → after ≡ rowsAfter Ours context count cells rows scratch → after ≡ rowsFor context count cells
+unfolding rowsFor
+rows-made context count cells rows scratch after r s e = rw (e, r, s)
+
+-- the tokens with them, and the pairs
+module _ (context count : ℕ) (cells rows : List ℕ) (made : rows ≡ rowsFor context count cells) where
+  pub cells-written : cellsAt cells count rows 1 ≡ cellsOf (written context count cells)
+  unfolding cellsAt written
+  cells-written = rw made
+
+  pub wrote : (tokens last : List ℕ) (pairs next : ℕ) → pairs ≡ sum (onePair rows) count → tokenCells * length (written context count cells) ≤ length tokens → Put tokens 0 (cellsAt cells count rows 1) last next
+      → (Tokens pairs (next / tokenCells) ≡ Tokens (pairsWritten context count cells) (length (written context count cells))) × (last ≡ over (cellsOf (written context count cells)) tokens)
+  unfolding pairsWritten
+  wrote tokens last pairs next p room q =
+      let z : Put tokens 0 (cellsOf (written context count cells)) last next = rw cells-written at q in
+      let l = length-cells (written context count cells) in
+      let n : next / tokenCells ≡ length (written context count cells) = omega (arith, z .ends) in
+      (ap₂ Tokens (p ∙ ap (λ r. sum (onePair r) count) made) n, put-over z (omega arith))
 
 -- zeros at the start of more zeros
 pub take-zeros : (n m : ℕ) → n ≤ m → take {A = ℕ} n (replicate m 0) ≡ replicate n 0
@@ -88,10 +105,6 @@ module _ (context count : ℕ) (cells tokens : List ℕ) where
           pub not-refused : writeRefusal context count cells (length tokens) ≡ 0
           not-refused = behind12 ∙ pick-false 13 0 (is13 ∙ ap not plain)
 
-          pub done : (last : List ℕ) (next : ℕ) → tokenCells * length (written context count cells) ≤ length tokens → Put tokens 0 (cellsOf (written context count cells)) last next → Answers (Tokens (next / tokenCells)) last
+          pub done : (r : Written) (last : List ℕ) → r ≡ Tokens (pairsWritten context count cells) (length (written context count cells)) → last ≡ over (cellsOf (written context count cells)) tokens → Answers r last
           unfolding answered tokensAfter
-          done last next room p =
-              let e = eq-eqb _ 0 not-refused in
-              let l = length-cells (written context count cells) in
-              let n : next / tokenCells ≡ length (written context count cells) = omega (arith, p .ends) in
-              (ap Tokens n ∙ sym (pick-true _ _ e), put-over p (omega arith) ∙ sym (pick-true _ _ e))
+          done r last e f = let z = eq-eqb _ 0 not-refused in (e ∙ sym (pick-true _ _ z), f ∙ sym (pick-true _ _ z))

@@ -1,15 +1,17 @@
 -- What writing answers, and what the lent buffer holds afterwards.
 use mathlib.Core.Bool.{Bool, not, _||_}
 use mathlib.Core.List.{List, [], _∷_}
-use Prim.Native.Nat.{ℕ, _*_}
+use Prim.Native.Nat.{ℕ, _*_, _-_}
 use lib.Dec.{eqb, ltb}
-use lib.ListN.{length, replicate}
+use lib.ListN.{length, getD, replicate}
+use Rattle.bools.specs.Bits.{bitOf}
 use Rattle.laws.specs.Choice.{pick, isOneOf}
 use Rattle.laws.specs.Lists.{over}
 use Rattle.tree.specs.Sizes.{rowCells, scratchCells, tokenCells, tokensPerNode}
 use Rattle.tree.specs.Trees.{treeAt}
 use Rattle.tree_rules.specs.Refusals.{refusal, refuse, firstOf}
 use Rattle.expr.specs.declared.order.CalleeOrder.the-variants.{Ours}
+use Rattle.tree_numbering.specs.Sums.{sum}
 use Rattle.row_walk.specs.Walk.{rowsAfter}
 use Rattle.token_grammar.specs.Tokens.{Token, cellsOf}
 use Rattle.token_grammar.specs.Grammar.{NONE, CONDITION, contextNumber}
@@ -25,6 +27,14 @@ rowsFor context count cells = rowsAfter Ours context count cells (replicate (row
 -- "Written for a plain tree are its nodes' tokens in the grammar's order"
 unfoldable pub written : ℕ → ℕ → List ℕ → List Token
 written context count cells = tokensAt cells count (hasPair (rowsFor context count cells)) 1 (treeAt cells count 1) []
+
+-- whether the pair of node i's row, its first cell, is 1
+unfoldable pub onePair : List ℕ → ℕ → ℕ
+onePair rows i = bitOf (eqb (getD rows (rowCells * (i - 1)) 0) 1)
+
+-- document 02, Paper 14: "The count of pairs written .. equals the number of rows whose pair is 1."
+unfoldable pub pairsWritten : ℕ → ℕ → List ℕ → ℕ
+pairsWritten context count cells = sum (onePair (rowsFor context count cells)) count
 
 -- 12. "A lent buffer is too short: .. six for the writer's tokens"; document 02, Paper 4: "so the writer's buffer needs twelve cells a node". `lent` is the buffer's length
 unfoldable pub writeRefusal12 : ℕ → ℕ → Bool
@@ -46,12 +56,12 @@ writeRefusal context count cells lent =
     (firstOf (refuse 12 (writeRefusal12 count lent) ∷ refuse 13 (refusal13 context count cells) ∷ []))
     (refusal context count cells)
 
--- the answer: the number of tokens, or the refusal
+-- the answer: the numbers of pairs and of tokens, or the refusal
 unfoldable pub answered : ℕ → ℕ → List ℕ → ℕ → Written
 answered context count cells lent =
     pick
     (eqb (writeRefusal context count cells lent) 0)
-    (Tokens (length (written context count cells)))
+    (Tokens (pairsWritten context count cells) (length (written context count cells)))
     (Refused (writeRefusal context count cells lent))
 
 -- the buffer afterwards: on a refusal as it was; else the tokens' cells over its start
@@ -59,7 +69,7 @@ unfoldable pub tokensAfter : ℕ → ℕ → List ℕ → List ℕ → List ℕ
 tokensAfter context count cells tokens =
     pick (eqb (writeRefusal context count cells (length tokens)) 0) (over (cellsOf (written context count cells)) tokens) tokens
 
--- "When an answer is an enum, a definition gives this paper's number and values for each of its cases." The reply number, 0 for done, and behind it the value
+-- "When an answer is an enum, a definition gives this paper's number and values for each of its cases." The reply number, 0 for done, and behind it the values
 abbrev pub writtenInNumbers : Written → List ℕ
 writtenInNumbers (Refused n) = n ∷ []
-writtenInNumbers (Tokens n) = 0 ∷ n ∷ []
+writtenInNumbers (Tokens pairs n) = 0 ∷ pairs ∷ n ∷ []

@@ -2,6 +2,7 @@
 mod plainness; // plainness.rt: whether a table is plain
 mod signs; // signs.rt: a node's own tokens
 
+use bools::bit;
 use plainness::is_plain_table;
 use signs::Few;
 use signs::one_if;
@@ -16,13 +17,16 @@ ghost use mathlib.Core.Path.{_≡_};
 ghost use mathlib.Core.List.{[], _∷_};
 ghost use Prim.Native.Nat.{_+_, _*_, _-_, _≤_};
 ghost use lib.ListN.{length, getD, replicate};
+ghost use Rattle.laws.specs.Lists.{over};
 ghost use Rattle.laws.specs.Puts.{Put};
-ghost use Rattle.tree.specs.Sizes.{rowCells, scratchCells, tokenCells};
+ghost use Rattle.tree.specs.Sizes.{rowCells, scratchCells, tokenCells, mostTokens};
 ghost use Rattle.tree_rules.specs.Refusals.{refusal};
+ghost use Rattle.tree_numbering.specs.Sums.{sum};
 ghost use Rattle.token_plain.specs.Written.{hasPair};
 ghost use Rattle.token_grammar.specs.Tokens.{cellsOf};
+ghost use Rattle.token_writer.specs.declared.Written.the-variants.{Tokens};
 ghost use Rattle.token_writer.specs.Puts.{spelled, symbolOn, cellsWith, cellsAt};
-ghost use Rattle.token_writer.specs.Writes.{takesContext, written, answered, tokensAfter};
+ghost use Rattle.token_writer.specs.Writes.{takesContext, written, onePair, pairsWritten, answered, tokensAfter};
 
 // The cells of the tokens that the writer asks room for, a node.
 const NODE_TOKENS: usize = sizes::TOKEN_CELLS * sizes::TOKENS_PER_NODE;
@@ -36,8 +40,8 @@ const CONDITION: u16 = 3;
 pub enum Written {
     // The number of the first refusal that applies.
     Refused(u16),
-    // How many tokens the lent buffer now holds, two cells each.
-    Tokens(u16),
+    // How many pairs were added, and how many tokens the lent buffer now holds, two cells each.
+    Tokens(u16, u16),
 }
 
 // The symbol beside a code: the node's on a name, a literal or a numbered member.
@@ -102,6 +106,19 @@ fn has_pair(rows: &[u16], node: u16) -> bool
     }
 }
 
+// How many of the nodes have a row whose pair is 1.
+fn pairs_in(rows: &[u16], count: u16) -> u16
+    ensures { λ r. ⌜ r ≡ sum (onePair (now (rows .entry))) count ⌝ }
+{
+    let mut pairs: u16 = 0;
+    let mut done: u16 = 0;
+    while done < count {
+        done += 1;
+        pairs += bit(pair_at(rows, done) == 1);
+    }
+    pairs
+}
+
 // The tokens of a node and of all below it from `at` on; answers the place behind them. Number 0 stands for an
 // operand that is absent.
 fn write_from(
@@ -158,12 +175,14 @@ fn write_plain(
     rows: &mut [u16],
     scratch: &mut [u16],
     tokens: &mut [u16],
-) -> usize
-    requires { ⌜ (now rows ≡ replicate (rowCells * count) 0) × (now scratch ≡ replicate (scratchCells * count) 0) × (tokenCells * length (written context count (now table)) ≤ length (now tokens)) ⌝ }
-    ensures { λ r. ⌜ Put (now (tokens .entry)) 0 (cellsOf (written context count (now (table .entry)))) (now (tokens .exit)) r ⌝ }
+) -> Written
+    requires { ⌜ (now rows ≡ replicate (rowCells * count) 0) × (now scratch ≡ replicate (scratchCells * count) 0) × (tokenCells * length (written context count (now table)) ≤ length (now tokens)) × (length (written context count (now table)) ≤ mostTokens) ⌝ }
+    ensures reply { λ r. ⌜ r ≡ Tokens (pairsWritten context count (now (table .entry))) (length (written context count (now (table .entry)))) ⌝ }
+    ensures tokens { λ r. ⌜ now (tokens .exit) ≡ over (cellsOf (written context count (now (table .entry)))) (now (tokens .entry)) ⌝ }
 {
     row_walk::decide(context, count, table, rows, scratch);
-    write_from(table, count, rows, 1, tokens, 0)
+    let end = write_from(table, count, rows, 1, tokens, 0);
+    Written::Tokens(pairs_in(rows, count), (end / sizes::TOKEN_CELLS) as u16)
 }
 
 // Whether the tokens of a tree in this context are written.
@@ -179,7 +198,7 @@ fn takes(context: u16) -> bool
     false
 }
 
-// The tokens of a plain table into `tokens`: how many there are, or the first refusal that applies.
+// The tokens of a plain table into `tokens`: how many pairs and tokens there are, or the first refusal that applies.
 pub fn write(context: u16, count: u16, table: &[u16], tokens: &mut [u16]) -> Written
     ensures reply { λ r. ⌜ r ≡ answered context count (now (table .entry)) (length (now (tokens .entry))) ⌝ }
     ensures tokens { λ r. ⌜ now (tokens .exit) ≡ tokensAfter context count (now (table .entry)) (now (tokens .entry)) ⌝ }
@@ -202,13 +221,12 @@ pub fn write(context: u16, count: u16, table: &[u16], tokens: &mut [u16]) -> Wri
     let mut scratch = [0u16; sizes::SCRATCH_CELLS * (sizes::MOST_NODES as usize)];
     let row_cells = sizes::ROW_CELLS * nodes;
     let scratch_cells = sizes::SCRATCH_CELLS * nodes;
-    let end = write_plain(
+    write_plain(
         context,
         count,
         table,
         &mut rows[..row_cells],
         &mut scratch[..scratch_cells],
         tokens,
-    );
-    Written::Tokens((end / sizes::TOKEN_CELLS) as u16)
+    )
 }

@@ -18,7 +18,7 @@ use Rattle.file_loader.specs.Files.{loaded, loadedTable}
 use Rattle.file_loader.proofs.Loading.{stored-room, stored-cells}
 use Rattle.token_grammar.specs.Tokens.{cellsOf}
 use Rattle.token_writer.specs.declared.Written.the-variants.{Refused, Tokens}
-use Rattle.token_writer.specs.Writes.{written, writeRefusal, answered, tokensAfter}
+use Rattle.token_writer.specs.Writes.{written, pairsWritten, writeRefusal, answered, tokensAfter}
 use Rattle.token_writer.proofs.Bounds.{accepted-first, tokens-bound}
 use Rattle.token_writer.proofs.Tokens.{length-cells}
 use Rattle.text.specs.Numbers.{noLine}
@@ -31,12 +31,12 @@ module _ (context count : ℕ) (cells tokens : List ℕ) (room : length tokens �
   unfolding tableText answerText
   refused-table n e = rw (← room, ← e)
 
-  module _ (n : ℕ) (e : Tokens n ≡ answered context count cells (length tokens)) where
+  module _ (pairs n : ℕ) (e : Tokens pairs n ≡ answered context count cells (length tokens)) where
     parts : (writeRefusal context count cells (length tokens) ≡ 0) × (n ≡ length (written context count cells))
     unfolding answered pick
     parts = go (eqb (writeRefusal context count cells (length tokens)) 0) refl e
       where
-        go : (b : Bool) → eqb (writeRefusal context count cells (length tokens)) 0 ≡ b → Tokens n ≡ pick b (Tokens (length (written context count cells))) (Refused (writeRefusal context count cells (length tokens))) → (writeRefusal context count cells (length tokens) ≡ 0) × (n ≡ length (written context count cells))
+        go : (b : Bool) → eqb (writeRefusal context count cells (length tokens)) 0 ≡ b → Tokens pairs n ≡ pick b (Tokens (pairsWritten context count cells) (length (written context count cells))) (Refused (writeRefusal context count cells (length tokens))) → (writeRefusal context count cells (length tokens) ≡ 0) × (n ≡ length (written context count cells))
         go true p q = (eqb-true _ 0 p, cc)
         go false p q = absurd (let z : _≡_ {A = ℕ} 0 1 = cc in omega arith)
 

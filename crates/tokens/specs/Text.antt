@@ -31,7 +31,7 @@ listed cells = okLine (length cells / tokenCells) ++ (parted (evens cells) ++ (n
 -- what is printed for the writer's answer
 unfoldable pub answerText : List ℕ → Written → List ℕ
 answerText cells (Refused n) = noLine n
-answerText cells (Tokens n) = listed cells
+answerText cells (Tokens pairs n) = listed cells
 
 -- what is printed for a table, with a buffer of 24,576 tokens lent to the writer
 unfoldable pub tableText : ℕ → ℕ → List ℕ → List ℕ

@@ -76,7 +76,7 @@ fn put_table(out: &mut [u8], context: u16, count: u16, table: &[u16]) -> usize
     let mut tokens = [0u16; TOKENS];
     match token_writer::write(context, count, table, &mut tokens) {
         Written::Refused(why) => put_no(out, why),
-        Written::Tokens(n) => {
+        Written::Tokens(_, n) => {
             let end = sizes::TOKEN_CELLS * (n as usize);
             put_tokens(out, &tokens[..end])
         }

@@ -9,10 +9,8 @@ use borrow.Author.Tests.{not-true, not-false}
 use Rattle.laws.proofs.Calls.{free}
 use Rattle.tree.specs.Sizes.{rowCells, scratchCells, mostNodes}
 use Rattle.tree_rules.proofs.Accepted.{count-bounds}
-use Rattle.token_writer.specs.Writes.{written}
 use Rattle.token_writer.proofs.Bounds.{tokens-bound}
 use Rattle.token_writer.proofs.Replies.{take-zeros, length-zeros, refused, short, in-context, not-plain, done}
-use Rattle.token_writer.proofs.Tokens.{length-cells}
 use Rattle.token_writer.proofs.write.Statement.{statement}
 use Rattle.token_writer.proofs.write.Tie as tie
 
@@ -71,15 +69,7 @@ write-plain-requires c κs =
     let fits = c .before .before .before .before .before .before .before .if2 .left in
     let most = tokens-bound (a .context) (a .count) (a .table .now) ok in
     let bounds = count-bounds (a .context) (a .count) (a .table .now) ok in
-    (take-zeros (rowCells * a .count) (rowCells * mostNodes) (times rowCells (a .count) (bounds .1)), take-zeros (scratchCells * a .count) (scratchCells * mostNodes) (times scratchCells (a .count) (bounds .1)), omega (arith, most .0))
-
-cast-t22 : tie.Need-cast-t22
-cast-t22 c =
-    let a = c .before .before .before .before .before .before .before .before .before .before .before .before .before .before .before .before .before .args in
-    let ok = sym (c .before .before .before .before .before .before .before .before .before .before .before .before .before .before .check .ensures) ∙ c .before .before .before .before .before .before .before .before .before .before .before .before .before .if1 .left in
-    let most = tokens-bound (a .context) (a .count) (a .table .now) ok in
-    let l = length-cells (written (a .context) (a .count) (a .table .now)) in
-    omega (arith, c .before .before .before .before .write-plain .ensures .ends)
+    (take-zeros (rowCells * a .count) (rowCells * mostNodes) (times rowCells (a .count) (bounds .1)), take-zeros (scratchCells * a .count) (scratchCells * mostNodes) (times scratchCells (a .count) (bounds .1)), omega (arith, most .0), most .1)
 
 returns-5 : tie.Need-returns-5
 returns-5 c =
@@ -88,11 +78,11 @@ returns-5 c =
     let fits = c .before .before .before .before .before .before .before .before .before .before .before .before .if2 .left in
     let taken = not-false _ (ap not (sym (c .before .before .before .before .before .before .before .before .before .before .before .takes .ensures)) ∙ c .before .before .before .before .before .before .before .before .before .before .if3 .left) in
     let plain = not-false _ (ap not (sym (c .before .before .before .before .before .before .before .before .before .is-plain-table .ensures)) ∙ c .before .before .before .before .before .before .before .before .if4 .left) in
-    let most = tokens-bound (a .context) (a .count) (a .table .now) ok in
-    done (a .context) (a .count) (a .table .now) (a .tokens .now) ok fits taken plain _ _ (omega (arith, most .0)) (c .before .before .before .before .write-plain .ensures)
+    let r = c .before .before .before .before .write-plain .ensures in
+    done (a .context) (a .count) (a .table .now) (a .tokens .now) ok fits taken plain _ _ (r .0) (r .1)
 
 pub write-spec : {M : Type 1} → statement M
 write-spec =
     tie.close (tie.spec free returns (λ c. search needs) returns-2 free returns-3 free returns-4 (λ c. search needs)
     (λ c. search needs) array-borrow-prefix-rows slice-aggregate-write-plain array-borrow-prefix-scratch
-    slice-aggregate-write-plain-2 write-plain-requires cast-t22 (λ c. search needs) returns-5)
+    slice-aggregate-write-plain-2 write-plain-requires (λ c. search needs) returns-5)

@@ -24,20 +24,20 @@ array-share-prefix-tokens : tie.Need-array-share-prefix-tokens
 array-share-prefix-tokens c =
     let a = c .before .before .before .before .before .before .before .before .before .args in
     let e = sym (c .before .before .n .given .1) ∙ c .before .before .before .before .before .write .ensures .0 in
-    rw (c .before .before .before .before .before .write .ensures .1) (tokens-within (a .context) (a .count) (a .table .now) zeros room _ e)
+    rw (c .before .before .before .before .before .write .ensures .1) (tokens-within (a .context) (a .count) (a .table .now) zeros room _ _ e)
 
 slice-aggregate-put-tokens : tie.Need-slice-aggregate-put-tokens
 slice-aggregate-put-tokens c =
     let a = c .before .before .before .before .before .before .before .before .before .before .args in
     let e = sym (c .before .before .before .n .given .1) ∙ c .before .before .before .before .before .before .write .ensures .0 in
-    sym (length-take-le _ _ (rw (c .before .before .before .before .before .before .write .ensures .1) (tokens-within (a .context) (a .count) (a .table .now) zeros room _ e)))
+    sym (length-take-le _ _ (rw (c .before .before .before .before .before .before .write .ensures .1) (tokens-within (a .context) (a .count) (a .table .now) zeros room _ _ e)))
 
 put-tokens-requires : tie.Need-put-tokens-requires
 put-tokens-requires c κs =
     let a = c .before .before .before .before .before .before .before .before .before .before .args in
     let e = sym (c .before .before .before .n .given .1) ∙ c .before .before .before .before .before .before .write .ensures .0 in
-    let taken = length-take-le (tokenCells * (c .before .before .before .n .given .0 .0)) (c .before .before .before .before .before .before .write .last .1 .1 .1 .0) (rw (c .before .before .before .before .before .before .write .ensures .1) (tokens-within (a .context) (a .count) (a .table .now) zeros room _ e)) in
-    (rw taken (let most = tokens-most (a .context) (a .count) (a .table .now) zeros room _ e in omega arith), search needs)
+    let taken = length-take-le (tokenCells * (c .before .before .before .n .given .0 .1 .0)) (c .before .before .before .before .before .before .write .last .1 .1 .1 .0) (rw (c .before .before .before .before .before .before .write .ensures .1) (tokens-within (a .context) (a .count) (a .table .now) zeros room _ _ e)) in
+    (rw taken (let most = tokens-most (a .context) (a .count) (a .table .now) zeros room _ _ e in omega arith), search needs)
 
 returns : tie.Need-returns
 returns c =
@@ -50,7 +50,7 @@ returns-2 : tie.Need-returns-2
 returns-2 c =
     let a = c .before .before .before .before .before .before .before .before .before .before .before .before .before .args in
     let e = sym (c .before .before .before .before .before .before .n .given .1) ∙ c .before .before .before .before .before .before .before .before .before .write .ensures .0 in
-    rw (← tokens-table (a .context) (a .count) (a .table .now) zeros room _ e, ← c .before .before .before .before .before .before .before .before .before .write .ensures .1) (c .before .before .put-tokens .ensures)
+    rw (← tokens-table (a .context) (a .count) (a .table .now) zeros room _ _ e, ← c .before .before .before .before .before .before .before .before .before .write .ensures .1) (c .before .before .put-tokens .ensures)
 
 pub put-table-spec : {M : Type 1} → statement M
 put-table-spec =
