@@ -24,6 +24,7 @@ use Rattle.tree_numbering.proofs.Sizes.{weighed}
 use Rattle.expr.specs.declared.Handed.{Handed}
 use Rattle.row.specs.Rows.{isExpression, outerPair, innerLines, innerPair, pairBy, expressionRow, zeros, rowOf}
 use Rattle.row_walk.specs.Walk.{rootHanded}
+use Rattle.expr.specs.declared.order.CalleeOrder.the-variants.{Ours}
 use Rattle.row_walk.specs.Paths.{Branch, first, second, numberAt, treeBy, handedBy}
 use Rattle.row_walk.proofs.Paths.{tree-at, there-at, row-at}
 use Rattle.token_grammar.specs.Tokens.{Token, LeftParen, RightParen, cellsOf}
@@ -134,16 +135,16 @@ module _ (k : Context) (count : ℕ) (cells : List ℕ) (ok : Accepted (contextN
 
   -- ---- the rows' way is what is written
 
-  pair-is : (p : List Branch) → isThere (treeBy root p) ≡ true → getD rows (rowCells * (numberAt cells count 1 p - 1)) 0 ≡ rowOf (handedBy (rootHanded context root) root p) (treeBy root p) .pair
+  pair-is : (p : List Branch) → isThere (treeBy root p) ≡ true → getD rows (rowCells * (numberAt cells count 1 p - 1)) 0 ≡ rowOf (handedBy Ours (rootHanded context root) root p) (treeBy root p) .pair
   pair-is p e =
       ap (λ r. getD r (rowCells * (numberAt cells count 1 p - 1)) 0) (promised.rows-are k count cells ok plain)
-      ∙ ap (λ r. r .pair) (row-at cells count context ok 1 p (rootHanded context root) (promised.blank k count cells ok plain) (omega arith) low (promised.room k count cells ok plain) (there-at cells count 1 p e))
+      ∙ ap (λ r. r .pair) (row-at cells count context ok Ours 1 p (rootHanded context root) (promised.blank k count cells ok plain) (omega arith) low (promised.room k count cells ok plain) (there-at cells count 1 p e))
 
   as-rows : (p : List Branch) → isThere (treeBy root p) ≡ true → onePair rows (numberAt cells count 1 p) ≡ bitOf (hasPair rows (numberAt cells count 1 p))
   unfolding onePair hasPair
   as-rows p e =
       ap (λ n. bitOf (eqb n 1)) (pair-is p e)
-      ∙ ap bitOf (one-pair (handedBy (rootHanded context root) root p) (treeBy root p) (inner-at p e))
+      ∙ ap bitOf (one-pair (handedBy Ours (rootHanded context root) root p) (treeBy root p) (inner-at p e))
       ∙ sym (ap (λ n. bitOf (isOneOf (1 ∷ 3 ∷ []) n)) (pair-is p e))
 
   among : cellsWith count cells (onePair rows) ≡ cellsOf (written context count cells)
