@@ -179,8 +179,8 @@ module _ (count : ℕ) (cells : List ℕ) (ok : Accepted (contextNumber NONE) co
 pub fewest-pairs : FewestPairs
 fewest-pairs count cells ok plain bared =
     record {
-      pairs = fewest count cells ok plain;
+      fewest = fewest count cells ok plain;
       among = among NONE count cells ok plain;
       reads = subst (Reads NONE (ours count cells)) bared (promised.promise NONE count cells ok plain .reads);
-      tokens = fewest-tokens count cells ok plain;
+      fewest-tokens = fewest-tokens count cells ok plain;
     }

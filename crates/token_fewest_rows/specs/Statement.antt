@@ -49,12 +49,12 @@ ours count cells = cellsOf (written (contextNumber NONE) count cells)
 pub record Fewest (count : ℕ) (cells : List ℕ) : Type 0 where
   -- "consider every way of putting pairs round its operands whose tokens read back as that tree. None of them has fewer pairs than the tokens we write."
   -- The root, which is no operand, may have pairs as well.
-  pub pairs : (way : ℕ → ℕ) → Reads NONE (cellsWith count cells way) (treeAt cells count 1) → pairsWritten (contextNumber NONE) count cells ≤ sum way count
+  pub fewest : (way : ℕ → ℕ) → Reads NONE (cellsWith count cells way) (treeAt cells count 1) → pairsWritten (contextNumber NONE) count cells ≤ sum way count
   -- What we write is one of these ways: a pair round each node whose row's pair is 1.
   pub among : cellsWith count cells (onePair (rowsFor (contextNumber NONE) count cells)) ≡ ours count cells
   pub reads : Reads NONE (ours count cells) (treeAt cells count 1)
   -- Of all token lists that read as the tree, commas after last items included, none has fewer `(`.
-  pub tokens : (list : List ℕ) → Reads NONE list (treeAt cells count 1) → openings (ours count cells) ≤ openings list
+  pub fewest-tokens : (list : List ℕ) → Reads NONE list (treeAt cells count 1) → openings (ours count cells) ≤ openings list
 
 -- "For a plain tree without Paren nodes, in context 0"
 abbrev pub FewestPairs : Type 0

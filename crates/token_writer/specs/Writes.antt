@@ -28,7 +28,7 @@ rowsFor context count cells = rowsAfter Ours context count cells (replicate (row
 unfoldable pub written : ℕ → ℕ → List ℕ → List Token
 written context count cells = tokensAt cells count (hasPair (rowsFor context count cells)) 1 (treeAt cells count 1) []
 
--- whether the pair of node i's row, its first cell, is 1
+-- 1 where the pair of node i's row, which is its first cell, is 1; otherwise 0
 unfoldable pub onePair : List ℕ → ℕ → ℕ
 onePair rows i = bitOf (eqb (getD rows (rowCells * (i - 1)) 0) 1)
 
