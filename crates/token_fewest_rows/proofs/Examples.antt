@@ -30,7 +30,7 @@ use Rattle.token_writer.specs.Writes.{written, pairsWritten}
 use Rattle.token_theorem.proofs.Promise as promised
 use Rattle.token_fewest.specs.Openings.{openings}
 use Rattle.token_fewest_rows.specs.Statement.{tokensWith, cellsWith}
-use Rattle.token_fewest_rows.proofs.Fewest.{way-openings, pairs-counted}
+use Rattle.token_fewest_rows.proofs.Counted.{way-openings, pairs-counted}
 
 -- what is written for a table of e is a way's tokens: it has the way's pairs
 module _ (k : Context) (count : ℕ) (cells : List ℕ) (ok : Accepted (contextNumber k) count cells) (plain : plainTable count cells ≡ true) (e : Expr one) (is : treeOf e ≡ treeAt cells count 1) where

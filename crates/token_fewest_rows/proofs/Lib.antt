@@ -1,3 +1,5 @@
 pub mod Signs
+pub mod Counted
+pub mod Every
 pub mod Fewest
 pub mod Examples

@@ -12,6 +12,7 @@ use Rattle.tree_rules.specs.Refusals.{Accepted}
 use Rattle.tree_numbering.specs.Sums.{sum}
 use Rattle.token_grammar.specs.Tokens.{Token, LeftParen, RightParen, cellsOf}
 use Rattle.token_grammar.specs.Grammar.{Context, NONE, contextNumber}
+use Rattle.token_grammar.specs.Commas.{CommasPut}
 use Rattle.token_plain.specs.Plain.{plainTable}
 use Rattle.token_plain.specs.Trees.{withoutParens}
 use Rattle.token_plain.specs.Written.{signsOf}
@@ -55,6 +56,8 @@ pub record Fewest (count : ℕ) (cells : List ℕ) : Type 0 where
   pub reads : Reads NONE (ours count cells) (treeAt cells count 1)
   -- Of all token lists that read as the tree, commas after last items included, none has fewer `(`.
   pub fewest-tokens : (list : List ℕ) → Reads NONE list (treeAt cells count 1) → openings (ours count cells) ≤ openings list
+  -- These ways are all: each such list is that of a way, with commas put in straight before a `)` or a `>`.
+  pub every : (list : List ℕ) → Reads NONE list (treeAt cells count 1) → (way : ℕ → ℕ) × CommasPut (cellsWith count cells way) list
 
 -- "For a plain tree without Paren nodes, in context 0"
 abbrev pub FewestPairs : Type 0

@@ -82,7 +82,7 @@ tokens-by h (node l a b) rest = refl
 
 -- ---- the signs of plain nodes
 
-atom-signs : (x : Atom) → signsOf (atomLabel x) none ≡ signs (atomToken x ∷ []) [] []
+pub atom-signs : (x : Atom) → signsOf (atomLabel x) none ≡ signs (atomToken x ∷ []) [] []
 unfolding signsOf signLines lookup pick
 atom-signs (path y) = refl
 atom-signs (literal y) = refl
@@ -110,14 +110,14 @@ member-signs (byName y) = refl
 member-signs (byNumber y) = refl
 member-signs awaited = refl
 
-type-prefix-signs : (p : TypePrefix) → signsOf (typePrefixLabel p) none ≡ signs (typePrefixToken p ∷ []) [] []
+pub type-prefix-signs : (p : TypePrefix) → signsOf (typePrefixLabel p) none ≡ signs (typePrefixToken p ∷ []) [] []
 unfolding signsOf signLines lookup pick
 type-prefix-signs constPtr = refl
 type-prefix-signs mutPtr = refl
 type-prefix-signs sharedRef = refl
 type-prefix-signs mutRef = refl
 
-type-sign-signs : (x : TypeSign) → signsOf (typeSignLabel x) none ≡ signs (typeSignToken x ∷ []) [] []
+pub type-sign-signs : (x : TypeSign) → signsOf (typeSignLabel x) none ≡ signs (typeSignToken x ∷ []) [] []
 unfolding signsOf signLines lookup pick
 type-sign-signs infer = refl
 type-sign-signs never = refl
@@ -128,7 +128,7 @@ unfolding signsOf signLines lookup pick
 link-signs (lastArgument comma b) = refl
 link-signs (moreArguments b l) = refl
 
-type-link-signs : (l : Ty items) → signsOf (label Link 0) (treeOfType l) ≡ signs [] (Comma ∷ []) []
+pub type-link-signs : (l : Ty items) → signsOf (label Link 0) (treeOfType l) ≡ signs [] (Comma ∷ []) []
 unfolding signsOf signLines lookup pick
 type-link-signs (lastType comma t) = refl
 type-link-signs (moreTypes t l) = refl
