@@ -95,7 +95,7 @@ mod tree;
 
 pub use binding::{Binding, Lean};
 #[doc(inline)]
-pub use model::{codes, codes::Token, contexts, forms, sizes};
+pub use model::{codes, codes::Token, contexts, forms, sizes, CalleeOrder};
 pub use open_sheet::OpenSheet;
 pub use preview::{Preview, Sight};
 pub use refusal::Refusal;

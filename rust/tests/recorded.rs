@@ -1,14 +1,16 @@
 //! The recorded answers of `crates/recorded/data`, asked through this crate: files by
-//! `tools/record_files.py`, rows by prettyplease's own files, readings and tokens by
+//! `tools/record_files.py`, rows and callees by prettyplease's own files, readings and tokens by
 //! `tools/readings`, saved files and orders by `tools/record_archive.py`.
 
+use model::callee::{apart, Apart};
 use model::lent::{Cell, Lent};
 use model::recorded::{records, u16s, Record};
 use model::table;
 use std::cmp::Ordering;
 use std::fmt::Debug;
+use tezhukor::boundary::questions::decide_by_order;
 use tezhukor::sizes::{CONTEXT_UNIT, MOST_CELLS, REFUSAL_UNIT, ROW_CELLS, SCRATCH_CELLS};
-use tezhukor::{boundary, Refusal, Row, Token, Tree};
+use tezhukor::{boundary, CalleeOrder, Refusal, Row, Token, Tree};
 
 /// Checks that a buffer holds an answer, and else what it was lent with.
 fn holds<Of: Cell + Debug>(mut buffer: Lent<Of>, answer: &[Of]) {
@@ -40,27 +42,53 @@ fn files() {
     println!("files {}, different 0", records.len());
 }
 
+/// Checks the rows of a record in a callee order.
+fn decides(record: &Record, order: CalleeOrder) {
+    let Ok(tree) = Tree::load(&record.bytes) else {
+        assert_eq!(tezhukor::rows(&record.bytes).map_err(Refusal::number), Err(record.refusal));
+        return;
+    };
+    let (mut rows, mut scratch) = (Lent::new(record.lent), Lent::new(record.lent));
+    let (lent_rows, lent_scratch) = (rows.lend(record.lent), scratch.lend(record.lent));
+    let (context, count, table) = (tree.context(), tree.count(), tree.cells());
+    let refusal = match order {
+        CalleeOrder::Crate => {
+            decide_by_order(order.number(), context, count, table, lent_rows, lent_scratch)
+        }
+        CalleeOrder::Ours => boundary::decide(context, count, table, lent_rows, lent_scratch),
+    };
+    assert_eq!(refusal, record.refusal);
+    holds(rows, &record.cells());
+    holds(scratch, &vec![0; SCRATCH_CELLS * usize::from(record.count)]);
+    if refusal == 0 {
+        let meant: Vec<Row> = record.cells().chunks_exact(ROW_CELLS).map(Row::of_cells).collect();
+        let has_pair: Vec<bool> = meant.iter().map(|row| row.has_outer_pair()).collect();
+        // In the crate's order only some callees and what stands below them have other rows.
+        let apart = match order {
+            CalleeOrder::Crate => apart(&table::read(&record.bytes).expect("a file"), &has_pair),
+            CalleeOrder::Ours => vec![Apart::Same; meant.len()],
+        };
+        for ((own, meant), apart) in tree.rows().iter().zip(&meant).zip(apart) {
+            assert!(apart != Apart::Same || own == meant);
+            assert!(apart != Apart::Callee || (own.pair, meant.pair) == (1, 0));
+        }
+    }
+}
+
+/// In the crate's callee order.
 #[test]
 fn rows() {
     let records = records("rows");
-    for record in &records {
-        let Ok(tree) = Tree::load(&record.bytes) else {
-            assert_eq!(tezhukor::rows(&record.bytes).map_err(Refusal::number), Err(record.refusal));
-            continue;
-        };
-        let (mut rows, mut scratch) = (Lent::new(record.lent), Lent::new(record.lent));
-        let (lent_rows, lent_scratch) = (rows.lend(record.lent), scratch.lend(record.lent));
-        let (context, count) = (tree.context(), tree.count());
-        let refusal = boundary::decide(context, count, tree.cells(), lent_rows, lent_scratch);
-        assert_eq!(refusal, record.refusal);
-        holds(rows, &record.cells());
-        holds(scratch, &vec![0; SCRATCH_CELLS * usize::from(record.count)]);
-        if refusal == 0 {
-            let meant = record.cells();
-            assert!(tree.rows().into_iter().eq(meant.chunks_exact(ROW_CELLS).map(Row::of_cells)));
-        }
-    }
+    records.iter().for_each(|record| decides(record, CalleeOrder::Crate));
     println!("rows {}, different 0", records.len());
+}
+
+/// In our callee order, where the two differ or are near to it.
+#[test]
+fn callees() {
+    let records = records("callees");
+    records.iter().for_each(|record| decides(record, CalleeOrder::Ours));
+    println!("callees {}, different 0", records.len());
 }
 
 #[test]

@@ -204,6 +204,35 @@ fn reasons() {
     );
 }
 
+/// A pair that only our callee order adds is told so.
+#[test]
+fn callees() {
+    let name = [26, 0, 0, 0, 0, 0];
+    let [call, group] = [[8, 0, 0, 2, 0, 0], [15, 0, 0, 3, 0, 0]];
+    let ours = "; in our callee order, in the crate's it would have none\n";
+    let member = [&[0, 3][..], &call, &[13, 2, 1, 3, 0, 0], &name].concat();
+    assert_eq!(printed(&["show", "-"], &member, 0), "(#[..] a.0)()\n");
+    let why = printed(&["why", "-"], &member, 0);
+    assert!(
+        why.contains("it groups what is below Unambiguous (15)") && why.ends_with(ours),
+        "{why}"
+    );
+    let grouped = |attributes| {
+        let field = [13, attributes, 0, 4, 0, 0];
+        [&[0, 4][..], &call, &group, &field, &name].concat()
+    };
+    assert_eq!(printed(&["show", "-"], &grouped(0), 0), "(a.b)()\n");
+    let why = printed(&["why", "-"], &grouped(0), 0);
+    let meant = "the owner's test asks for it: a named field in a group that is called, which \
+                 would be a method call";
+    assert!(why.contains(meant) && why.ends_with(ours), "{why}");
+    // What both orders group, and what neither does.
+    for file in [grouped(2), tree_of("(s.f)(x)"), tree_of("(-x)(y)")] {
+        assert!(!printed(&["why", "-"], &file, 0).contains("order"));
+    }
+    assert_eq!(printed(&["why", "-"], &tree_of("s.0(x)"), 0), "no pair was added\n");
+}
+
 /// A struct in a condition is read with its pair, shown and explained with it, and refused
 /// without.
 #[test]

@@ -8,7 +8,8 @@ the same tree written so that there is no doubt. rustc must refuse the first, or
 another tree than for the second, or, for a needless pair, read the same tree for both.
 Trees are what rustc prints with -Zunpretty=ast-tree, without parentheses, places and
 node ids. Where the command `sheet` is built (`bash rust/start`), its text for the tree must
-be what the crate writes: the rows are ours too. The last line ends with `different 0`.
+be what the crate writes, since the rows are ours too; for the callees that our order groups
+and the crate's does not it must be the second text. The last line ends with `different 0`.
 """
 
 import os
@@ -104,7 +105,7 @@ def tree_file(context, tree):
         if tree is None:
             return 0
         form, attributes, detail, operands = tree
-        cells = [form, attributes, detail, 0, 0]
+        cells = [form, attributes, detail, 0, 0, 0]
         nodes.append(cells)
         number = len(nodes)
         for at, operand in enumerate(operands):
@@ -140,8 +141,6 @@ MISSING = [
      node(33, attributed(RETURN))),
     ('attributed-jump', 0, '#[x] return . f', '( #[x] return ) . f', OTHER,
      field(attributed(RETURN))),
-    ('attributed-member', 0, '#[x] x . 0 ( )', '( #[x] x . 0 ) ( )', OTHER,
-     call(node(13, X, detail=1, attributes=2))),
     ('inner-attribute-block', 3, 'break { #![x] }', 'break ( { #![x] } )', REFUSED,
      jump(7, INNER)),
     ('inner-attribute-block', 3, '.. { #![x] }', '.. ( { #![x] } )', REFUSED, upto(None, INNER)),
@@ -157,6 +156,17 @@ MISSING = [
     ('group-attribute', 0, '#[x] ..', '#[x] ( .. )', REFUSED, group(upto(None, None), 2)),
     ('group-label', 0, "break 'a : { }", "break ( 'a : { } )", REFUSED,
      jump(7, group(LABELLED, 1))),
+]
+
+# The same where our callee order adds the pair: what we write is the tree without doubt.
+CALLEES = [
+    ('attributed-member', 0, '#[x] x . 0 ( )', '( #[x] x . 0 ) ( )', OTHER,
+     call(node(13, X, detail=1, attributes=2))),
+    ('group-field', 0, 'x . f ( )', '( x . f ) ( )', OTHER, call(group(field(X)))),
+    ('group-field', 0, '#[x] x . f ( )', '( #[x] x . f ) ( )', OTHER, call(group(field(X), 2))),
+    ('group-field', 0, 'x . f ( )', '( x . f ) ( )', OTHER, call(group(group(field(X, 1))))),
+    ('group-field', 3, '( S { } ) . f ( )', '( S { } . f ) ( )', OTHER,
+     call(group(field(node(32))))),
 ]
 
 # class, context, what the crate writes, the same without the needless pair, the tree
@@ -281,12 +291,13 @@ def outcome(context, written, meant, folder):
 
 
 def main():
-    examples = MISSING + [example[:4] + (SAME, example[4]) for example in NEEDLESS]
+    examples = MISSING + CALLEES + [example[:4] + (SAME, example[4]) for example in NEEDLESS]
     different, ours = 0, 0
     with tempfile.TemporaryDirectory() as folder:
-        for name, context, written, meant, expected, tree in examples:
+        for example in examples:
+            name, context, written, meant, expected, tree = example
             found = outcome(context, written, meant, folder)
-            written_by_us = is_ours(context, written, tree)
+            written_by_us = is_ours(context, meant if example in CALLEES else written, tree)
             ours += written_by_us is True
             is_told = found == expected and written_by_us is not False
             different += not is_told

@@ -1,4 +1,5 @@
-//! Takes prettyplease's files and puts the recording lines into expr.rs.
+//! Takes prettyplease's files and puts the recording lines into expr.rs, and our test of a
+//! callee beside the crate's.
 //!
 //! The files lie in `shared/docs/src/src` beside the repository's root folder;
 //! PRETTYPLEASE_SRC names another folder. None of their text is kept here but
@@ -25,6 +26,16 @@ const RECORDING_LINES: [(&str, &str); 5] = [
     ("&TokenStream, _fixup:", "self.verbatim();"),
 ];
 
+/// The two functions of expr.rs that print a Call.
+const CALLS: [&str; 2] = ["fn expr_call(", "fn prefix_subexpr_call("];
+
+/// How the test of a callee begins there, and what stands before it for our order (document
+/// 02, Paper 9). In the crate's order its own text decides, as it is.
+const TEST: [&str; 2] = ["let needs_paren = ", "if let Expr::Field("];
+const OUR_TEST: &str = "if self.order == model::CalleeOrder::Ours {
+            left_prec < Precedence::Unambiguous || crate::stand_in::callee::is_named_field(&expr.func)
+        } else ";
+
 fn main() {
     println!("cargo:rerun-if-changed=build.rs");
     println!("cargo:rerun-if-changed=src/mutation.rs");
@@ -45,6 +56,9 @@ fn main() {
             for (place, line) in RECORDING_LINES {
                 text = with_line(&text, place, line);
             }
+            for call in CALLS {
+                text = with_our_test(&text, call);
+            }
         }
         if file == "fixup" && env::var_os("CARGO_FEATURE_KEPT_SCANS").is_some() {
             assert_once(&text, "fn scan_right(");
@@ -60,6 +74,17 @@ fn with_line(text: &str, place: &str, line: &str) -> String {
     let head = text.find(place).expect("found just now");
     let at = head + text[head..].find('{').expect("the body of a function") + 1;
     format!("{}\n        {line}{}", &text[..at], &text[at..])
+}
+
+/// The text with our test before the crate's in one of the functions that print a Call.
+fn with_our_test(text: &str, call: &str) -> String {
+    assert_once(text, call);
+    let start = text.find(call).expect("found just now");
+    let end = text[start..].find("\n    fn ").map_or(text.len(), |length| start + length);
+    let test = TEST.concat();
+    assert_once(&text[start..end], &test);
+    let at = start + text[start..end].find(&test).expect("found just now") + TEST[0].len();
+    format!("{}{OUR_TEST}{}", &text[..at], &text[at..])
 }
 
 fn assert_once(text: &str, place: &str) {

@@ -9,6 +9,7 @@ use crate::record::Header;
 use crate::record::Sizes;
 use crate::record::Start;
 use crate::trees;
+use expr::order::CalleeOrder;
 use tree::sizes;
 ghost use Prim.Native.Nat.{_*_, _≤_};
 ghost use Rattle.tree.specs.Sizes.{tokenCells, mostTokens};
@@ -17,8 +18,10 @@ ghost use Rattle.tree.specs.Sizes.{tokenCells, mostTokens};
 pub enum Kind {
     // Tree files, and their tables.
     Files,
-    // Tree files, and the rows of their trees.
+    // Tree files, and the rows of their trees in the crate's callee order.
     Rows,
+    // The same in ours.
+    Callees,
     // Token lists, and the tables of their readings.
     Readings,
     // Tree files, and the tokens of their trees.
@@ -48,6 +51,7 @@ fn bytes_of(kind: Kind, reply: u16, count: usize) -> usize
     match kind {
         Kind::Files => 2 * sizes::NODE_CELLS * count,
         Kind::Rows => 2 * sizes::ROW_CELLS * count,
+        Kind::Callees => 2 * sizes::ROW_CELLS * count,
         Kind::Readings => 2 * sizes::NODE_CELLS * count,
         Kind::Tokens => 2 * sizes::TOKEN_CELLS * count,
         Kind::Saves => count,
@@ -61,7 +65,8 @@ fn agrees(kind: Kind, file: &[u8; FILE], h: Header, cells: &[u8; BYTES], s: Size
 {
     match kind {
         Kind::Files => trees::loads(file, h, cells, s),
-        Kind::Rows => trees::decides(file, h.reply, cells, s),
+        Kind::Rows => trees::decides(CalleeOrder::Crates, file, h.reply, cells, s),
+        Kind::Callees => trees::decides(CalleeOrder::Ours, file, h.reply, cells, s),
         Kind::Readings => lists::reads(file, h, cells, s),
         Kind::Tokens => trees::writes(file, h, cells, s),
         Kind::Saves => archive::saves(file, h, cells, s),

@@ -1,7 +1,8 @@
 // Goes through the recorded files and replies in the file `files`, loads each file with `file_loader`, and prints how
-// many replies agree with the recorded ones. Then the same with the file `rows` and the rows that `row_walk` decides,
-// with `readings` and what `token_reader` reads, with `tokens` and what `token_writer` writes, with `saves` and what
-// `file_save` saves, and with `orders` and what `file_order` says of two files.
+// many replies agree with the recorded ones. Then the same with the file `rows` and the rows that `row_walk` decides in
+// the crate's callee order, with `callees` and those in ours, with `readings` and what `token_reader` reads, with `tokens`
+// and what `token_writer` writes, with `saves` and what `file_save` saves, and with `orders` and what `file_order` says of
+// two files.
 mod archive;
 mod cells;
 mod judge;
@@ -77,6 +78,7 @@ fn open_named(name: &[u8], kind: Kind) {
 fn main() {
     open(b"files", Kind::Files);
     open_named(b"rows", Kind::Rows);
+    open_named(b"callees", Kind::Callees);
     open_named(b"readings", Kind::Readings);
     open_named(b"tokens", Kind::Tokens);
     open_named(b"saves", Kind::Saves);

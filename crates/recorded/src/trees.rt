@@ -53,8 +53,9 @@ pub(crate) fn loads(file: &[u8; FILE], h: Header, cells: &[u8; BYTES], s: Sizes)
 
 // ---- rows
 
-// The reply to deciding the rows of a loaded table, in the crate's callee order: they were recorded from the crate.
+// The reply to deciding the rows of a loaded table in a callee order.
 fn decide_loaded(
+    order: CalleeOrder,
     loaded: Loaded,
     table: &[u16; TABLE],
     rows: &mut [u16],
@@ -68,7 +69,7 @@ fn decide_loaded(
         Loaded::Refused(why) => why,
         Loaded::Accepted(context, count) => {
             row_walk::decide_by(
-                CalleeOrder::Crates,
+                order,
                 context,
                 count,
                 table,
@@ -79,8 +80,9 @@ fn decide_loaded(
     }
 }
 
-// The reply to deciding the rows of a file, with `lent` cells of rows and scratch lent.
+// The reply to deciding the rows of a file in a callee order, with `lent` cells of rows and scratch lent.
 fn decide(
+    order: CalleeOrder,
     file: &[u8; FILE],
     size: usize,
     rows: &mut [u16; TABLE],
@@ -92,18 +94,24 @@ fn decide(
 {
     let mut table = [0u16; TABLE];
     let loaded = load(file, size, &mut table, TABLE);
-    decide_loaded(loaded, &table, rows, scratch, lent)
+    decide_loaded(order, loaded, &table, rows, scratch, lent)
 }
 
 // Whether the rows of a file are as recorded, the scratch of as many nodes being cleared.
-pub(crate) fn decides(file: &[u8; FILE], reply: u16, cells: &[u8; BYTES], s: Sizes) -> bool
+pub(crate) fn decides(
+    order: CalleeOrder,
+    file: &[u8; FILE],
+    reply: u16,
+    cells: &[u8; BYTES],
+    s: Sizes,
+) -> bool
     requires { ⌜ (s .file ≤ 100_000) × (s .lent ≤ 65_535) × (s .written ≤ 2 * tokenCells * mostTokens) ⌝ }
 {
     let mut rows = [0u16; TABLE];
     cells::fill(&mut rows);
     let mut scratch = [0u16; TABLE];
     cells::fill(&mut scratch);
-    if decide(file, s.file, &mut rows, &mut scratch, s.lent) != reply {
+    if decide(order, file, s.file, &mut rows, &mut scratch, s.lent) != reply {
         return false;
     }
     let written = s.written / 2;

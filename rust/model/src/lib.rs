@@ -10,11 +10,14 @@
 //! - [`rules`], [`chart`] and [`verdict`] are the plain grammar: all readings of a
 //!   token list, found by cutting it. [`written`] says what is written for a tree, and
 //!   [`commas`] where commas stand that may follow a last item.
+//! - [`callee`] says when a Call groups its callee, in the crate's order and in ours, and
+//!   where the rows of the two differ.
 //! - [`edit`] says what an edit of an open sheet gives.
 //! - [`generate`] makes accepted trees, [`recorded`] reads recorded answers, and
 //!   [`lent`] makes buffers that show what was written to them.
 
 pub mod accept;
+pub mod callee;
 pub mod chart;
 pub mod codes;
 pub mod commas;
@@ -31,4 +34,5 @@ pub mod table;
 pub mod verdict;
 pub mod written;
 
+pub use callee::CalleeOrder;
 pub use table::NodeTable;

@@ -19,3 +19,6 @@ pub const NAMES: [&str; 16] = [
     "Prefix",
     "Unambiguous",
 ];
+
+/// The last of them.
+pub const UNAMBIGUOUS: u16 = NAMES.len() as u16 - 1;

@@ -31,7 +31,7 @@ pub fn u16s(bytes: &[u8]) -> Vec<u16> {
 fn each(name: &str) -> usize {
     match name {
         "files" | "readings" => 2 * NODE_CELLS,
-        "rows" => 2 * ROW_CELLS,
+        "rows" | "callees" => 2 * ROW_CELLS,
         "tokens" => 2 * TOKEN_CELLS,
         "saves" => 1,
         "orders" => 0,

@@ -87,6 +87,18 @@ extern "C" {
         result_rows_length: usize,
     ) -> u32;
 
+    pub fn tezhukor_decide_by_order(
+        order: u16,
+        context: u16,
+        count: u16,
+        table: *const u16,
+        table_length: usize,
+        rows: *mut u16,
+        rows_length: usize,
+        scratch: *mut u16,
+        scratch_length: usize,
+    ) -> u16;
+
     pub fn tezhukor_answer(
         question: u16,
         table: *const u16,

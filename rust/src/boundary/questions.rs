@@ -1,8 +1,36 @@
-//! What lies behind a row: the crate's single functions, asked of a node.
+//! What lies behind a row: the crate's single functions, asked of a node; and rows in either
+//! callee order.
 //!
 //! Questions have the numbers of `crates/answers_questions/specs` and `crates/answers_cells/specs`.
 
 use super::library;
+use model::CalleeOrder;
+
+/// [`decide`](super::decide) in a callee order, by its number: 0 the crate's, any other ours.
+pub fn decide_by_order(
+    order: u16,
+    context: u16,
+    count: u16,
+    table: &[u16],
+    rows: &mut [u16],
+    scratch: &mut [u16],
+) -> u16 {
+    // SAFETY: pointers and lengths are those of slices, of which none overlaps
+    // another; the function demands nothing else of its arguments.
+    unsafe {
+        library::tezhukor_decide_by_order(
+            order,
+            context,
+            count,
+            table.as_ptr(),
+            table.len(),
+            rows.as_mut_ptr(),
+            rows.len(),
+            scratch.as_mut_ptr(),
+            scratch.len(),
+        )
+    }
+}
 
 /// A context: previous operator, next operator and flags, as in a row.
 pub type Context = [u16; 3];
@@ -137,6 +165,9 @@ pub fn context(maker: Maker, from: Context, booleans: [bool; 2], precedence: u16
     })
 }
 
+/// The question for a first operand in our callee order; 0 is for one in the crate's.
+const OUR_FIRST: u16 = 2;
+
 /// What an owner hands to an operand.
 #[derive(Copy, Clone, PartialEq, Eq, Debug)]
 pub struct Handed {
@@ -146,14 +177,19 @@ pub struct Handed {
     pub needs_group: bool,
 }
 
-/// What a node in its own context hands to its first operand (0) or its second (1).
-pub fn handed(operand: u16, own: Context, owner: Place) -> Handed {
+/// What a node in its own context hands to its first operand (0) or its second (1), in a
+/// callee order.
+pub fn handed(order: CalleeOrder, operand: u16, own: Context, owner: Place) -> Handed {
     let [previous, next, flags] = own;
     let Place { table, count, node } = owner;
     let (pointer, length) = (table.as_ptr(), table.len());
+    let asked = match (order, operand) {
+        (CalleeOrder::Ours, 0) => OUR_FIRST,
+        _ => operand,
+    };
     // SAFETY: as above.
     let [previous, next, flags, precedence, group] = [0, 1, 2, 3, 4].map(|cell| unsafe {
-        library::tezhukor_handed(operand, cell, previous, next, flags, pointer, length, count, node)
+        library::tezhukor_handed(asked, cell, previous, next, flags, pointer, length, count, node)
     });
     Handed { precedence, context: [previous, next, flags], needs_group: group == 1 }
 }

@@ -10,6 +10,7 @@
 
 mod edits;
 
+use model::callee::{apart, Apart};
 use model::chart::Chart;
 use model::codes::{self, Token, CLOSE, COMMA, EQUALS, MINUS, NAME, OPEN};
 use model::commas;
@@ -21,6 +22,7 @@ use model::table::{self, NodeTable, DETAIL, FIRST, FORM, SECOND, SYMBOL};
 use model::verdict::{self, Verdict};
 use model::written::{self, last_links, without_parens, Written};
 use model::{accept, contexts, forms};
+use tezhukor::boundary::questions::decide_by_order;
 use tezhukor::{boundary, Refusal, Tree};
 
 /// How many of each are made.
@@ -106,6 +108,50 @@ fn decide(table: &NodeTable, [rows, scratch]: [usize; 2], tally: &mut Tally) {
     let rows: Vec<u16> = tree(table).rows().iter().flat_map(|row| row.cells()).collect();
     holds(lent_rows, &rows);
     holds(lent_scratch, &vec![0; SCRATCH_CELLS * nodes]);
+}
+
+/// Decides in both callee orders, as [`decide`] does: the same replies and buffers, the same
+/// rows in ours by any number but 0, and other rows in the crate's only where it is said.
+#[test]
+fn callee_orders() {
+    let (mut tally, mut changed) = (Tally::default(), 0);
+    for index in 0..times() {
+        let dice = &mut Dice::new(81, index);
+        let mut table = Family::Callees.tree(82, index);
+        if dice.percent(20) {
+            table = damaged_table(&table, dice);
+        }
+        let nodes = usize::from(table.count).min(5_000);
+        let lengths = [around(ROW_CELLS * nodes, dice), around(SCRATCH_CELLS * nodes, dice)];
+        decide(&table, lengths, &mut tally);
+        let by_order = |order: u16| {
+            let [mut rows, mut scratch] = lengths.map(Lent::new);
+            let [lent_rows, lent_scratch] = [rows.lend(lengths[0]), scratch.lend(lengths[1])];
+            let NodeTable { context, count, cells } = &table;
+            let reply = decide_by_order(order, *context, *count, cells, lent_rows, lent_scratch);
+            let done = if reply == 0 { nodes } else { 0 };
+            holds(scratch, &vec![0; SCRATCH_CELLS * done]);
+            (reply, rows.take(ROW_CELLS * done).expect("no other cell is written to"))
+        };
+        let (reply, ours) = by_order(dice.pick(&[1, 2, 65_535]));
+        let (same, crates) = by_order(0);
+        assert_eq!(same, reply);
+        let own = match reply {
+            0 => tree(&table).rows().iter().flat_map(|row| row.cells()).collect(),
+            _ => Vec::new(),
+        };
+        assert_eq!(ours, own);
+        let rows = || crates.chunks_exact(ROW_CELLS).zip(ours.chunks_exact(ROW_CELLS));
+        let has_pair: Vec<bool> = rows().map(|(theirs, _)| theirs[0] & 1 == 1).collect();
+        let apart = if reply == 0 { apart(&table, &has_pair) } else { Vec::new() };
+        for (apart, (theirs, own)) in apart.into_iter().zip(rows()) {
+            assert!(apart != Apart::Same || theirs == own, "{table:?}");
+            assert!(apart != Apart::Callee || (theirs[0], own[0]) == (0, 1), "{table:?}");
+            changed += u64::from(theirs != own);
+        }
+    }
+    assert!(changed > times() / 100, "{changed} rows differ");
+    tally.print("decided in both callee orders");
 }
 
 /// The tree of an accepted table, which may have cells past its last node.

@@ -2,7 +2,7 @@
 
 use model::forms::Class;
 use model::sizes::{ROW_CELLS, SCRATCH_CELLS};
-use model::{table, NodeTable};
+use model::{table, CalleeOrder, NodeTable};
 use oracle::direct::{context_of_root, Context};
 use oracle::{BuiltTree, Row};
 use std::hint::black_box;
@@ -68,7 +68,7 @@ impl Prepared {
                 black_box(self.decide(0));
             }
             Side::TheirRows => {
-                black_box(black_box(&self.built).printed(self.context));
+                black_box(black_box(&self.built).printed(CalleeOrder::Crate, self.context));
             }
             Side::TheirPrinting => black_box(&self.built).only_printed(self.context),
         }
@@ -81,11 +81,11 @@ impl Prepared {
         boundary::decide(*context, *count, cells, rows, &mut self.scratch)
     }
 
-    /// Stops unless both sides give the same rows.
+    /// Stops unless both sides give the same rows, the crate's files with our test of a callee.
     pub fn check(&mut self) {
         assert_eq!(self.decide(0), 12);
         assert_eq!(self.decide(ROW_CELLS), 0);
-        let theirs = self.built.printed(self.context).into_iter();
+        let theirs = self.built.printed(CalleeOrder::Ours, self.context).into_iter();
         let theirs: Vec<u16> = theirs.map(Option::unwrap_or_default).flat_map(cells).collect();
         assert!(self.rows == theirs, "other rows for {:?}", self.table);
     }

@@ -1,13 +1,25 @@
-//! The rows that tezhukor_decide writes, beside those that the crate gives while
-//! it prints.
+//! The rows that tezhukor_decide and tezhukor_decide_by_order write, beside those that the
+//! crate gives while it prints, with our test of a callee or with its own.
 
 use model::lent::Cell;
 use model::sizes::{ROW_CELLS, SCRATCH_CELLS};
 use model::{table, NodeTable};
 use oracle::Row;
-use tezhukor::boundary;
+use tezhukor::boundary::{self, questions};
 
-/// What tezhukor_decide did to what it was lent.
+/// Which function decides.
+#[derive(Copy, Clone, Debug)]
+pub enum Way {
+    /// tezhukor_decide, which is in our callee order.
+    Decide,
+    /// tezhukor_decide_by_order, in the order with a number.
+    ByOrder(u16),
+}
+
+/// The crate's callee order.
+pub const CRATES: Way = Way::ByOrder(0);
+
+/// What the function did to what it was lent.
 pub struct Decided {
     reply: u16,
     rows: Vec<u16>,
@@ -17,11 +29,17 @@ pub struct Decided {
 impl Decided {
     /// Decides an accepted tree in one of document 01's contexts. Both buffers
     /// have so many cells more than they need.
-    pub fn new(context: u16, tree: &NodeTable, spare: usize) -> Self {
+    pub fn new(way: Way, context: u16, tree: &NodeTable, spare: usize) -> Self {
         let lent =
             |a_node| (0..a_node * usize::from(tree.count) + spare).map(Cell::pattern).collect();
         let (mut rows, mut scratch): (Vec<u16>, Vec<u16>) = (lent(ROW_CELLS), lent(SCRATCH_CELLS));
-        let reply = boundary::decide(context, tree.count, &tree.cells, &mut rows, &mut scratch);
+        let (count, table) = (tree.count, &tree.cells[..]);
+        let reply = match way {
+            Way::Decide => boundary::decide(context, count, table, &mut rows, &mut scratch),
+            Way::ByOrder(order) => {
+                questions::decide_by_order(order, context, count, table, &mut rows, &mut scratch)
+            }
+        };
         Decided { reply, rows, scratch }
     }
 
@@ -56,7 +74,7 @@ impl Decided {
 }
 
 /// What differs where the tree goes in as a tree file, through tezhukor_load, and its
-/// rows are decided in some contexts, each with the crate's rows.
+/// rows are decided in the crate's callee order in some contexts, each with its rows.
 pub fn differences_of_file(tree: &NodeTable, theirs: &[(u16, Vec<Row>)]) -> Vec<String> {
     let mut cells = vec![0; tree.cells.len()];
     let reply = boundary::load(&table::write(tree), &mut cells);
@@ -67,7 +85,7 @@ pub fn differences_of_file(tree: &NodeTable, theirs: &[(u16, Vec<Row>)]) -> Vec<
                 return vec![format!("{loaded:?} is loaded")];
             }
             let differences = |(context, theirs): &(u16, Vec<Row>)| {
-                Decided::new(*context, &loaded, 0).differences(tree, theirs)
+                Decided::new(CRATES, *context, &loaded, 0).differences(tree, theirs)
             };
             theirs.iter().flat_map(differences).collect()
         }

@@ -7,17 +7,19 @@ mod digest;
 mod edits;
 mod in_context;
 mod nests;
+mod orders;
 mod record;
 mod rows;
 mod spines;
 
-use decided::Decided;
+use decided::{Decided, Way, CRATES};
 use in_context::{any, Cases, QUESTIONS};
 use model::forms::Class;
 use model::generate::{Dice, Family, SmallTrees};
-use model::{accept, table, NodeTable};
+use model::{accept, table, CalleeOrder, NodeTable};
 use oracle::direct::{context_of_root, each_expression, Context};
-use oracle::{answers, NodeAnswers, Row};
+use oracle::orders::Orders;
+use oracle::{answers, BuiltTree, NodeAnswers, Row};
 use std::process::ExitCode;
 use tezhukor::boundary::questions::{self, Place, Question};
 
@@ -27,10 +29,12 @@ struct Tally {
     trees: u64,
     asked: [u64; Question::ALL.len()],
     asked_in_context: [u64; QUESTIONS.len()],
-    /// Rows of expressions, put together here.
+    /// Rows of expressions, put together here, in each callee order.
     rows: u64,
-    /// Rows of expressions, by tezhukor_decide.
+    /// Rows of expressions by tezhukor_decide, and as many by tezhukor_decide_by_order.
     decided: u64,
+    /// The rows of both callee orders beside each other.
+    orders: Orders,
     different: u64,
 }
 
@@ -47,19 +51,30 @@ impl Tally {
         };
         let mut contexts: Vec<Context> = headers.iter().copied().map(context_of_root).collect();
         contexts.push(any(self.trees % 2 == 0, dice));
-        let theirs = oracle::rows(&contexts, tree.count, &tree.cells);
-        for (&context, theirs) in contexts.iter().zip(&theirs) {
-            self.compare_rows(tree, context, theirs);
+        let built = BuiltTree::new(tree.count, &tree.cells);
+        let [crates, ours] = CalleeOrder::ALL.map(|order| built.rows(order, &contexts));
+        for (&context, rows) in contexts.iter().zip(crates.iter().zip(&ours)) {
+            self.compare_rows(CalleeOrder::Crate, tree, context, rows.0);
+            self.compare_rows(CalleeOrder::Ours, tree, context, rows.1);
+            self.rows += expressions(tree);
+            self.orders.compare(tree, rows.0, rows.1);
         }
-        for (&header, theirs) in headers.iter().zip(&theirs) {
-            self.compare_decided(tree, header, theirs, dice.below(8));
+        for (&header, rows) in headers.iter().zip(crates.iter().zip(&ours)) {
+            self.compare_decided(CRATES, tree, header, rows.0, dice.below(8));
+            self.compare_decided(Way::Decide, tree, header, rows.1, dice.below(8));
+            self.decided += expressions(tree);
         }
     }
 
     /// The rows below a root in a context, put together here.
-    fn compare_rows(&mut self, tree: &NodeTable, context: Context, theirs: &[Row]) {
-        self.rows += expressions(tree);
-        for ((node, ours), theirs) in (1..).zip(rows::rows(context, tree)).zip(theirs) {
+    fn compare_rows(
+        &mut self,
+        order: CalleeOrder,
+        tree: &NodeTable,
+        context: Context,
+        theirs: &[Row],
+    ) {
+        for ((node, ours), theirs) in (1..).zip(rows::rows(order, context, tree)).zip(theirs) {
             if ours != *theirs {
                 self.different += 1;
                 println!("{ours:?}, not {theirs:?}, root {context:?}, node {node} of {tree:?}");
@@ -67,13 +82,19 @@ impl Tally {
         }
     }
 
-    /// The rows by tezhukor_decide in a header's context, and what else it does to
-    /// buffers with some spare cells.
-    fn compare_decided(&mut self, tree: &NodeTable, header: u16, theirs: &[Row], spare: usize) {
-        self.decided += expressions(tree);
-        for difference in Decided::new(header, tree, spare).differences(tree, theirs) {
+    /// The rows by the library in a header's context, and what else it does to buffers with
+    /// some spare cells.
+    fn compare_decided(
+        &mut self,
+        way: Way,
+        tree: &NodeTable,
+        header: u16,
+        theirs: &[Row],
+        spare: usize,
+    ) {
+        for difference in Decided::new(way, header, tree, spare).differences(tree, theirs) {
             self.different += 1;
-            println!("tezhukor_decide: {difference}, context {header} for {tree:?}");
+            println!("{way:?}: {difference}, context {header} for {tree:?}");
         }
     }
 
@@ -112,7 +133,8 @@ impl Tally {
         });
     }
 
-    fn print(&self, name: &str) {
+    /// Tells what came of all, and gives how often something differed.
+    fn print(&self, name: &str) -> u64 {
         println!("{name}: trees {}, different {}", self.trees, self.different);
         for question in Question::ALL {
             println!("  {} {}", question.name(), self.asked[question as usize]);
@@ -120,8 +142,10 @@ impl Tally {
         for (question, asked) in QUESTIONS.iter().zip(self.asked_in_context) {
             println!("  {} {asked}", question.name);
         }
-        println!("  rows {}", self.rows);
-        println!("  rows by tezhukor_decide {}", self.decided);
+        println!("  rows {}, in each callee order", self.rows);
+        println!("  rows by tezhukor_decide {0}, by tezhukor_decide_by_order {0}", self.decided);
+        self.orders.print();
+        self.different + self.orders.different
     }
 }
 
@@ -171,16 +195,18 @@ fn compare(
     for (index, tree) in (0..).zip(trees) {
         tally.compare(&tree, roots, cases, &mut Dice::new(seed, index));
     }
-    tally.print(name);
-    tally.different
+    tally.print(name)
 }
 
 const USAGE: &str = "usage:
   compare [SEED]           all questions and rows, on random and on small trees
-  compare short            the same on each 23rd of these trees, and some edits, for the gate
+  compare short            the same on each 23rd of these trees, and some calls and edits, for
+                           the gate
   compare edits EDITS [SEED]
                            so many edits of open sheets and as many previews, in runs too,
                            with every refusal
+  compare orders CALLS [SEED]
+                           rows in both callee orders, on trees with so many calls
   compare spines [FORMS]   rows of right spines of one to five forms, or of so many
   compare record FORMS     the same of one, two or three forms, and writes crates/spines/data
   compare nests            rows of nests of 128 levels, with the crate's scans kept";
@@ -188,13 +214,11 @@ const USAGE: &str = "usage:
 fn main() -> ExitCode {
     oracle::command::run(USAGE, |words| match *words {
         [] => Some(contexts::compare() + compare_trees(1, 1)),
-        ["short"] => Some(compare_trees(1, 23) + edits::compare(10_000, 1)),
-        ["edits", edits] => edits.parse().ok().map(|edits| edits::compare(edits, 1)),
-        ["edits", edits, seed] => edits
-            .parse()
-            .ok()
-            .zip(seed.parse().ok())
-            .map(|(edits, seed)| edits::compare(edits, seed)),
+        ["short"] => {
+            Some(compare_trees(1, 23) + orders::compare(100_000, 1) + edits::compare(10_000, 1))
+        }
+        ["edits", ref words @ ..] => with_seed(words, edits::compare),
+        ["orders", ref words @ ..] => with_seed(words, orders::compare),
         ["spines"] => Some((1..=spines::LONGEST).map(|forms| spines::compare(forms).0).sum()),
         ["spines", forms] => number(forms, spines::LONGEST).map(|forms| spines::compare(forms).0),
         ["record", forms] => number(forms, 3).map(record::record),
@@ -202,6 +226,16 @@ fn main() -> ExitCode {
         [seed] => seed.parse().ok().map(|seed| contexts::compare() + compare_trees(seed, 1)),
         _ => None,
     })
+}
+
+/// How many there shall be, and a seed, which is 1 where none is given.
+fn with_seed(words: &[&str], compare: fn(u64, u64) -> u64) -> Option<u64> {
+    let (many, seed) = match words {
+        [many] => (many, &"1"),
+        [many, seed] => (many, seed),
+        _ => return None,
+    };
+    Some(compare(many.parse().ok()?, seed.parse().ok()?))
 }
 
 /// A number from 1 to the largest.

@@ -1,20 +1,20 @@
 //! The row of each expression, put together from our functions as document 01's
-//! 'Decisions' says, beside the row that the crate gives while it prints.
+//! 'Decisions' says, in either callee order, beside the row that the crate gives while it prints.
 //!
 //! This shows what expr's and fixup's functions answer, below a root in a context
 //! of any content, which no header can give. No contract speaks of the way in
 //! which they are put together here. That the rows which a caller gets are the
 //! crate's is shown by `decided`: there tezhukor_decide puts the functions
-//! together, in the four contexts that a header can give.
+//! together, in the four contexts that a header can give, and tezhukor_decide_by_order.
 
 use model::forms::{Class, ASSIGN, BINARY, CAST, RANGE};
-use model::{table, NodeTable};
+use model::{table, CalleeOrder, NodeTable};
 use oracle::direct::Context;
 use oracle::Row;
 use tezhukor::boundary::questions::{self, Handed, InContext, Maker, Place};
 
-/// The rows of an accepted tree, from node 1 on; zeros for types and links.
-pub fn rows(root: Context, tree: &NodeTable) -> Vec<Row> {
+/// The rows of an accepted tree in a callee order, from node 1 on; zeros for types and links.
+pub fn rows(order: CalleeOrder, root: Context, tree: &NodeTable) -> Vec<Row> {
     let none = questions::context(Maker::None, [0; 3], [false; 2], 0);
     let place = Place { table: &tree.cells, count: tree.count, node: 1 };
     let precedence = questions::answer_in(InContext::Precedence, root, place);
@@ -31,7 +31,7 @@ pub fn rows(root: Context, tree: &NodeTable) -> Vec<Row> {
         let own = if row.pair & 1 == 1 { none } else { from_owner.context };
         for (question, operand) in (0..).zip(table::node(&tree.cells, node).operands) {
             if operand != 0 {
-                handed[usize::from(operand) - 1] = questions::handed(question, own, place);
+                handed[usize::from(operand) - 1] = questions::handed(order, question, own, place);
             }
         }
         row

@@ -8,7 +8,7 @@ use crate::recorder::{Recorder, Row};
 use crate::stand_in::algorithm::Printer;
 use crate::tree::{self, Built};
 use model::forms::{self, Side};
-use model::table;
+use model::{table, CalleeOrder};
 use std::rc::Rc;
 use syn::{Expr, ExprCast, Type, TypeInfer};
 
@@ -61,8 +61,13 @@ impl Answers {
     }
 }
 
-/// All answers for an accepted tree.
+/// All answers for an accepted tree, its rows in the crate's callee order.
 pub fn answers(context: u16, count: u16, cells: &[u16]) -> Answers {
+    answers_by(CalleeOrder::Crate, context, count, cells)
+}
+
+/// All answers for an accepted tree, its rows in one of the callee orders.
+pub fn answers_by(order: CalleeOrder, context: u16, count: u16, cells: &[u16]) -> Answers {
     let mut nodes = vec![NodeAnswers::Link; count as usize];
     let root = tree::build(cells, count, 1, |node, built| {
         nodes[node as usize - 1] = match built {
@@ -74,7 +79,7 @@ pub fn answers(context: u16, count: u16, cells: &[u16]) -> Answers {
     let Built::Expr(root) = root else {
         panic!("the root is no expression");
     };
-    let rows = printed(&root, FixupContext::of_root(context), sides(count, cells).into());
+    let rows = printed(&root, order, FixupContext::of_root(context), sides(count, cells).into());
     for (at, row) in rows.into_iter().enumerate() {
         match (&mut nodes[at], row) {
             (NodeAnswers::Expression(answers), Some(row)) => answers.row = row,
@@ -87,14 +92,9 @@ pub fn answers(context: u16, count: u16, cells: &[u16]) -> Answers {
 }
 
 /// The rows of an accepted tree, from node 1 on, for roots in contexts of any
-/// content; zeros for types and links.
+/// content, in the crate's callee order; zeros for types and links.
 pub fn rows(contexts: &[Context], count: u16, cells: &[u16]) -> Vec<Vec<Row>> {
-    let built = BuiltTree::new(count, cells);
-    let rows_in = |&context: &Context| {
-        let rows = built.printed(context);
-        rows.into_iter().map(Option::unwrap_or_default).collect()
-    };
-    contexts.iter().map(rows_in).collect()
+    BuiltTree::new(count, cells).rows(CalleeOrder::Crate, contexts)
 }
 
 /// An accepted tree that is built once and printed many times.
@@ -111,20 +111,32 @@ impl BuiltTree {
 
     /// The rows, from node 1 on, for a root in a context of any content; none for
     /// types and links.
-    pub fn printed(&self, context: Context) -> Vec<Option<Row>> {
-        printed(&self.root, FixupContext::from_numbers(context), self.sides.clone())
+    pub fn printed(&self, order: CalleeOrder, context: Context) -> Vec<Option<Row>> {
+        printed(&self.root, order, FixupContext::from_numbers(context), self.sides.clone())
     }
 
-    /// Prints and records nothing.
+    /// The same for roots in some contexts, with zeros for types and links.
+    pub fn rows(&self, order: CalleeOrder, contexts: &[Context]) -> Vec<Vec<Row>> {
+        let printed = contexts.iter().map(|&context| self.printed(order, context));
+        printed.map(|rows| rows.into_iter().map(Option::unwrap_or_default).collect()).collect()
+    }
+
+    /// Prints in the crate's callee order and records nothing.
     pub fn only_printed(&self, context: Context) {
-        Printer { recorder: None }.expr(&self.root, FixupContext::from_numbers(context));
+        let context = FixupContext::from_numbers(context);
+        Printer { recorder: None, order: CalleeOrder::Crate }.expr(&self.root, context);
     }
 }
 
 /// What is recorded while the crate prints the root; none for a node that it
 /// does not print.
-fn printed(root: &Expr, context: FixupContext, sides: Rc<[Side]>) -> Vec<Option<Row>> {
-    let mut printer = Printer { recorder: Some(Recorder::new(sides)) };
+fn printed(
+    root: &Expr,
+    order: CalleeOrder,
+    context: FixupContext,
+    sides: Rc<[Side]>,
+) -> Vec<Option<Row>> {
+    let mut printer = Printer { recorder: Some(Recorder::new(sides)), order };
     printer.expr(root, context);
     printer.recorder.expect("the recorder just given").rows()
 }

@@ -6,16 +6,19 @@
 //!   classify.rs and `Precedence::of` for each node, and the row of document 01
 //!   for each expression, recorded while the crate's `Printer::expr` prints.
 //! - [`direct`] asks single functions, the private ones of fixup.rs included.
+//! - [`orders`] holds the rows of both callee orders against what is said of them.
 //! - [`command`] ends a command that compares.
 //!
 //! `stand_in` and the path crates `syn` and `proc_macro2` stand in for what the
 //! four files lean on; `build.rs` takes the files and puts five recording lines
-//! into expr.rs.
+//! into expr.rs, and our test of a callee beside the crate's two, which decide as
+//! they are unless our order is asked for.
 
 mod answers;
 pub mod command;
 pub mod digest;
 pub mod direct;
+pub mod orders;
 mod recorder;
 pub mod text;
 pub mod tree;
@@ -33,7 +36,9 @@ mod fixup;
 #[allow(dead_code, clippy::all)]
 mod precedence;
 
-pub use answers::{answers, rows, Answers, BuiltTree, ExpressionAnswers, NodeAnswers, TypeAnswers};
+pub use answers::{
+    answers, answers_by, rows, Answers, BuiltTree, ExpressionAnswers, NodeAnswers, TypeAnswers,
+};
 pub use direct::{
     leftmost_precedence_of, parenthesize_of, precedence_of, rightmost_precedence_of, scan_left_of,
     scan_right_of,

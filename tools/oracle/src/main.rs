@@ -1,14 +1,15 @@
 //! The oracle's command line.
 
 use model::generate::{Family, SmallTrees};
-use model::{accept, table, NodeTable};
+use model::{accept, table, CalleeOrder, NodeTable};
 use oracle::digest::{digests, Extent};
-use oracle::{answers, text, Answers};
+use oracle::{answers_by, text, Answers};
 use std::io::{self, BufReader, BufWriter, Read, Write};
 use std::process::ExitCode;
 
 const USAGE: &str = "usage:
-  oracle rows < FILE             the rows of a tree file, as `parens` prints them
+  oracle rows [ours] < FILE      the rows of a tree file as `parens` prints them, in the crate's
+                                 callee order or in ours
   oracle answers < FILE          what classify.rs and Precedence::of answer, a line a node
   oracle batch [rows|answers]    the same for records on standard input, one text after another
   oracle random SEED N OUT [FAMILY]
@@ -18,15 +19,17 @@ const USAGE: &str = "usage:
                                  each in the four contexts
   oracle digest [quick|thorough] digests of the answers for many trees
 A record is a length, four bytes with the lowest first, and so many bytes of a tree file.
-Families: mixed (random, scans, spines and plain in turn), random, scans, spines, plain, structs.
+Families: mixed (random, scans, spines and plain in turn), random, scans, spines, plain, structs,
+callees.
 Sets: every, representative, narrow.";
 
 fn main() -> ExitCode {
     let arguments: Vec<String> = std::env::args().skip(1).collect();
     let arguments: Vec<&str> = arguments.iter().map(String::as_str).collect();
     let done = match arguments[..] {
-        ["rows"] => one(text::rows),
-        ["answers"] => one(text::answers),
+        ["rows"] => one(CalleeOrder::Crate, text::rows),
+        ["rows", "ours"] => one(CalleeOrder::Ours, text::rows),
+        ["answers"] => one(CalleeOrder::Crate, text::answers),
         ["batch"] | ["batch", "rows"] => batch(text::rows),
         ["batch", "answers"] => batch(text::answers),
         ["random", seed, trees, out] => random(seed, trees, out, "mixed"),
@@ -51,19 +54,19 @@ fn said(error: io::Error) -> String {
 }
 
 /// The answers for a tree file that must be accepted.
-fn of_file(file: &[u8]) -> Result<Answers, String> {
+fn of_file(order: CalleeOrder, file: &[u8]) -> Result<Answers, String> {
     let refused = |refusal: u16| format!("not an accepted tree: refusal {refusal}");
     let table = table::read(file).map_err(refused)?;
     match accept::refusal(&table) {
-        0 => Ok(answers(table.context, table.count, &table.cells)),
+        0 => Ok(answers_by(order, table.context, table.count, &table.cells)),
         refusal => Err(refused(refusal)),
     }
 }
 
-fn one(print: fn(&Answers) -> String) -> Result<(), String> {
+fn one(order: CalleeOrder, print: fn(&Answers) -> String) -> Result<(), String> {
     let mut file = Vec::new();
     io::stdin().lock().read_to_end(&mut file).map_err(said)?;
-    print!("{}", print(&of_file(&file)?));
+    print!("{}", print(&of_file(order, &file)?));
     Ok(())
 }
 
@@ -71,7 +74,8 @@ fn batch(print: fn(&Answers) -> String) -> Result<(), String> {
     let mut input = BufReader::new(io::stdin().lock());
     let mut output = BufWriter::new(io::stdout().lock());
     while let Some(file) = read_record(&mut input).map_err(said)? {
-        output.write_all(print(&of_file(&file)?).as_bytes()).map_err(said)?;
+        let answers = of_file(CalleeOrder::Crate, &file)?;
+        output.write_all(print(&answers).as_bytes()).map_err(said)?;
     }
     output.flush().map_err(said)
 }

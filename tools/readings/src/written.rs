@@ -5,12 +5,11 @@ use model::sizes::{MOST_NODES, NODE_CELLS};
 use model::written::{self, Written};
 use model::NodeTable;
 use oracle::direct::context_of_root;
-use oracle::BuiltTree;
 
 /// Whether each node has an outer pair in the crate's rows, in the tree's context.
 fn pairs(tree: &NodeTable) -> Vec<bool> {
-    let rows = BuiltTree::new(tree.count, &tree.cells).printed(context_of_root(tree.context));
-    rows.iter().map(|row| row.is_some_and(|row| row.pair & 1 == 1)).collect()
+    let rows = oracle::rows(&[context_of_root(tree.context)], tree.count, &tree.cells);
+    rows[0].iter().map(|row| row.pair & 1 == 1).collect()
 }
 
 /// Writes a plain tree.

@@ -12,7 +12,7 @@ use std::process::ExitCode;
 const USAGE: &str = "usage:
   scale parens FILES [SEED]   target/bin/parens on so many files, beside the crate's own rows
   scale nests [STEP]          the same on nests of 128 levels, each so many-th (1 if not given)
-  scale record                writes crates/recorded/data/rows";
+  scale record                writes rows and callees of crates/recorded/data";
 
 fn main() -> ExitCode {
     let number = |text: &str| text.parse::<u64>().ok().filter(|&number| number > 0);

@@ -3,15 +3,16 @@
 use model::generate::{self, Draft, Label, Slot};
 use model::sizes::NODE_CELLS;
 use model::table::{NodeTable, ATTRIBUTES, DETAIL, FIRST, FORM};
+use model::CalleeOrder;
 use oracle::{keeping, Answers};
 
 /// So many doubling nodes of a right spine take the crate a tenth of a second.
 pub const FINISHED: u32 = 20;
 
-/// The crate's answers. Those of its scan_right are kept where it would not come to an
-/// end soon.
-pub fn answers(table: &NodeTable) -> Answers {
-    let ask = || oracle::answers(table.context, table.count, &table.cells);
+/// The crate's answers, with rows in a callee order. Those of its scan_right are kept where it
+/// would not come to an end soon.
+pub fn answers(order: CalleeOrder, table: &NodeTable) -> Answers {
+    let ask = || oracle::answers_by(order, table.context, table.count, &table.cells);
     if levels(table) <= FINISHED {
         ask()
     } else {

@@ -1,9 +1,9 @@
-//! The program `parens` beside the crate's own rows, file by file.
+//! The program `parens` beside the crate's own rows with our test of a callee, file by file.
 
 use crate::damage::damage;
 use crate::{files, nests};
 use model::generate::{Dice, Family, SmallTrees, Spines, NESTS};
-use model::{table, NodeTable};
+use model::{table, CalleeOrder, NodeTable};
 use oracle::text;
 use std::io::{ErrorKind, Read, Write};
 use std::path::PathBuf;
@@ -59,11 +59,11 @@ impl Tally {
         }
     }
 
-    /// What is printed for an accepted tree, by the crate's own rows.
+    /// What is printed for an accepted tree, by the crate's own rows in our callee order.
     fn rows_of(&mut self, tree: &NodeTable) -> String {
         self.most_nodes = self.most_nodes.max(tree.count);
         self.large += u64::from(tree.count > 1_000);
-        let text = text::rows(&nests::answers(tree));
+        let text = text::rows(&nests::answers(CalleeOrder::Ours, tree));
         self.rows += text.lines().count() as u64 - 1;
         text
     }
@@ -150,10 +150,11 @@ pub fn compare(files: u64, seed: u64) -> u64 {
     }
     let left = files.saturating_sub(tally.files);
     end("every tree of up to 2 nodes in four contexts", tally);
-    let families = [Family::Random, Family::Scans, Family::Spines, Family::Plain];
+    let families = [Family::Random, Family::Scans, Family::Spines, Family::Plain, Family::Callees];
+    let part = 2 * families.len() as u64;
     for (family, dice_seed) in families.into_iter().zip(seed + 2..) {
         let mut tally = Tally::default();
-        for index in 0..left / 8 {
+        for index in 0..left / part {
             let mut tree = family.tree(seed, index);
             if family == Family::Plain {
                 tree.context = (index % 4) as u16;
@@ -162,7 +163,7 @@ pub fn compare(files: u64, seed: u64) -> u64 {
         }
         end(family.name(), tally);
         let mut tally = Tally::default();
-        for index in 0..left.div_ceil(8) {
+        for index in 0..left.div_ceil(part) {
             let damaged = damage(&family.tree(seed + 1, index), &mut Dice::new(dice_seed, index));
             tally.compare(&program, damaged.file, damaged.meant);
         }

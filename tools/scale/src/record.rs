@@ -1,4 +1,5 @@
-//! Tree files with the crate's own rows, for the program `recorded`.
+//! Tree files with the crate's own rows, for the program `recorded`: in the crate's callee order
+//! in `rows`, and in ours, for trees with callees that the two tell apart, in `callees`.
 //!
 //! Records stand one behind the other, all numbers with the low byte first:
 //!
@@ -12,9 +13,9 @@
 
 use crate::damage::damage;
 use crate::{chosen, files, nests};
-use model::generate::{Dice, Family, SmallTrees};
+use model::generate::{callees, Dice, Family, SmallTrees};
 use model::sizes::{MOST_NODES, ROW_CELLS};
-use model::{table, NodeTable};
+use model::{table, CalleeOrder, NodeTable};
 use std::path::PathBuf;
 
 const SEED: u64 = 11;
@@ -45,16 +46,16 @@ fn trees() -> Vec<NodeTable> {
     trees
 }
 
-/// Records, and how many have which reply.
-#[derive(Default)]
+/// Records in a callee order, and how many have which reply.
 struct Records {
+    order: CalleeOrder,
     bytes: Vec<u8>,
     replies: [usize; 13],
 }
 
 /// Writes the records, and prints what `recorded` must print for them.
 pub fn record() {
-    let mut records = Records::default();
+    let mut records = Records::new(CalleeOrder::Crate);
     let trees = trees();
     for tree in &trees {
         records.add(LENT, &table::write(tree));
@@ -74,16 +75,31 @@ pub fn record() {
     for tree in chosen::trees() {
         records.add(LENT, &table::write(&tree));
     }
-    let path = PathBuf::from(env!("CARGO_MANIFEST_DIR")).join("../../crates/recorded/data/rows");
-    std::fs::write(path, records.bytes).expect("crates/recorded/data is there");
-    println!("rows\naccepted {}", records.replies[0]);
-    for (reply, files) in records.replies.iter().enumerate().skip(1).filter(|reply| *reply.1 > 0) {
-        println!("refused {reply}: {files}");
+    let mut of_callees = Records::new(CalleeOrder::Ours);
+    for tree in callees::trees() {
+        for records in [&mut records, &mut of_callees] {
+            records.add(LENT, &table::write(&tree));
+        }
     }
-    println!("files {}, different 0", records.replies.iter().sum::<usize>());
+    records.write("rows");
+    of_callees.write("callees");
 }
 
 impl Records {
+    fn new(order: CalleeOrder) -> Records {
+        Records { order, bytes: Vec::new(), replies: [0; 13] }
+    }
+
+    fn write(&self, name: &str) {
+        let path = PathBuf::from(env!("CARGO_MANIFEST_DIR")).join("../../crates/recorded/data");
+        std::fs::write(path.join(name), &self.bytes).expect("crates/recorded/data is there");
+        println!("{name}\naccepted {}", self.replies[0]);
+        for (reply, files) in self.replies.iter().enumerate().skip(1).filter(|reply| *reply.1 > 0) {
+            println!("refused {reply}: {files}");
+        }
+        println!("files {}, different 0", self.replies.iter().sum::<usize>());
+    }
+
     fn add(&mut self, lent: u16, file: &[u8]) {
         let decided = match files::read(file) {
             Ok(tree) if usize::from(lent) < ROW_CELLS * usize::from(tree.count) => Err(12),
@@ -100,7 +116,7 @@ impl Records {
         }
         self.bytes.extend(file);
         if let Ok(tree) = decided {
-            let rows = nests::answers(&tree).rows();
+            let rows = nests::answers(self.order, &tree).rows();
             self.bytes.extend(rows.iter().flat_map(|cell| cell.to_le_bytes()));
         }
     }

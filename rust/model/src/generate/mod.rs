@@ -3,6 +3,7 @@
 //! Every tree is named by a family, a seed and an index, and comes out the same
 //! at every run. No maker asks prettyplease's files anything.
 
+pub mod callees;
 mod curb;
 mod dice;
 mod draft;
@@ -47,16 +48,19 @@ pub enum Family {
     Mixed,
     /// Plain trees with Structs, in the contexts in which such are written.
     Structs,
+    /// Calls of Fields and Groups with attributes, beside and below all else.
+    Callees,
 }
 
 impl Family {
-    pub const ALL: [Family; 6] = [
+    pub const ALL: [Family; 7] = [
         Family::Mixed,
         Family::Random,
         Family::Scans,
         Family::Spines,
         Family::Plain,
         Family::Structs,
+        Family::Callees,
     ];
 
     /// The name on the command line.
@@ -68,6 +72,7 @@ impl Family {
             Family::Plain => "plain",
             Family::Mixed => "mixed",
             Family::Structs => "structs",
+            Family::Callees => "callees",
         }
     }
 
@@ -93,6 +98,7 @@ impl Family {
             Family::Scans => (random(dice, Profile::Scans), dice.below(4)),
             Family::Plain => (random(dice, Profile::Plain), 0),
             Family::Structs => (random(dice, Profile::Structs), dice.pick(&contexts::PLAIN).into()),
+            Family::Callees => (random(dice, Profile::Callees), dice.below(4)),
             Family::Spines => return spine(dice, index),
             Family::Mixed => {
                 const PARTS: [Family; 4] =

@@ -17,6 +17,8 @@ pub enum Profile {
     Plain,
     /// The forms of plain trees, many Structs among them.
     Structs,
+    /// All forms, and many Calls, Groups and Fields among them, with many attributes.
+    Callees,
 }
 
 const ALL_INNER: [u16; 20] = [
@@ -41,6 +43,8 @@ const ALL_INNER: [u16; 20] = [
     UNARY,
     YIELD,
 ];
+/// Half of the inner nodes of [`Profile::Callees`] are one of these, the others of any form.
+const CALLEES_INNER: [u16; 7] = [CALL, CALL, CALL, GROUP, GROUP, FIELD, FIELD];
 const ALL_LEAVES: [u16; 24] = [
     ARRAY, ASYNC, BLOCK, BREAK, CONST, CONTINUE, FOR_LOOP, IF, INFER, LIT, LOOP, MACRO, MATCH,
     PATH, RANGE, REPEAT, RETURN, STRUCT, TRY_BLOCK, TUPLE, UNSAFE, VERBATIM, WHILE, YIELD,
@@ -261,7 +265,8 @@ impl<'a> Growth<'a> {
         let form = match (class, self.profile) {
             (Class::Type, Profile::Plain | Profile::Structs) => self.dice.pick(&PLAIN_TYPES_INNER),
             (Class::Type, _) => self.dice.pick(&TYPES_INNER),
-            (_, Profile::All) => self.dice.pick(&ALL_INNER),
+            (_, Profile::Callees) if self.dice.percent(50) => self.dice.pick(&CALLEES_INNER),
+            (_, Profile::All | Profile::Callees) => self.dice.pick(&ALL_INNER),
             (_, Profile::Scans) => self.dice.pick(&SCANS_INNER),
             (_, Profile::Plain | Profile::Structs) => self.dice.pick(&PLAIN_INNER),
         };
@@ -279,7 +284,7 @@ impl<'a> Growth<'a> {
         let form = match (class, self.profile) {
             (Class::Type, Profile::Plain | Profile::Structs) => self.dice.pick(&PLAIN_TYPES_LEAVES),
             (Class::Type, _) => self.dice.pick(&TYPES_LEAVES),
-            (_, Profile::All) => self.dice.pick(&ALL_LEAVES),
+            (_, Profile::All | Profile::Callees) => self.dice.pick(&ALL_LEAVES),
             (_, Profile::Scans) => self.dice.pick(&SCANS_LEAVES),
             (_, Profile::Plain) => self.dice.pick(&PLAIN_LEAVES),
             (_, Profile::Structs) => self.dice.pick(&STRUCTS_LEAVES),
@@ -302,6 +307,7 @@ impl<'a> Growth<'a> {
     fn attributed(&mut self, form: u16, detail: u16) -> Label {
         let some = match self.profile {
             Profile::All => 30,
+            Profile::Callees => 60,
             Profile::Scans => 6,
             Profile::Plain | Profile::Structs => 0,
         };

@@ -5,7 +5,7 @@ use crate::words;
 use tezhukor::boundary::questions::{self, Context, Handed, InContext, Place};
 use tezhukor::forms::{Side, *};
 use tezhukor::text::Names;
-use tezhukor::{Binding, Lean, Node, Row, Tree};
+use tezhukor::{Binding, CalleeOrder, Lean, Node, Row, Tree};
 
 /// The flag of a context that says: the next operator can begin generic arguments.
 const GENERICS: u16 = 1 << 9;
@@ -107,7 +107,7 @@ impl Operand<'_> {
         let handed = owner.map(|(owner, place)| {
             let row = rows[usize::from(owner) - 1];
             let own = if row.has_outer_pair() { [0; 3] } else { context(row) };
-            questions::handed(place, own, place_of(tree, owner))
+            questions::handed(CalleeOrder::Ours, place, own, place_of(tree, owner))
         });
         let mut named_owner = owner.map_or(0, |owner| owner.0);
         while tree.node(named_owner).is_some_and(|node| node.form == LINK) {
@@ -145,12 +145,24 @@ impl Operand<'_> {
         questions::answer_in(question, context, self.place())
     }
 
+    /// Whether it is called.
+    fn is_callee(&self) -> bool {
+        self.side() == Side::Left && self.owner_node().form == CALL
+    }
+
+    /// Whether a Call groups it in that order.
+    fn is_grouped_by(&self, order: CalleeOrder) -> bool {
+        order.groups(self.tree.cells(), self.number, self.row.precedence)
+    }
+
     /// The owner groups the operand if its precedence is smaller than this. None where
-    /// the owner does not look at it: a Break, a Call of a Field, no owner's test.
+    /// it asks for something else: a Break, a Call of a named Field that is not weaker, no
+    /// owner's test.
     fn bound(&self) -> Option<u16> {
         let owner = self.owner_node().form;
         let level = self.owners_precedence()?;
-        if owner == BREAK || (owner, self.node.form) == (CALL, FIELD) {
+        let is_named = self.is_callee() && self.is_grouped() && self.row.precedence >= level;
+        if owner == BREAK || is_named {
             return None;
         }
         let lean = self.owners_operator().and_then(Binding::of).map(|binding| binding.lean);
@@ -196,7 +208,10 @@ impl Operand<'_> {
     /// The owner's test in words.
     fn test(&self) -> String {
         match (self.bound(), self.owners_precedence()) {
-            (None, _) if self.owner_node().form == CALL => {
+            (None, _) if self.is_callee() && self.node.form == GROUP => {
+                "a named field in a group that is called, which would be a method call".to_string()
+            }
+            (None, _) if self.is_callee() => {
                 "a named field that is called, which would be a method call".to_string()
             }
             (None, _) => "it begins with a label, which the break would take".to_string(),
@@ -218,7 +233,16 @@ impl Operand<'_> {
             true => "; only the generics flag makes it so, for `<` or `<<` behind a type name",
             false => "",
         };
-        format!("the owner's test asks for it: {}{}{only}", self.test(), self.lean())
+        let asks = format!("the owner's test asks for it: {}{}{only}", self.test(), self.lean());
+        match self.is_ours() {
+            true => format!("{asks}; in our callee order, in the crate's it would have none"),
+            false => asks,
+        }
+    }
+
+    /// Whether it is a callee that our order groups and the crate's does not.
+    fn is_ours(&self) -> bool {
+        self.is_callee() && self.is_grouped() && !self.is_grouped_by(CalleeOrder::Crate)
     }
 
     /// The number of the owner's operator, where it has one between its operands.
@@ -301,7 +325,8 @@ mod tests {
     #[test]
     fn reasons_are_the_rows() {
         let (mut pairs, mut others) = (0, 0);
-        for record in records("rows") {
+        let mut only_ours = 0;
+        for record in records("rows").into_iter().chain(records("callees")) {
             let Ok(tree) = Tree::load(&record.bytes) else {
                 continue;
             };
@@ -315,6 +340,10 @@ mod tests {
                 let is_grouped = operand.is_grouped();
                 let is_below = operand.bound().map(|bound| precedence < bound);
                 assert!(is_below.is_none_or(|is_below| is_below == is_grouped));
+                if operand.is_callee() {
+                    assert_eq!(operand.is_grouped_by(CalleeOrder::Ours), is_grouped);
+                    only_ours += u64::from(operand.is_ours());
+                }
                 let is_asked = operand.asks(context(operand.row));
                 assert_eq!(operand.row.has_outer_pair(), is_grouped || is_asked);
                 assert_eq!(is_asked, operand.part() != "no part");
@@ -323,5 +352,6 @@ mod tests {
             }
         }
         assert!(pairs > 5_000 && others > 20_000, "{pairs} pairs, {others} others");
+        assert!(only_ours > 5_000, "{only_ours} pairs of our order only");
     }
 }

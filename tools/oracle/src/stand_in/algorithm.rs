@@ -5,6 +5,7 @@
 use crate::fixup::FixupContext;
 use crate::recorder::Recorder;
 use crate::stand_in::path::PathKind;
+use model::CalleeOrder;
 use std::borrow::Cow;
 use syn::{
     AngleBracketedGenericArguments, Attribute, BoundLifetimes, Expr, Ident, Lifetime, Lit, Macro,
@@ -24,6 +25,8 @@ pub struct BreakToken {
 /// A printer that prints nothing and records what it meets, if it has a recorder.
 pub struct Printer {
     pub recorder: Option<Recorder>,
+    /// Which test of a callee decides.
+    pub order: CalleeOrder,
 }
 
 /// What expr.rs tells, some of it through lines that the build puts there.

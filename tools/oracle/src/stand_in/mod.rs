@@ -3,6 +3,7 @@
 
 pub mod algorithm;
 pub mod attr;
+pub mod callee;
 pub mod iter;
 pub mod path;
 pub mod stmt;
