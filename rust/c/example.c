@@ -17,6 +17,10 @@ static const uint8_t file[] = {TEZHUKOR_NONE, 5,    /* context, count */
 /* Another tree: offset - station. */
 static const uint16_t second[] = {5, 0, 1, 2, 3, 0, 26, 0, 0, 0, 0, 1, 26, 0, 0, 0, 0, 2};
 
+/* A call of a Group over a named Field, in a sheet that was opened before our callee order. */
+static const uint16_t older[] = {8, 0, 0, 2, 0, 0, 15, 0, 0, 3, 0, 0,
+                                 13, 0, 0, 4, 0, 2, 26, 0, 0, 0, 0, 1};
+
 static const char *const names[] = {"", "offset", "station", "start"};
 
 enum {
@@ -28,6 +32,9 @@ enum {
     BYTES = TEZHUKOR_FILE_BYTES(NODES),
     SECOND_NODES = 3,
     SECOND_CELLS = TEZHUKOR_NODE_CELLS * SECOND_NODES,
+    OLDER_NODES = 4,
+    OLDER_CELLS = TEZHUKOR_NODE_CELLS * OLDER_NODES,
+    OLDER_ROWS = TEZHUKOR_ROW_CELLS * OLDER_NODES,
     SHEET_ROWS = TEZHUKOR_ROW_CELLS * TEZHUKOR_MOST_NODES
 };
 
@@ -77,14 +84,24 @@ int main(void) {
     printf("refused %u\n", (unsigned)TEZHUKOR_REFUSAL(tezhukor_load(NULL, 0, NULL, 0)));
     /* `start` gives way to `offset - station` in the sheet, which has room for it: first
      * beside it, then in it. */
-    uint32_t seen = tezhukor_preview(context, count, table, CELLS, sheet_rows, SHEET_ROWS, NODES,
-                                     context, SECOND_NODES, second, SECOND_CELLS, again, CELLS,
-                                     seen_rows, SHEET_ROWS);
-    uint32_t edited = tezhukor_edit(context, count, table, CELLS, sheet_rows, SHEET_ROWS, NODES,
-                                    context, SECOND_NODES, second, SECOND_CELLS);
+    uint32_t seen = tezhukor_preview(context, count, TEZHUKOR_OUR_ORDER, table, CELLS, sheet_rows,
+                                     SHEET_ROWS, NODES, context, SECOND_NODES, second,
+                                     SECOND_CELLS, again, CELLS, seen_rows, SHEET_ROWS);
+    uint32_t edited = tezhukor_edit(context, count, TEZHUKOR_OUR_ORDER, table, CELLS, sheet_rows,
+                                    SHEET_ROWS, NODES, context, SECOND_NODES, second, SECOND_CELLS);
     int as_seen = edited == seen && memcmp(table, again, 2 * TEZHUKOR_NODE_CELLS * edited) == 0;
     printf("edited %u nodes, %s\n", (unsigned)edited, as_seen ? "as seen before" : "otherwise");
     for (unsigned node = 1; node <= edited; node++)
         if (sheet_rows[TEZHUKOR_ROW_CELLS * (node - 1)] & 1) printf("node %u needs a pair\n", node);
+    /* Once carried, the callee has a pair; carried again, the sheet stays as it is. */
+    uint16_t older_rows[OLDER_ROWS] = {0};
+    uint32_t carried = tezhukor_carry(TEZHUKOR_NONE, OLDER_NODES, TEZHUKOR_CRATES_ORDER, older,
+                                      OLDER_CELLS, older_rows, OLDER_ROWS);
+    printf("carried %u, pair of the callee %u\n", (unsigned)carried,
+           (unsigned)older_rows[TEZHUKOR_ROW_CELLS]);
+    older_rows[TEZHUKOR_ROW_CELLS] = 9;
+    tezhukor_carry(TEZHUKOR_NONE, OLDER_NODES, TEZHUKOR_OUR_ORDER, older, OLDER_CELLS, older_rows,
+                   OLDER_ROWS);
+    printf("carried again, left %u\n", (unsigned)older_rows[TEZHUKOR_ROW_CELLS]);
     return same ? 0 : 1;
 }

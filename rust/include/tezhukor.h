@@ -52,6 +52,16 @@ enum {
     TEZHUKOR_CONDITION = 3
 };
 
+/* The callee orders that an open sheet can hold: which rule comes first where a Call tells
+ * whether its callee needs a pair. In the crate's a Field goes by its member alone and anything
+ * else by its precedence; in ours the precedence comes first, and then whether it is a named
+ * Field, also in Groups. Sheets that were opened before there was ours hold the crate's until
+ * they are carried. Any number but 0 is ours; tezhukor_decide takes ours. */
+enum {
+    TEZHUKOR_CRATES_ORDER = 0,
+    TEZHUKOR_OUR_ORDER = 1
+};
+
 /* Cells that a node takes in a table, in rows and in scratch, and tokens at the most;
  * cells that a token takes. */
 #define TEZHUKOR_NODE_CELLS 6
@@ -67,8 +77,8 @@ enum {
  * the symbol. */
 #define TEZHUKOR_FILE_BYTES(nodes) (3 + 10 * (size_t)(nodes))
 
-/* The refusal in a reply of load, save, compare, write, read, edit and preview; 0 if there is
- * none. */
+/* The refusal in a reply of load, save, compare, write, read, edit, preview and carry; 0 if
+ * there is none. */
 #define TEZHUKOR_REFUSAL(reply) ((uint16_t)((reply) >> 16))
 /* Without a refusal: the context and the count in a reply of load. */
 #define TEZHUKOR_CONTEXT(reply) ((uint16_t)((reply) / 8192))
@@ -127,16 +137,16 @@ uint32_t tezhukor_read(uint16_t context, const uint16_t *tokens, size_t tokens_l
 #define TEZHUKOR_LEAN(binding) ((uint16_t)((binding) % 4))
 uint16_t tezhukor_binding(uint16_t operator_number);
 
-/* Edits an open sheet, which is a context, a count, a table and its rows: what stands at
- * the node, with all under it, is replaced by the second tree. The result is numbered as a
- * saved tree; its nodes go into the table and its rows, worked out afresh whatever rows
- * were lent, into the rows. The sheet's context stays, the second tree's is checked and
- * not used. Node 1 may be named. None of the buffers may overlap another, so a tree is not
+/* Edits an open sheet, which is a context, a count, a callee order, a table and its rows: what
+ * stands at the node, with all under it, is replaced by the second tree. The result is numbered
+ * as a saved tree; its nodes go into the table and its rows, worked out afresh in the sheet's
+ * order whatever rows were lent, into the rows. The sheet's context and order stay, the second
+ * tree's context is checked and not used. Node 1 may be named. None of the buffers may overlap another, so a tree is not
  * put into a sheet from the sheet's own table. Replies the refusal times 65,536 (3, 4, 6 to
  * 11 of the sheet, then of the second tree, 17, 18, and last 12, for a table or rows too
  * short for the result), or the result's count. */
-uint32_t tezhukor_edit(uint16_t context, uint16_t count, uint16_t *table, size_t table_length,
-                       uint16_t *rows, size_t rows_length, uint16_t node,
+uint32_t tezhukor_edit(uint16_t context, uint16_t count, uint16_t order, uint16_t *table,
+                       size_t table_length, uint16_t *rows, size_t rows_length, uint16_t node,
                        uint16_t second_context, uint16_t second_count,
                        const uint16_t *second, size_t second_length);
 
@@ -144,12 +154,21 @@ uint32_t tezhukor_edit(uint16_t context, uint16_t count, uint16_t *table, size_t
  * the sheet's own. The result's table and rows go into two more buffers; 12 is told, last,
  * where these are too short for it as well. The sheet is only read, so the next preview
  * sees it as it is. Replies as tezhukor_edit does. */
-uint32_t tezhukor_preview(uint16_t context, uint16_t count, const uint16_t *table,
-                          size_t table_length, const uint16_t *rows, size_t rows_length,
-                          uint16_t node, uint16_t second_context, uint16_t second_count,
+uint32_t tezhukor_preview(uint16_t context, uint16_t count, uint16_t order,
+                          const uint16_t *table, size_t table_length,
+                          const uint16_t *rows, size_t rows_length, uint16_t node,
+                          uint16_t second_context, uint16_t second_count,
                           const uint16_t *second, size_t second_length,
                           uint16_t *result_table, size_t result_table_length,
                           uint16_t *result_rows, size_t result_rows_length);
+
+/* Carries an open sheet to our callee order. The tree stays, with its numbers. If the sheet
+ * holds the crate's order, its rows become those of a fresh walk in ours, whatever they were;
+ * a sheet that holds ours is left as it is, whatever its rows are. Replies the refusal times
+ * 65,536 (3, 4, 6 to 11, and last 12, for rows too short for the count, in either order), or 1:
+ * from then on the sheet holds our order. */
+uint32_t tezhukor_carry(uint16_t context, uint16_t count, uint16_t order, const uint16_t *table,
+                        size_t table_length, uint16_t *rows, size_t rows_length);
 
 #ifdef __cplusplus
 }

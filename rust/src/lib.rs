@@ -81,7 +81,9 @@
 //!
 //! A tree that is edited is held open with its rows, as an [`OpenSheet`]: what stands at a
 //! node is replaced by another tree, and all rows are those of the result. A [`Preview`] says
-//! beforehand which pairs come and go, by their places in the [`text`].
+//! beforehand which pairs come and go, by their places in the [`text`]. A sheet holds its
+//! [`CalleeOrder`]: ours, or the crate's if it was open before there was ours, until it is
+//! carried.
 //!
 //! Nests that double prettyplease's work with each level do not double it here.
 

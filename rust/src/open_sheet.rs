@@ -2,10 +2,12 @@
 
 use crate::boundary::{self, edits};
 use crate::text::{Names, Text};
-use crate::{Preview, Refusal, Row, Tree};
+use crate::{CalleeOrder, Preview, Refusal, Row, Tree};
 use model::sizes::{MOST_CELLS, MOST_NODES, NODE_CELLS, ROW_CELLS};
 
-/// A tree that is held open with its rows. It has room for the most nodes.
+/// A tree that is held open with its rows and the callee order that they are worked out in:
+/// ours, but for a sheet that was open before there was one ([`OpenSheet::resume`]). It has
+/// room for the most nodes.
 ///
 /// ```
 /// use tezhukor::{OpenSheet, Refusal, Tree};
@@ -29,18 +31,16 @@ use model::sizes::{MOST_CELLS, MOST_NODES, NODE_CELLS, ROW_CELLS};
 pub struct OpenSheet {
     context: u16,
     count: u16,
+    order: CalleeOrder,
     table: Vec<u16>,
     rows: Vec<u16>,
 }
 
+/// Opened now, so in our order.
 impl From<Tree> for OpenSheet {
     fn from(tree: Tree) -> OpenSheet {
-        let (context, count) = (tree.context(), tree.count());
-        let mut rows: Vec<u16> = tree.rows().into_iter().flat_map(Row::cells).collect();
-        rows.resize(ROW_CELLS * MOST_NODES, 0);
-        let mut table = tree.cells;
-        table.resize(MOST_CELLS, 0);
-        OpenSheet { context, count, table, rows }
+        let rows = tree.rows();
+        OpenSheet::resume(tree, &rows, CalleeOrder::Ours)
     }
 }
 
@@ -50,13 +50,63 @@ impl OpenSheet {
         Ok(Tree::load(file)?.into())
     }
 
+    /// Takes over a sheet that is open already: its tree, its rows, whatever they are, and the
+    /// order that it holds, the crate's if it was opened before there was ours. It goes on
+    /// with that order until it is carried.
+    ///
+    /// ```
+    /// use tezhukor::{CalleeOrder, OpenSheet, Refusal, Tree};
+    /// # fn main() -> Result<(), Refusal> {
+    /// // A call of a group over a named field, and its rows as they were.
+    /// let nodes = [[8, 0, 0, 2, 0, 0], [15, 0, 0, 3, 0, 0], [13, 0, 0, 4, 0, 0], [26, 0, 0, 0, 0, 0]];
+    /// let tree = Tree::load(&[&[0, 4][..], &nodes.concat()].concat())?;
+    /// let mut rows = tree.rows();
+    /// rows[1].pair = 0;
+    /// let mut sheet = OpenSheet::resume(tree.clone(), &rows, CalleeOrder::Crate);
+    /// assert_eq!(sheet.text(&Default::default()).as_str(), "a.b()");
+    /// sheet.carry();
+    /// assert_eq!(sheet.order(), CalleeOrder::Ours);
+    /// assert_eq!(sheet.text(&Default::default()).as_str(), "(a.b)()");
+    /// assert_eq!((sheet.tree(), sheet.rows()), (tree.clone(), tree.rows()));
+    /// # Ok(())
+    /// # }
+    /// ```
+    pub fn resume(tree: Tree, rows: &[Row], order: CalleeOrder) -> OpenSheet {
+        let (context, count) = (tree.context(), tree.count());
+        let mut rows: Vec<u16> = rows.iter().flat_map(|row| row.cells()).collect();
+        rows.resize(ROW_CELLS * MOST_NODES, 0);
+        let mut table = tree.cells;
+        table.resize(MOST_CELLS, 0);
+        OpenSheet { context, count, order, table, rows }
+    }
+
+    /// The callee order that it holds.
+    pub fn order(&self) -> CalleeOrder {
+        self.order
+    }
+
+    /// Carries it to our callee order: the tree and its numbers stay, and the rows become
+    /// those of a fresh walk. A sheet that holds our order stays as it is.
+    pub fn carry(&mut self) {
+        let reply = edits::carry(self.header(), &self.table, &mut self.rows);
+        // The table is accepted and the rows are long enough: nothing is refused.
+        debug_assert_eq!(boundary::done(reply), Ok(1));
+        self.order = CalleeOrder::Ours;
+    }
+
+    /// What it is beside its table and its rows.
+    fn header(&self) -> edits::Sheet {
+        let order = self.order.number();
+        edits::Sheet { context: self.context, count: self.count, order }
+    }
+
     /// Replaces what stands at a node, with all under it, by another tree, whose context
-    /// is not used. The nodes are then numbered as in the file of the result. Refused is
+    /// is not used. The nodes are then numbered as in the file of the result, and the rows
+    /// are worked out in the order that the sheet holds. Refused is
     /// [`Refusal::NamedNode`] or [`Refusal::EditedTree`], which changes nothing.
     pub fn edit(&mut self, node: u16, second: &Tree) -> Result<(), Refusal> {
-        let edit = edit(node, second);
-        let (table, rows) = (&mut self.table, &mut self.rows);
-        let reply = edits::edit(self.context, self.count, table, rows, edit);
+        let (header, edit) = (self.header(), edit(node, second));
+        let reply = edits::edit(header, &mut self.table, &mut self.rows, edit);
         self.count = boundary::done(reply)?;
         Ok(())
     }
@@ -84,9 +134,9 @@ impl OpenSheet {
         let mut result = [vec![0; MOST_CELLS], vec![0; ROW_CELLS * MOST_NODES]];
         let (own, edit) = ([&self.table[..], &self.rows], edit(node, second));
         let lent = result.each_mut().map(|cells| &mut cells[..]);
-        let count = boundary::done(edits::preview(self.context, self.count, own, edit, lent))?;
+        let count = boundary::done(edits::preview(self.header(), own, edit, lent))?;
         let [table, rows] = result;
-        let after = OpenSheet { context: self.context, count, table, rows };
+        let after = OpenSheet { context: self.context, count, order: self.order, table, rows };
         Ok(Preview::new(self, node, &after))
     }
 

@@ -34,6 +34,8 @@ fn example() {
         "edited 7 nodes, as seen before",
         "node 3 needs a pair",
         "node 5 needs a pair",
+        "carried 1, pair of the callee 1",
+        "carried again, left 9",
     ];
     assert_eq!(printed.lines().collect::<Vec<_>>(), meant);
 }

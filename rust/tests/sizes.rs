@@ -4,7 +4,7 @@
 use std::collections::HashMap;
 use std::path::{Path, PathBuf};
 use tezhukor::sizes::*;
-use tezhukor::{codes, contexts, Refusal};
+use tezhukor::{codes, contexts, CalleeOrder, Refusal};
 
 /// The numbers by name.
 const SIZES: [(&str, usize); 17] = [
@@ -122,9 +122,10 @@ fn the_header_agrees() {
     assert!(defined.iter().all(|found| SIZES.contains(found)), "{defined:?}");
 }
 
-/// The contexts of the header are those of `contexts`.
+/// The contexts of the header are those of `contexts`, and its callee orders those of
+/// [`CalleeOrder`].
 #[test]
-fn contexts_agree() {
+fn contexts_and_orders_agree() {
     let path = root().join("rust/include/tezhukor.h");
     let text = std::fs::read_to_string(path).expect("the header");
     let context = |line: &str| {
@@ -138,6 +139,8 @@ fn contexts_agree() {
         ("STATEMENT", contexts::STATEMENT),
         ("MATCH_ARM", contexts::MATCH_ARM),
         ("CONDITION", contexts::CONDITION),
+        ("CRATES_ORDER", CalleeOrder::Crate.number()),
+        ("OUR_ORDER", CalleeOrder::Ours.number()),
     ];
     assert_eq!(named, meant.map(|(name, number)| (name.to_string(), number.into())));
     assert_eq!(contexts::CONDITION, LAST_CONTEXT);

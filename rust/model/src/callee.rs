@@ -22,6 +22,14 @@ impl CalleeOrder {
         self as u16
     }
 
+    /// The order with a number at the boundary.
+    pub const fn numbered(number: u16) -> CalleeOrder {
+        match number {
+            0 => CalleeOrder::Crate,
+            _ => CalleeOrder::Ours,
+        }
+    }
+
     /// Whether a Call groups its callee, given the precedence that this has there.
     pub fn groups(self, cells: &[u16], callee: u16, precedence: u16) -> bool {
         let is_weaker = precedence < UNAMBIGUOUS;
@@ -140,6 +148,9 @@ mod tests {
         assert_eq!(groups(&numbered, 2, UNAMBIGUOUS), [false, false]);
         assert_eq!(groups(&numbered, 7, UNAMBIGUOUS), [false, false]);
         assert_eq!(groups(&numbered, 7, UNAMBIGUOUS - 1), [false, true]);
-        assert_eq!(CalleeOrder::ALL.map(CalleeOrder::number), [0, 1]);
+        for order in CalleeOrder::ALL {
+            assert_eq!(CalleeOrder::numbered(order.number()), order);
+        }
+        assert_eq!(CalleeOrder::numbered(65_535), CalleeOrder::Ours);
     }
 }

@@ -9,11 +9,12 @@ use crate::sizes::{NODE_CELLS, REFUSAL_UNIT, ROW_CELLS};
 use crate::table::{self, NodeTable};
 
 /// What an edit or a preview is asked with: the sheet, whose table may have cells past its
-/// last node, and its rows, which may hold anything; the node that is named, and the second
-/// tree.
+/// last node, the number of its callee order, and its rows, which may hold anything; the node
+/// that is named, and the second tree.
 #[derive(Clone, Debug)]
 pub struct Asked {
     pub sheet: NodeTable,
+    pub order: u16,
     pub rows: Vec<u16>,
     pub node: u16,
     pub second: NodeTable,
@@ -108,6 +109,22 @@ impl Asked {
     }
 }
 
+/// What carrying an open sheet to our callee order must reply, with so many cells of rows
+/// (document 02, Paper 10): the sheet's refusals, then 12 where the rows are too few for it.
+pub fn carried(sheet: &NodeTable, rows: usize) -> u32 {
+    let refusal = match accept::refusal(sheet) {
+        0 if rows < Lengths::of(sheet.count).rows => 12,
+        refusal => refusal,
+    };
+    match refusal {
+        0 => CARRIED,
+        refusal => REFUSAL_UNIT * u32::from(refusal),
+    }
+}
+
+/// The reply of a carried sheet.
+pub const CARRIED: u32 = 1;
+
 /// How many cells are lent for a table and for its rows.
 #[derive(Copy, Clone, PartialEq, Eq, Debug)]
 pub struct Lengths {
@@ -173,7 +190,7 @@ mod tests {
             let sheet = Family::Mixed.tree(51, index);
             let node = Dice::new(52, index).between(1, sheet.count.into()) as u16;
             let second = below(&sheet, node);
-            let mut asked = Asked { sheet, rows: vec![], node, second };
+            let mut asked = Asked { sheet, order: 1, rows: vec![], node, second };
             if asked.is_at_expression() {
                 assert_eq!(asked.result(), Ok(asked.sheet.numbered()));
             }

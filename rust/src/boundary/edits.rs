@@ -1,6 +1,15 @@
-//! Edits of open sheets.
+//! Edits of open sheets, and sheets carried to our callee order.
 
 use super::library;
+
+/// What an open sheet is beside its table and its rows.
+#[derive(Copy, Clone, Debug)]
+pub struct Sheet {
+    pub context: u16,
+    pub count: u16,
+    /// The number of its callee order: 0 the crate's, any other ours.
+    pub order: u16,
+}
 
 /// An edit: the number of a node, and the second tree, whose root and all under it comes to
 /// stand there.
@@ -14,15 +23,16 @@ pub struct Edit<'a> {
 }
 
 /// Edits the sheet of a table, in which the result is numbered from the root on, and its
-/// rows, which are worked out afresh whatever they were. What is done is the result's
-/// count.
-pub fn edit(context: u16, count: u16, table: &mut [u16], rows: &mut [u16], edit: Edit) -> u32 {
+/// rows, which are worked out afresh in the sheet's order whatever they were. What is done is
+/// the result's count.
+pub fn edit(sheet: Sheet, table: &mut [u16], rows: &mut [u16], edit: Edit) -> u32 {
     // SAFETY: pointers and lengths are those of slices, of which none overlaps
     // another; the function demands nothing else of its arguments.
     unsafe {
         library::tezhukor_edit(
-            context,
-            count,
+            sheet.context,
+            sheet.count,
+            sheet.order,
             table.as_mut_ptr(),
             table.len(),
             rows.as_mut_ptr(),
@@ -40,8 +50,7 @@ pub fn edit(context: u16, count: u16, table: &mut [u16], rows: &mut [u16], edit:
 /// and the result's table and rows in buffers beside it, which must have room for it too.
 /// The sheet is only read.
 pub fn preview(
-    context: u16,
-    count: u16,
+    sheet: Sheet,
     [table, rows]: [&[u16]; 2],
     edit: Edit,
     result: [&mut [u16]; 2],
@@ -50,8 +59,9 @@ pub fn preview(
     // SAFETY: as above.
     unsafe {
         library::tezhukor_preview(
-            context,
-            count,
+            sheet.context,
+            sheet.count,
+            sheet.order,
             table.as_ptr(),
             table.len(),
             rows.as_ptr(),
@@ -65,6 +75,23 @@ pub fn preview(
             result_table.len(),
             result_rows.as_mut_ptr(),
             result_rows.len(),
+        )
+    }
+}
+
+/// Carries the sheet of a table to our callee order: if it holds the crate's, its rows become
+/// those of a fresh walk in ours, and else nothing changes. What is done is 1.
+pub fn carry(sheet: Sheet, table: &[u16], rows: &mut [u16]) -> u32 {
+    // SAFETY: as above.
+    unsafe {
+        library::tezhukor_carry(
+            sheet.context,
+            sheet.count,
+            sheet.order,
+            table.as_ptr(),
+            table.len(),
+            rows.as_mut_ptr(),
+            rows.len(),
         )
     }
 }

@@ -1,4 +1,4 @@
-//! The exports of the static libraries: of `answers` the first nine, of
+//! The exports of the static libraries: of `answers` the first ten, of
 //! `answers_asked` the others. They are declared here only.
 
 extern "C" {
@@ -58,6 +58,7 @@ extern "C" {
     pub fn tezhukor_edit(
         context: u16,
         count: u16,
+        order: u16,
         table: *mut u16,
         table_length: usize,
         rows: *mut u16,
@@ -72,6 +73,7 @@ extern "C" {
     pub fn tezhukor_preview(
         context: u16,
         count: u16,
+        order: u16,
         table: *const u16,
         table_length: usize,
         rows: *const u16,
@@ -85,6 +87,16 @@ extern "C" {
         result_table_length: usize,
         result_rows: *mut u16,
         result_rows_length: usize,
+    ) -> u32;
+
+    pub fn tezhukor_carry(
+        context: u16,
+        count: u16,
+        order: u16,
+        table: *const u16,
+        table_length: usize,
+        rows: *mut u16,
+        rows_length: usize,
     ) -> u32;
 
     pub fn tezhukor_decide_by_order(

@@ -1,29 +1,32 @@
-//! Edits of open sheets and previews of them: any nodes, second trees and rows, damaged ones among them, and
-//! buffers around what the result needs.
+//! Edits of open sheets and previews of them, in both callee orders: any nodes, second trees and
+//! rows, damaged ones among them, and buffers around what the result needs; and sheets that are
+//! carried to our order.
 
 use super::*;
-use model::edit::{lent, over, reply, Asked, Lengths};
-use model::generate::edits::{self, Edit, Run, FAULTS};
+use model::edit::{carried, lent, over, reply, Asked, Lengths, CARRIED};
+use model::generate::edits::{self, Edit, Run, FAULTS, OF_A_TREE};
 use tezhukor::boundary::edits as boundary_edits;
 use tezhukor::text::Names;
-use tezhukor::{OpenSheet, Sight};
+use tezhukor::{CalleeOrder, OpenSheet, Row, Sight};
 
 fn print([edits, previews]: &[Tally; 2], name: &str) {
     edits.print(&format!("{name}: edits"));
     previews.print(&format!("{name}: previews"));
 }
 
-/// The rows of a result.
-fn rows(result: &NodeTable) -> Vec<u16> {
-    tree(result).rows().iter().flat_map(|row| row.cells()).collect()
+/// The rows of a result in the callee order with a number.
+fn rows(result: &NodeTable, order: u16) -> Vec<u16> {
+    let count = usize::from(result.count);
+    let (mut rows, mut scratch) = (vec![0; ROW_CELLS * count], vec![0; SCRATCH_CELLS * count]);
+    let NodeTable { context, count, cells } = result;
+    assert_eq!(decide_by_order(order, *context, *count, cells, &mut rows, &mut scratch), 0);
+    rows
 }
 
-/// A buffer with what is meant over it.
-fn written(meant: &Result<NodeTable, u16>, table: &[u16], own: &[u16]) -> [Vec<u16>; 2] {
-    match meant {
-        Ok(result) => [over(&result.cells, table.to_vec()), over(&rows(result), own.to_vec())],
-        Err(_) => [table.to_vec(), own.to_vec()],
-    }
+/// What the sheet is beside its table and its rows.
+fn header(asked: &Asked) -> boundary_edits::Sheet {
+    let NodeTable { context, count, .. } = asked.sheet;
+    boundary_edits::Sheet { context, count, order: asked.order }
 }
 
 /// What is edited with.
@@ -36,30 +39,51 @@ fn second(asked: &Asked) -> boundary_edits::Edit<'_> {
 fn edit(edit: &Edit, [edits, previews]: &mut [Tally; 2]) {
     edit_in_place(&edit.asked, edits);
     preview(edit, previews);
+    carry(&edit.asked, &mut Tally::default());
+}
+
+/// Carries the sheet.
+fn carry(asked: &Asked, tally: &mut Tally) {
+    let mut rows = asked.rows.clone();
+    let done = boundary_edits::carry(header(asked), &asked.sheet.cells, &mut rows);
+    let meant = carried(&asked.sheet, rows.len());
+    assert_eq!(done, meant, "{asked:?}");
+    let wanted = match (meant, asked.order) {
+        (CARRIED, 0) => over(&self::rows(&asked.sheet, 1), asked.rows.clone()),
+        _ => asked.rows.clone(),
+    };
+    assert_eq!(rows, wanted, "{asked:?}");
+    tally.count((meant / REFUSAL_UNIT) as u16);
 }
 
 /// Looks before the edit.
 fn preview(Edit { asked, lent: lengths }: &Edit, tally: &mut Tally) {
     let meant = lent(asked.result(), &[asked.lengths(), *lengths]);
     let [mut table, mut rows] = [Lent::new(lengths.table), Lent::new(lengths.rows)];
-    let NodeTable { context, count, cells } = &asked.sheet;
     let result = [table.lend(lengths.table), rows.lend(lengths.rows)];
-    let own = [&cells[..], &asked.rows];
-    let done = boundary_edits::preview(*context, *count, own, second(asked), result);
+    let own = [&asked.sheet.cells[..], &asked.rows];
+    let done = boundary_edits::preview(header(asked), own, second(asked), result);
     assert_eq!(done, reply(&meant), "{asked:?}");
     let wanted = meant.as_ref().map_or(Vec::new(), |result| result.cells.clone());
     holds(table, &wanted);
-    holds(rows, &meant.as_ref().map_or(Vec::new(), self::rows));
+    holds(rows, &meant.as_ref().map_or(Vec::new(), |result| self::rows(result, asked.order)));
     tally.count(meant.err().unwrap_or(0));
 }
 
 fn edit_in_place(asked: &Asked, tally: &mut Tally) {
     let meant = lent(asked.result(), &[asked.lengths()]);
-    let NodeTable { context, count, cells } = &asked.sheet;
-    let [mut table, mut rows] = [cells.clone(), asked.rows.clone()];
-    let done = boundary_edits::edit(*context, *count, &mut table, &mut rows, second(asked));
+    let buffers = [asked.sheet.cells.clone(), asked.rows.clone()];
+    let [mut table, mut rows] = buffers.clone();
+    let done = boundary_edits::edit(header(asked), &mut table, &mut rows, second(asked));
     assert_eq!(done, reply(&meant), "{asked:?}");
-    assert_eq!([table, rows], written(&meant, cells, &asked.rows), "{asked:?}");
+    let wanted = match &meant {
+        Ok(result) => {
+            let [table, own] = buffers;
+            [over(&result.cells, table), over(&self::rows(result, asked.order), own)]
+        }
+        Err(_) => buffers,
+    };
+    assert_eq!([table, rows], wanted, "{asked:?}");
     tally.count(meant.err().unwrap_or(0));
 }
 
@@ -98,7 +122,8 @@ fn damaged_edits() {
         let (sheet, second) = (tree(74), tree(75));
         let count = usize::from(sheet.count.min(5_000));
         let node = dice.between(0, count + 1) as u16;
-        let mut asked = Asked { sheet, rows: Vec::new(), node, second };
+        let order = edits::order(dice);
+        let mut asked = Asked { sheet, order, rows: Vec::new(), node, second };
         let needed = Lengths::of(asked.result().map_or(count as u16, |result| result.count));
         let more = needed.table.saturating_sub(asked.sheet.cells.len());
         if asked.result().is_ok() && dice.percent(80) {
@@ -141,8 +166,35 @@ fn every_refusal_before_the_later_ones() {
     print(tallies, "refusals before later ones");
 }
 
+/// Each refusal of carrying with each later one and with too few rows, in both orders.
+#[test]
+fn carried_refusals() {
+    let tally = &mut Tally::default();
+    let ways = |fault: usize| (0..FAULTS[fault].1).map(move |way| (fault, way));
+    for first in (0..OF_A_TREE).flat_map(ways) {
+        let dice = &mut Dice::new(78, first.0 as u64);
+        let later = (first.0 + 1..OF_A_TREE).flat_map(ways);
+        for faults in later.map(|later| vec![first, later]).chain([vec![first], vec![]]) {
+            for length in [0, ROW_CELLS * 14 - 1, ROW_CELLS * 14, 70_000] {
+                let sheet = edits::faulty_sheet(&faults, dice);
+                let rows = (0..length).map(|_| dice.below(65_536) as u16).collect();
+                let (order, second) = (edits::order(dice), sheet.clone());
+                carry(&Asked { sheet, order, rows, node: 1, second }, tally);
+            }
+        }
+    }
+    tally.print("sheets carried");
+}
+
+/// Noise for rows.
+fn noise(dice: &mut Dice, count: u16) -> Vec<Row> {
+    let row = |_| Row::of_cells(&[(); ROW_CELLS].map(|()| dice.below(65_536) as u16));
+    (0..count).map(row).collect()
+}
+
 /// Runs of edits on one sheet, the rows of which are handed in as they are or as noise; and
-/// the same by [`OpenSheet`].
+/// the same by [`OpenSheet`]: one that is opened now, and one that holds the crate's order
+/// until it is carried halfway, beginning with noise.
 #[test]
 fn runs_of_edits() {
     let tallies = &mut <[Tally; 2]>::default();
@@ -150,23 +202,48 @@ fn runs_of_edits() {
         let run = Run::new(77, index);
         let mut sheet = run.sheet.clone();
         let mut open = OpenSheet::from(tree(&sheet));
+        assert_eq!(open.order(), CalleeOrder::Ours);
+        let rows_now = noise(&mut Dice::new(79, index), sheet.count);
+        let mut older = OpenSheet::resume(tree(&sheet), &rows_now, CalleeOrder::Crate);
+        assert_eq!((older.tree(), older.rows()), (open.tree(), rows_now));
         for step in 0..60 {
-            let one = run.edit(step, &sheet, &rows(&sheet));
+            if step == 30 {
+                older.carry();
+                assert_eq!((older.tree(), older.rows()), (open.tree(), open.rows()));
+            }
+            let order = older.order();
+            let one = run.edit(step, order, &sheet, &rows(&sheet, order.number()));
             edit(&one, tallies);
             let Edit { asked, .. } = one;
-            let preview = open.preview(asked.node, &tree(&asked.second));
-            let edited = open.edit(asked.node, &tree(&asked.second));
+            let second = tree(&asked.second);
             let meant = asked.result();
-            assert_eq!(edited.map_err(|r| r.number()), meant.as_ref().map(|_| ()).map_err(|r| *r));
-            sheet = meant.unwrap_or(sheet);
-            assert_eq!(open.tree(), tree(&sheet));
-            assert_eq!(open.rows(), open.tree().rows());
-            assert_eq!(preview.as_ref().map(|_| ()), edited.as_ref().map(|_| ()));
-            if let Ok(preview) = preview {
-                assert_eq!((preview.tree(), preview.rows()), (&open.tree(), &open.rows()[..]));
-                see(&preview.sight(&Names::default()));
+            sheet = meant.clone().unwrap_or(sheet);
+            for open in [&mut open, &mut older] {
+                let before = open.rows();
+                let preview = open.preview(asked.node, &second);
+                let edited = open.edit(asked.node, &second);
+                let wanted = meant.as_ref().map(|_| ()).map_err(|r| *r);
+                assert_eq!(edited.map_err(|r| r.number()), wanted);
+                assert_eq!(open.tree(), tree(&sheet));
+                let cells = open.rows().into_iter().flat_map(Row::cells);
+                match edited {
+                    Ok(()) => assert!(cells.eq(rows(&sheet, open.order().number()))),
+                    Err(_) => assert_eq!(open.rows(), before),
+                }
+                assert_eq!(preview.as_ref().map(|_| ()), edited.as_ref().map(|_| ()));
+                if let Ok(preview) = preview {
+                    assert_eq!((preview.tree(), preview.rows()), (&open.tree(), &open.rows()[..]));
+                    see(&preview.sight(&Names::default()));
+                }
             }
         }
+        // Carried again it stays as it is, whatever its rows are, and saved it has our order.
+        let rows_now = noise(&mut Dice::new(80, index), sheet.count);
+        let mut same = OpenSheet::resume(tree(&sheet), &rows_now, CalleeOrder::Ours);
+        same.carry();
+        assert_eq!((same.tree(), same.rows()), (tree(&sheet), rows_now));
+        let anew = OpenSheet::load(&older.tree().to_file()).expect("a file");
+        assert_eq!(anew.order(), CalleeOrder::Ours);
     }
     print(tallies, "runs of 60");
 }

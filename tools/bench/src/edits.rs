@@ -58,8 +58,9 @@ impl Prepared {
     }
 
     fn ask(&mut self, side: usize) -> u32 {
-        let Asked { sheet, rows, node, second } = &mut self.asked;
+        let Asked { sheet, order, rows, node, second } = &mut self.asked;
         let NodeTable { context, count, cells } = sheet;
+        let header = edits::Sheet { context: *context, count: *count, order: *order };
         let edit = edits::Edit {
             node: *node,
             context: second.context,
@@ -71,10 +72,10 @@ impl Prepared {
                 let NodeTable { context, count, cells } = &self.result;
                 boundary::decide(*context, *count, cells, &mut self.rows, &mut self.scratch).into()
             }
-            1 => edits::edit(*context, *count, cells, rows, edit),
+            1 => edits::edit(header, cells, rows, edit),
             _ => {
                 let beside = self.beside.each_mut().map(|cells| &mut cells[..]);
-                edits::preview(*context, *count, [cells, rows], edit, beside)
+                edits::preview(header, [cells, rows], edit, beside)
             }
         }
     }
@@ -90,7 +91,8 @@ fn prepare((size, edits): (u16, usize)) -> Vec<Prepared> {
     let edit = |(at, (sheet, second)): (usize, (NodeTable, NodeTable))| {
         let dice = &mut Dice::new(SEED, at as u64);
         let node = dice.between(1, sheet.count.into()) as u16;
-        Prepared::new(Asked { sheet, rows: Vec::new(), node, second: name(at, second) })
+        let second = name(at, second);
+        Prepared::new(Asked { sheet, order: 1, rows: Vec::new(), node, second })
     };
     sheets.zip(seconds).enumerate().filter_map(edit).take(edits).collect()
 }

@@ -1,14 +1,15 @@
-//! Edits of open sheets: tezhukor_edit and tezhukor_preview beside the model's result,
-//! numbered from the root on, and the crate's own rows of it.
+//! Edits of open sheets in both callee orders: tezhukor_edit and tezhukor_preview beside the
+//! model's result, numbered from the root on, and the crate's own rows of it, with its own test
+//! of a callee or with ours; and sheets that tezhukor_carry carries to our order.
 
-use model::edit::{lent, over, reply, Asked};
-use model::generate::edits::{self, Edit, Run, FAULTS};
+use model::edit::{carried, lent, over, reply, Asked, CARRIED};
+use model::generate::edits::{self, Edit, Run, FAULTS, OF_A_TREE};
 use model::generate::{levels, Dice, Draft, LONGEST_NEST};
 use model::lent::Cell;
-use model::sizes::{LAST_REFUSAL, ROW_CELLS};
-use model::NodeTable;
+use model::sizes::{LAST_REFUSAL, REFUSAL_UNIT, ROW_CELLS};
+use model::{CalleeOrder, NodeTable};
 use oracle::direct::context_of_root;
-use oracle::keeping;
+use oracle::{keeping, BuiltTree};
 use tezhukor::boundary::edits as ours;
 
 /// How many edits a run has.
@@ -35,8 +36,8 @@ impl Replies {
     }
 
     /// Counts what was done, and tells where it is not what was wanted.
-    fn count(&mut self, asked: &Asked, meant: &Result<NodeTable, u16>, done: Done, wanted: Done) {
-        self.by_refusal[usize::from(meant.as_ref().err().copied().unwrap_or(0))] += 1;
+    fn count(&mut self, asked: &Asked, done: Done, wanted: Done) {
+        self.by_refusal[(wanted.reply / REFUSAL_UNIT) as usize] += 1;
         self.different += u64::from(done != wanted);
         if done != wanted && self.different <= TOLD {
             let (table, rows) = (done.table == wanted.table, done.rows == wanted.rows);
@@ -62,6 +63,11 @@ impl Replies {
 struct Tally {
     edits: Replies,
     previews: Replies,
+    carries: Replies,
+    /// Results of edits by the order of their sheets.
+    by_order: [u64; 2],
+    /// Results whose rows would be others in the other order.
+    apart: u64,
     /// Rows of results, those of types and links included.
     rows: u64,
     grown: u64,
@@ -96,14 +102,27 @@ impl Done {
     }
 }
 
-/// The crate's rows of a tree, five cells a node.
-fn rows_of(tree: &NodeTable) -> Vec<u16> {
-    let ask = || oracle::rows(&[context_of_root(tree.context)], tree.count, &tree.cells);
+/// The crate's rows of a tree in a callee order, five cells a node.
+fn rows_of(tree: &NodeTable, order: CalleeOrder) -> Vec<u16> {
+    let ask = || {
+        let built = BuiltTree::new(tree.count, &tree.cells);
+        built.rows(order, &[context_of_root(tree.context)])
+    };
     let rows = match levels(&Draft::of(tree)) <= LONGEST_NEST {
         true => ask(),
         false => keeping(ask),
     };
     rows[0].iter().flat_map(|row| row.cells()).collect()
+}
+
+/// What the sheet is beside its table and its rows.
+fn header(asked: &Asked) -> ours::Sheet {
+    let NodeTable { context, count, .. } = asked.sheet;
+    ours::Sheet { context, count, order: asked.order }
+}
+
+fn order(asked: &Asked) -> CalleeOrder {
+    CalleeOrder::numbered(asked.order)
 }
 
 fn second(asked: &Asked) -> ours::Edit<'_> {
@@ -116,16 +135,20 @@ impl Tally {
     fn compare(&mut self, edit: &Edit) -> Option<(NodeTable, Vec<u16>)> {
         let Edit { asked, .. } = edit;
         let meant = lent(asked.result(), &[asked.lengths()]);
-        let rows = meant.as_ref().map_or(Vec::new(), rows_of);
+        let rows = meant.as_ref().map_or(Vec::new(), |result| rows_of(result, order(asked)));
         // What fits the preview's buffers as well is a result of the edit.
         let seen = lent(meant.clone(), &[edit.lent]);
         let buffers = lent_beside(edit);
         let wanted = Done::meant(&seen, &rows, buffers.clone());
-        self.previews.count(asked, &seen, previewed(asked, buffers), wanted);
+        self.previews.count(asked, previewed(asked, buffers), wanted);
         let buffers = [asked.sheet.cells.clone(), asked.rows.clone()];
         let wanted = Done::meant(&meant, &rows, buffers);
-        self.edits.count(asked, &meant, edited(asked), wanted);
+        self.edits.count(asked, edited(asked), wanted);
+        self.compare_carry(asked);
         let result = meant.ok()?;
+        self.by_order[usize::from(order(asked).number())] += 1;
+        let other = CalleeOrder::ALL[1 - usize::from(order(asked).number())];
+        self.apart += u64::from(rows != rows_of(&result, other));
         self.rows += u64::from(result.count);
         self.grown += u64::from(result.count > asked.sheet.count);
         self.shrunk += u64::from(result.count < asked.sheet.count);
@@ -133,12 +156,37 @@ impl Tally {
         Some((result, rows))
     }
 
-    /// A run of edits of one sheet.
+    /// Carries the sheet of an edit: its rows become those of a fresh walk in our order if it
+    /// holds the crate's, and are left as they are if it holds ours, whatever they are.
+    fn compare_carry(&mut self, asked: &Asked) {
+        let mut rows = asked.rows.clone();
+        let reply = ours::carry(header(asked), &asked.sheet.cells, &mut rows);
+        let wanted_reply = carried(&asked.sheet, rows.len());
+        let wanted = match (wanted_reply, order(asked)) {
+            (CARRIED, CalleeOrder::Crate) => {
+                over(&rows_of(&asked.sheet, CalleeOrder::Ours), asked.rows.clone())
+            }
+            _ => asked.rows.clone(),
+        };
+        let wanted = Done { reply: wanted_reply, table: Vec::new(), rows: wanted };
+        self.carries.count(asked, Done { reply, table: Vec::new(), rows }, wanted);
+    }
+
+    /// A run of edits of one sheet, which holds the crate's order in two runs of three and is
+    /// carried to ours halfway; what comes then is as on a sheet opened in ours.
     fn compare_run(&mut self, seed: u64, index: u64) {
         let run = Run::new(seed, index);
-        let (mut sheet, mut rows) = (run.sheet.clone(), rows_of(&run.sheet));
+        let mut order = if index % 3 == 0 { CalleeOrder::Ours } else { CalleeOrder::Crate };
+        let (mut sheet, mut rows) = (run.sheet.clone(), rows_of(&run.sheet, order));
         for step in 0..RUN {
-            let edit = run.edit(step, &sheet, &rows);
+            if step == RUN / 2 && order == CalleeOrder::Crate {
+                let mut edit = run.edit(step, order, &sheet, &rows);
+                edit.asked.rows[..rows.len()].copy_from_slice(&rows);
+                self.compare_carry(&edit.asked);
+                order = CalleeOrder::Ours;
+                rows = rows_of(&sheet, order);
+            }
+            let edit = run.edit(step, order, &sheet, &rows);
             if let Some((result, new)) = self.compare(&edit) {
                 self.compare_sheltered(&edit.asked.sheltered(&result), &rows, &new);
                 (sheet, rows) = (result, new);
@@ -168,14 +216,46 @@ impl Tally {
                 self.compare(&edits::faulty(&[first, later], dice));
             }
         }
+        self.compare_carried_faults(dice);
+    }
+
+    /// Each refusal of carrying alone, with each later one, and with too few rows.
+    fn compare_carried_faults(&mut self, dice: &mut Dice) {
+        let ways = |fault: usize| (0..FAULTS[fault].1).map(move |way| (fault, way));
+        for first in (0..OF_A_TREE).flat_map(ways) {
+            let later = (first.0 + 1..OF_A_TREE).flat_map(ways);
+            for faults in later.map(|later| vec![first, later]).chain([vec![first]]) {
+                for rows in [0, 5_000] {
+                    let sheet = edits::faulty_sheet(&faults, dice);
+                    let rows = (0..rows).map(Cell::pattern).collect();
+                    let (order, second) = (edits::order(dice), sheet.clone());
+                    self.compare_carry(&Asked { sheet, order, rows, node: 1, second });
+                }
+            }
+        }
+        for order in [0, 1, 65_535] {
+            let sheet = edits::faulty_sheet(&[], dice);
+            let needed = ROW_CELLS * usize::from(sheet.count);
+            for length in 0..=needed + 1 {
+                let rows = (0..length).map(Cell::pattern).collect();
+                let (sheet, second) = (sheet.clone(), sheet.clone());
+                self.compare_carry(&Asked { sheet, order, rows, node: 1, second });
+            }
+        }
     }
 
     fn print(&self, seed: u64) {
         self.edits.print(&format!("seed {seed}: edits"));
         self.previews.print(&format!("seed {seed}: previews"));
+        self.carries.print(&format!("seed {seed}: carries"));
         println!(
             "  rows of results {}, results larger than their sheets {}, smaller {}, most nodes {}",
             self.rows, self.grown, self.shrunk, self.most_nodes
+        );
+        let [crates, ours] = self.by_order;
+        println!(
+            "  results in the crate's order {crates}, in ours {ours}, with other rows in the other {}",
+            self.apart
         );
         println!("  rows sheltered from an edit {}, changed {}", self.sheltered, self.changed);
     }
@@ -183,8 +263,7 @@ impl Tally {
 
 fn edited(asked: &Asked) -> Done {
     let (mut table, mut rows) = (asked.sheet.cells.clone(), asked.rows.clone());
-    let NodeTable { context, count, .. } = asked.sheet;
-    let reply = ours::edit(context, count, &mut table, &mut rows, second(asked));
+    let reply = ours::edit(header(asked), &mut table, &mut rows, second(asked));
     Done { reply, table, rows }
 }
 
@@ -194,13 +273,13 @@ fn lent_beside(edit: &Edit) -> [Vec<u16>; 2] {
 }
 
 fn previewed(asked: &Asked, [mut table, mut rows]: [Vec<u16>; 2]) -> Done {
-    let NodeTable { context, count, cells } = &asked.sheet;
-    let (own, result) = ([&cells[..], &asked.rows], [&mut table[..], &mut rows]);
-    let reply = ours::preview(*context, *count, own, second(asked), result);
+    let (own, result) = ([&asked.sheet.cells[..], &asked.rows], [&mut table[..], &mut rows]);
+    let reply = ours::preview(header(asked), own, second(asked), result);
     Done { reply, table, rows }
 }
 
-/// So many edits or some more, each after its preview, and gives how many of both differ.
+/// So many edits or some more, each after its preview and a carry of its sheet, and gives how
+/// many of these differ.
 pub fn compare(edits: u64, seed: u64) -> u64 {
     let mut tally = Tally::default();
     for index in 0.. {
@@ -219,5 +298,5 @@ pub fn compare(edits: u64, seed: u64) -> u64 {
         }
     }
     tally.print(seed);
-    tally.edits.different + tally.previews.different + tally.changed
+    tally.edits.different + tally.previews.different + tally.carries.different + tally.changed
 }

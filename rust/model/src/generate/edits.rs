@@ -9,6 +9,7 @@ use crate::edit::{Asked, Lengths};
 use crate::forms::*;
 use crate::sizes::{LAST_CONTEXT, MOST_LEVELS, MOST_NODES, NODE_CELLS};
 use crate::table::{NodeTable, ATTRIBUTES, DETAIL, FIRST, FORM, SECOND, SYMBOL};
+use crate::CalleeOrder;
 
 /// An edit, and what a preview lends beside the sheet.
 #[derive(Clone, Debug)]
@@ -24,18 +25,15 @@ impl Edit {
         let room = Lengths::of(room);
         let spare = |needed| needed + dice.below(9);
         let [table, rows] = [room.table, room.rows].map(spare);
-        Edit { asked: Asked { sheet, rows: Vec::new(), node, second }, lent: room }.lending(
-            Lengths { table, rows },
-            room,
-            dice,
-        )
+        let asked = Asked { sheet, order: order(dice), rows: Vec::new(), node, second };
+        Edit { asked, lent: room }.lending(Lengths { table, rows }, room, dice)
     }
 
     /// With buffers near what the result needs, each with at most 8 cells more or less, or
     /// far more; now and then near what the sheet needs.
     fn near(sheet: NodeTable, node: u16, second: NodeTable, dice: &mut Dice) -> Edit {
         let count = sheet.count;
-        let asked = Asked { sheet, rows: Vec::new(), node, second };
+        let asked = Asked { sheet, order: order(dice), rows: Vec::new(), node, second };
         let result = asked.result().map_or(count, |result| result.count);
         let [own, lent] = [(); 2].map(|()| {
             let needed = Lengths::of(if dice.below(6) == 0 { count } else { result });
@@ -52,6 +50,11 @@ impl Edit {
         rows.resize_with(own.rows, || noise(dice));
         Edit { lent, ..self }
     }
+}
+
+/// The number of a callee order, each as often as the other.
+pub fn order(dice: &mut Dice) -> u16 {
+    dice.pick(&[0, 0, 0, 1, 2, 65_535])
 }
 
 /// A length about as long as is needed.
@@ -72,9 +75,10 @@ fn noise(dice: &mut Dice) -> u16 {
     }
 }
 
-/// A tree of any family in any context.
+/// A tree of any family in any context, many with Calls.
 fn tree(dice: &mut Dice, seed: u64, index: u64) -> NodeTable {
-    let table = Family::Mixed.tree(seed, index);
+    let family = if dice.percent(30) { Family::Callees } else { Family::Mixed };
+    let table = family.tree(seed, index);
     match dice.percent(50) {
         true => NodeTable { context: dice.below(4) as u16, ..table },
         false => table,
@@ -203,9 +207,9 @@ impl Run {
         Run { sheet, seed, index }
     }
 
-    /// The next edit of the sheet as it is now, with room for the result; `rows` are the
-    /// sheet's, or noise now and then.
-    pub fn edit(&self, step: u64, sheet: &NodeTable, rows: &[u16]) -> Edit {
+    /// The next edit of the sheet as it is now, in its callee order and with room for the
+    /// result; `rows` are the sheet's, or noise now and then.
+    pub fn edit(&self, step: u64, order: CalleeOrder, sheet: &NodeTable, rows: &[u16]) -> Edit {
         let number = self.index.wrapping_mul(1_000).wrapping_add(step);
         let dice = &mut Dice::new(self.seed + 3, number);
         let second = tree(dice, self.seed + 4, number);
@@ -216,6 +220,7 @@ impl Run {
         };
         let room = sheet.count + second.count;
         let mut edit = Edit::roomy(sheet.clone(), node, second, room, dice);
+        edit.asked.order = order.number();
         if dice.percent(50) {
             edit.asked.rows[..rows.len()].copy_from_slice(rows);
         }
@@ -249,7 +254,7 @@ pub const FAULTS: [(u16, usize); 19] = [
 ];
 
 /// How many of the faults are a tree's.
-const OF_A_TREE: usize = 8;
+pub const OF_A_TREE: usize = 8;
 
 /// An edit with faults: their numbers in [`FAULTS`], and for each one of its ways.
 pub fn faulty(faults: &[(usize, usize)], dice: &mut Dice) -> Edit {
@@ -264,6 +269,13 @@ pub fn faulty(faults: &[(usize, usize)], dice: &mut Dice) -> Edit {
         }
     }
     edit
+}
+
+/// A sheet with faults, the first [`OF_A_TREE`] of [`FAULTS`], each in one of its ways.
+pub fn faulty_sheet(faults: &[(usize, usize)], dice: &mut Dice) -> NodeTable {
+    let mut sheet = sound(dice);
+    faults.iter().rev().for_each(|&(fault, way)| wrong(&mut sheet, fault, way));
+    sheet
 }
 
 /// A call of a closure with a written output, a cast and a sign, on whose nodes each fault
