@@ -1,8 +1,23 @@
 //! Where a printed Rust expression needs parentheses.
 //!
 //! `offset - (station - start)` without its pair compiles, and means another curve.
-//! A generator that makes syntax trees hands each one over as a *tree file*, and gets
-//! back which operands need a pair:
+//! A generator [builds](build) a tree by functions, and gets back which operands need a pair:
+//!
+//! ```
+//! use tezhukor::build::{binary, path, Context, Op};
+//! use tezhukor::text::{Names, Text};
+//!
+//! // Names are numbers in a tree: offset is symbol 1, station 2, start 3.
+//! let [offset, station, start] = [1, 2, 3].map(path);
+//! let distance = binary(Op::Sub, station, start);
+//! let tree = binary(Op::Sub, offset, distance).tree(Context::None)?;
+//! let names = Names::new("offset\nstation\nstart");
+//! let text = Text::new(&tree, &tree.rows(), &names);
+//! assert_eq!(text.as_str(), "offset - (station - start)");
+//! # Ok::<(), tezhukor::build::Unbuilt>(())
+//! ```
+//!
+//! Trees are kept and handed over as *tree files*, in which nodes have numbers:
 //!
 //! ```
 //! // offset - (station - start): Binary Sub over a Path and another Binary Sub.
@@ -89,6 +104,7 @@
 
 mod binding;
 pub mod boundary;
+pub mod build;
 mod open_sheet;
 mod preview;
 mod refusal;
