@@ -5,16 +5,17 @@
 //!
 //! ```
 //! use tezhukor::build::{binary, path, Context, Op};
-//! use tezhukor::text::{Names, Text};
+//! use tezhukor::text::Names;
+//! # fn main() -> Result<(), Box<dyn std::error::Error>> {
 //!
 //! // Names are numbers in a tree: offset is symbol 1, station 2, start 3.
 //! let [offset, station, start] = [1, 2, 3].map(path);
 //! let distance = binary(Op::Sub, station, start);
 //! let tree = binary(Op::Sub, offset, distance).tree(Context::None)?;
 //! let names = Names::new("offset\nstation\nstart");
-//! let text = Text::new(&tree, &tree.rows(), &names);
-//! assert_eq!(text.as_str(), "offset - (station - start)");
-//! # Ok::<(), tezhukor::build::Unbuilt>(())
+//! assert_eq!(tree.to_rust(&names)?, "offset - (station - start)");
+//! # Ok(())
+//! # }
 //! ```
 //!
 //! Trees are kept and handed over as *tree files*, in which nodes have numbers:

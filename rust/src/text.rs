@@ -1,8 +1,12 @@
 //! Trees as text, with the pairs of their rows.
 
+pub mod lexer;
 mod names;
+pub mod open;
+mod spelled;
 
 pub use names::{Kind, Names};
+pub use spelled::Unspelled;
 
 use crate::{Node, Row, Tree};
 use model::codes::SPELLED;
@@ -53,7 +57,7 @@ impl Text {
         let spans = vec![0..0; tree.count().into()];
         let shown = Text { text: String::new(), pairs: Vec::new(), spans };
         let names = names.clone().of(tree);
-        let mut writer = Writer { tree, rows, names, shown, number_end: 0 };
+        let mut writer = Writer { tree, rows, names, shown, literal_end: 0, member_end: 0 };
         writer.node(1);
         writer.shown
     }
@@ -70,8 +74,13 @@ impl Text {
     /// A node's own text, within its outer pair; nothing for a link and for a node that is
     /// absent.
     pub fn of(&self, number: u16) -> &str {
+        &self.text[self.span(number)]
+    }
+
+    /// At which bytes a node's own text stands.
+    pub fn span(&self, number: u16) -> Range<usize> {
         let span = self.spans.get(usize::from(number).wrapping_sub(1));
-        span.map_or("", |span| &self.text[span.clone()])
+        span.map_or(0..0, Range::clone)
     }
 }
 
@@ -87,19 +96,28 @@ struct Writer<'a> {
     names: Names,
     shown: Text,
     /// Where the last number ends: a dot there would become part of it.
-    number_end: usize,
+    literal_end: usize,
+    /// Where the last numbered member ends: a dot and a number there would become a fraction.
+    member_end: usize,
 }
 
 impl Writer<'_> {
+    /// Puts what would be read as part of the sign before it behind a blank.
     fn put(&mut self, text: &str) {
+        if spelled::merges(&self.shown.text, text) {
+            self.shown.text.push(' ');
+        }
         self.shown.text.push_str(text);
     }
 
     fn name(&mut self, node: Node, kind: Kind) {
         let name = self.names.named(node.symbol, kind);
         self.put(&name);
-        if kind == Kind::Literal && name.starts_with(|c: char| c.is_ascii_digit()) {
-            self.number_end = self.shown.text.len();
+        let end = self.shown.text.len();
+        match kind {
+            Kind::Literal if spelled::is_number(&name) => self.literal_end = end,
+            Kind::Member => self.member_end = end,
+            _ => {}
         }
     }
 
@@ -139,6 +157,8 @@ impl Writer<'_> {
             self.ty(node);
         }
         self.close(inner);
+        let own = &self.shown.text[start..];
+        let start = start + own.len() - own.trim_start().len();
         self.shown.spans[at] = start..self.shown.text.len();
         self.close(outer);
     }
@@ -191,9 +211,10 @@ impl Writer<'_> {
         self.put(close);
     }
 
-    fn dot(&mut self) {
-        let behind_number = self.number_end == self.shown.text.len();
-        self.put(if behind_number { " ." } else { "." });
+    fn dot(&mut self, is_before_number: bool) {
+        let end = self.shown.text.len();
+        let is_in_fraction = is_before_number && self.member_end == end;
+        self.put(if is_in_fraction || self.literal_end == end { " ." } else { "." });
     }
 
     /// The forms that stand behind their first operand.
@@ -204,7 +225,7 @@ impl Writer<'_> {
             INDEX => self.between("[", node.second, "]"),
             CALL => self.arguments("(", node.second, ")"),
             form => {
-                self.dot();
+                self.dot((form, node.detail) == (FIELD, 1));
                 match (form, node.detail) {
                     (AWAIT, _) => self.put("await"),
                     (FIELD, 1) => self.name(node, Kind::Member),

@@ -95,7 +95,8 @@ fn shown_as_read() {
         "a == (b < c)",
         "a = b = c",
         "(a = b) + c",
-        "-x.m(&&y, *z)[i]? as *const &mut Map<_, Vec<u8>> as !",
+        "-x.m(& &y, *z)[i]? as *const &mut Map<_, Vec<u8> > as !",
+        "- -x.0 .1.f",
         "(-x).abs()",
         "!(a && b) || c",
         "1 .0 + 1.5 .f",
@@ -170,8 +171,8 @@ fn commas_after_last_items() {
         ("s.f(1,)", "s.f(1)"),
         ("(s.f)(1,)", "(s.f)(1)"),
         ("x as T<A,> < y", "x as T<A> < y"),
-        ("x as Map<K, Vec<V,>,> + 1", "x as Map<K, Vec<V>> + 1"),
-        ("f(g(a,), b - (c - d),)[i](&&e,)?", "f(g(a), b - (c - d))[i](&&e)?"),
+        ("x as Map<K, Vec<V,>,> + 1", "x as Map<K, Vec<V> > + 1"),
+        ("f(g(a,), b - (c - d),)[i](&&e,)?", "f(g(a), b - (c - d))[i](& &e)?"),
     ] {
         let output = sheet(&["read", "--names", names.name(), text], b"");
         assert_eq!(output.status.code(), Some(0), "{text}");
@@ -231,6 +232,19 @@ fn callees() {
         assert!(!printed(&["why", "-"], &file, 0).contains("order"));
     }
     assert_eq!(printed(&["why", "-"], &tree_of("s.0(x)"), 0), "no pair was added\n");
+}
+
+/// A line of a names file that is no name is told; the text is shown all the same.
+#[test]
+fn lines_that_are_no_names() {
+    let names = Scratch::new("lines");
+    std::fs::write(&names.0, "offset\nstation - start\n").expect("a file");
+    let output = sheet(&["show", "--names", names.name(), "-"], &tree_of("a * b"));
+    assert_eq!(output.status.code(), Some(0));
+    assert_eq!(output.stdout, b"offset * station - start\n");
+    let message = "sheet: The line of symbol 2, `station - start`, is not the one token that \
+                   stands for it.\n";
+    assert_eq!(String::from_utf8_lossy(&output.stderr), message);
 }
 
 /// A struct in a condition is read with its pair, shown and explained with it, and refused

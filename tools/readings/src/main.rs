@@ -10,6 +10,8 @@ mod ours;
 mod plain;
 mod record;
 mod rustc;
+#[cfg(feature = "library")]
+mod texts;
 mod trees;
 mod written;
 
@@ -27,6 +29,8 @@ const USAGE: &str = "usage:
   readings rustc TREES PAIRS [SEED]   rustc beside the readings, so many random trees and pairs
   readings commas rustc TREES PAIRS [SEED]   the part of it with such commas
   readings conditions rustc TREES PAIRS [SEED]   the part of it in context 3
+  readings texts rustc TREES [SEED]   with the feature library: so many trees in each context as
+                                 the Rust crate spells them, and what rustc reads there
   readings changes [CHANGE ..]   each rule changed, or these: how many trees and lists tell
   readings record                writes crates/recorded/data/readings and tokens
 OURS: absent, programs (target/bin/tokens and target/bin/reading), or with the feature library
@@ -72,6 +76,10 @@ fn run(arguments: &[&str]) -> Option<u64> {
         ["long", library, name] => long::one(&mut Ours::named(library)?, name),
         [part @ ("commas" | "conditions"), "rustc", numbers @ ..] => judged(Some(part), numbers),
         ["rustc", numbers @ ..] => judged(None, numbers),
+        #[cfg(feature = "library")]
+        ["texts", "rustc", trees, rest @ ..] => {
+            Some(texts::compare(number(trees)?, rest.first().map_or(Some(1), number)?))
+        }
         [what, rest @ ..] => {
             let mut ours = Ours::named(rest.first().unwrap_or(&"absent"))?;
             let seed = rest.get(1).map_or(Some(1), number)?;

@@ -97,8 +97,27 @@ impl Drop for Judge {
     }
 }
 
+/// How many of the texts rustc reads otherwise than as the tables beside them; the first ones
+/// are printed.
+#[cfg(feature = "library")]
+pub fn otherwise(context: u16, texts: &[(String, Vec<u16>)]) -> u64 {
+    let (mut judge, mut different) = (Judge::new(context), 0);
+    for batch in texts.chunks(BATCH) {
+        let spelled: Vec<String> = batch.iter().map(|(text, _)| text.clone()).collect();
+        for ((text, table), read) in batch.iter().zip(judge.all(&spelled)) {
+            if read != Read::Tree(table.clone()) {
+                different += 1;
+                if different <= 20 {
+                    println!("  rustc reads {read:?}: {text}");
+                }
+            }
+        }
+    }
+    different
+}
+
 /// Whether rustc refuses a list on purpose: a call without arguments of an await.
-fn calls_await(tokens: &[Token]) -> bool {
+pub fn calls_await(tokens: &[Token]) -> bool {
     let call = codes::tokens(&[codes::AWAIT, OPEN, CLOSE]);
     tokens.windows(3).any(|window| window == call)
 }

@@ -9,6 +9,7 @@ mod dice;
 mod draft;
 pub mod edits;
 mod every_spine;
+pub mod named;
 mod nests;
 mod piece;
 mod random;

@@ -108,9 +108,10 @@ pub fn write_names(file: &OsStr, table: &Table) -> Result<(), Answer> {
 
 fn show(file: &OsStr, names: Option<&OsStr>) -> Result<Answer, Answer> {
     let (tree, names) = (load(file)?, names_from(names)?);
-    let mut text = show::shown(&tree, names).text(show::is_coloured());
+    let shown = show::shown(&tree, names);
+    let mut text = shown.text(show::is_coloured());
     text.push('\n');
-    Ok(Answer::done(text))
+    Ok(Answer { message: shown.note(), ..Answer::done(text) })
 }
 
 fn why(file: &OsStr, names: Option<&OsStr>) -> Result<Answer, Answer> {

@@ -1,7 +1,7 @@
 //! Where a text is wrong.
 
-use crate::open::{Next, Open};
 use tezhukor::codes::{tokens, AND_AND, COMMA, EQUALS, NAME, STRUCT};
+use tezhukor::text::open::{Next, Open};
 use tezhukor::{contexts, Binding, Lean, Refusal, Tree};
 
 /// The token from which on there is no reading; behind the last one the text ends

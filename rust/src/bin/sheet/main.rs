@@ -8,7 +8,6 @@ mod edits;
 mod lexer;
 mod locate;
 mod names;
-mod open;
 mod show;
 mod why;
 mod words;

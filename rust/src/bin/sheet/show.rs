@@ -1,33 +1,48 @@
 //! Trees as text, their added pairs in colour.
 
 use std::io::IsTerminal;
-use tezhukor::text::{Names, Pair, Text};
+use tezhukor::text::{Names, Pair, Text, Unspelled};
 use tezhukor::Tree;
 
 /// Added pairs are bold and yellow.
 const ADDED: &str = "1;33";
 
-/// A tree as text.
-pub struct Shown(Text);
+/// A tree as text, and where it is plain as Rust, which is the same text.
+pub struct Shown {
+    text: Text,
+    rust: Result<String, Unspelled>,
+}
 
 impl Shown {
     /// The text, with the added pairs in colour or not.
     pub fn text(&self, colour: bool) -> String {
+        let text = match &self.rust {
+            Ok(rust) => rust,
+            Err(_) => self.text.as_str(),
+        };
         match colour {
-            true => coloured(self.0.as_str(), parentheses(self.0.pairs()), ADDED),
-            false => self.0.to_string(),
+            true => coloured(text, parentheses(self.text.pairs()), ADDED),
+            false => text.to_string(),
         }
     }
 
     /// A node's own text.
     pub fn of(&self, number: u16) -> &str {
-        self.0.of(number)
+        self.text.of(number)
+    }
+
+    /// What is wrong with the names, if something is: then the text is not Rust.
+    pub fn note(&self) -> String {
+        match &self.rust {
+            Err(unspelled @ Unspelled::Name { .. }) => format!("sheet: {unspelled}\n"),
+            _ => String::new(),
+        }
     }
 }
 
 /// Shows a tree with the names of its symbols.
 pub fn shown(tree: &Tree, names: Names) -> Shown {
-    Shown(Text::new(tree, &tree.rows(), &names))
+    Shown { text: Text::new(tree, &tree.rows(), &names), rust: tree.to_rust(&names) }
 }
 
 /// Whether what is printed may have colours.

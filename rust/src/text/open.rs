@@ -1,10 +1,10 @@
 //! What is open at a place of a token list: which brackets, and what may come next.
 //!
 //! Nothing is decided by this. It tells the lexer where `&&` is two references and
-//! `>>` closes two lists, and how a token list can be completed to see whether its
-//! beginning has a reading.
+//! `>>` closes two lists, what spells tokens where blanks stand, and how a token list can be
+//! completed to see whether its beginning has a reading.
 
-use tezhukor::codes::*;
+use model::codes::*;
 
 /// What may come next.
 #[derive(Copy, Clone, PartialEq, Eq, Debug)]
@@ -25,14 +25,16 @@ pub struct Open {
     pub next: Next,
 }
 
-impl Open {
-    pub fn new() -> Open {
+impl Default for Open {
+    fn default() -> Open {
         Open { closing: Vec::new(), next: Next::Operand }
     }
+}
 
+impl Open {
     /// What is open behind a token list.
     pub fn behind(codes: &[u16]) -> Open {
-        let mut open = Open::new();
+        let mut open = Open::default();
         codes.iter().for_each(|&code| open.push(code));
         open
     }
@@ -45,6 +47,22 @@ impl Open {
     /// Whether a prefix may come next, of an operand or of a type.
     pub fn wants_prefix(&self) -> bool {
         matches!(self.next, Next::Operand | Next::Type)
+    }
+
+    /// Whether a type may come next.
+    pub fn wants_type(&self) -> bool {
+        self.next == Next::Type
+    }
+
+    /// Whether a token that comes next would stand between two operands, or between an
+    /// operand and a type.
+    pub fn is_infix(&self, code: u16) -> bool {
+        match code {
+            AS => true,
+            LESS if self.next == Next::BehindTypeName => false,
+            GREATER if self.in_type_arguments() => false,
+            _ => code <= EQUALS && !self.wants_prefix(),
+        }
     }
 
     /// Takes another token.
