@@ -107,6 +107,7 @@ mod binding;
 pub mod boundary;
 pub mod build;
 mod open_sheet;
+mod prevented;
 mod preview;
 mod refusal;
 pub mod text;
@@ -116,6 +117,7 @@ pub use binding::{Binding, Lean};
 #[doc(inline)]
 pub use model::{codes, codes::Token, contexts, forms, sizes, CalleeOrder};
 pub use open_sheet::OpenSheet;
+pub use prevented::{Prevented, Reading};
 pub use preview::{Preview, Sight};
 pub use refusal::Refusal;
 use std::cmp::Ordering;

@@ -7,6 +7,7 @@ mod spelled;
 
 pub use names::{Kind, Names};
 pub use spelled::Unspelled;
+pub(crate) use spelled::{infixes, words, Spelled};
 
 use crate::{Node, Row, Tree};
 use model::codes::SPELLED;

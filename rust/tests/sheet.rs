@@ -66,7 +66,9 @@ fn first_example() {
     let why = printed(&["why", "--names", names.name(), "-"], &file, 0);
     assert_eq!(
         why,
-        "node 3 `station - start`, right operand of node 1, Binary `-`: precedence Sum (11), \
+        "(station - start): without it: offset - station - start, which reads \
+         (offset - station) - start\n  \
+         node 3 `station - start`, right operand of node 1, Binary `-`: precedence Sum (11), \
          the owner's Sum (11); the owner's test asks for it: it groups what is not above Sum (11); \
          `-` leans left: of operators of its level the left one comes first\n"
     );
@@ -149,8 +151,8 @@ fn names_in_any_numbering() {
     let saved = sheet(&["canonical", "-"], &turned).stdout;
     assert_eq!(saved, file);
     let why = |file: &[u8]| printed(&["why", "--names", names.name(), "-"], file, 0);
-    assert!(why(&file).starts_with("node 3 `station - start`"));
-    assert!(why(&turned).starts_with("node 2 `station - start`"));
+    assert!(why(&file).contains("\n  node 3 `station - start`"));
+    assert!(why(&turned).contains("\n  node 2 `station - start`"));
 }
 
 /// A file of five numbers a node, as older versions had them, is refused.
@@ -234,6 +236,61 @@ fn callees() {
     assert_eq!(printed(&["why", "-"], &tree_of("s.0(x)"), 0), "no pair was added\n");
 }
 
+/// What each pair prevents, in the first of its lines.
+#[test]
+fn prevented() {
+    let names = Scratch::new("prevented");
+    for (text, lines) in [
+        (
+            "offset - (station - (start - grade))",
+            &[
+                "(station - (start - grade)): without it: offset - station - (start - grade), \
+                 which reads (offset - station) - (start - grade)",
+                "(start - grade): without it: offset - (station - start - grade), which reads \
+                 offset - ((station - start) - grade)",
+            ][..],
+        ),
+        (
+            "(depth as usize) < limit",
+            &["(depth as usize): without it: depth as usize < limit, which has no reading: the \
+               text ends within type arguments; `<` behind a type name always opens them, so a \
+               cast before `<` needs parentheses"],
+        ),
+        (
+            "(ring.advance)(stroke) + 1",
+            &["(ring.advance): without it: ring.advance(stroke) + 1, which calls the method \
+               `advance`"],
+        ),
+        (
+            "(left < right) == wet",
+            &["(left < right): without it: left < right == wet, which has no reading: \
+               comparisons do not chain, so one of them needs parentheses"],
+        ),
+        (
+            "within((reading as Limit) < low, high > -drift)",
+            &["(reading as Limit): without it: within(reading as Limit < low, high > -drift), \
+               which reads within((reading as Limit<low, high>) - drift)"],
+        ),
+        (
+            "(lead + depth) * -(grade + 1)",
+            &[
+                "(lead + depth): without it: lead + depth * -(grade + 1), which reads \
+                 lead + (depth * -(grade + 1))",
+                "(grade + 1): without it: (lead + depth) * -grade + 1, which reads \
+                 ((lead + depth) * (-grade)) + 1",
+            ],
+        ),
+    ] {
+        let file = sheet(&["read", "--names", names.name(), text], b"").stdout;
+        let why = printed(&["why", "--names", names.name(), "-"], &file, 0);
+        let firsts: Vec<&str> = why.lines().filter(|line| !line.starts_with("  ")).collect();
+        assert_eq!(firsts, lines, "{why}");
+    }
+    // What is not plain has no tokens to leave a pair out of.
+    let statement = [1, 3, 5, 0, 0, 2, 3, 0, 23, 0, 0, 0, 0, 0, 26, 0, 0, 0, 0, 0];
+    assert!(printed(&["why", "-"], &statement, 0).starts_with("node 2 "));
+}
+
 /// A line of a names file that is no name is told; the text is shown all the same.
 #[test]
 fn lines_that_are_no_names() {
@@ -263,7 +320,9 @@ fn conditions() {
     assert_eq!(shown(&file), "reading == (S { .. })\n");
     assert_eq!(
         printed(&["why", "--names", names.name(), "-"], &file, 0),
-        "node 3 `S { .. }`, right operand of node 1, Binary `==`: precedence Unambiguous (15), \
+        "(S { .. }): without it: reading == S { .. }, which has no reading: in a condition a \
+         struct needs parentheses, since its brace would open the block\n  \
+         node 3 `S { .. }`, right operand of node 1, Binary `==`: precedence Unambiguous (15), \
          the owner's Compare (6); parenthesize asks for it: part 4, a struct in a condition, \
          where its brace would open the block\n"
     );

@@ -1,5 +1,7 @@
 //! Trees as Rust: the text is lexed to the tokens that are written, by the crate's lexer and
-//! by one that always takes the longest sign, as rustc's does.
+//! by one that always takes the longest sign, as rustc's does; and what pairs prevent.
+
+mod prevented;
 
 use model::generate::named::{names, with_names};
 use model::generate::Family;

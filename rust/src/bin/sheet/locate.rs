@@ -30,6 +30,13 @@ pub fn unread(context: u16, codes: &[u16]) -> Unread {
     Unread { token, message: message.to_string() }
 }
 
+/// Why a list has no reading, if there are words for it.
+pub fn reason(context: u16, codes: &[u16]) -> Option<String> {
+    let message = unread(context, codes).message;
+    let reason = message.strip_prefix("refused (15): ").unwrap_or(&message);
+    (!reason.starts_with("nothing that begins")).then(|| reason.to_string())
+}
+
 /// Whether some list that begins like this has a reading: what is open is closed,
 /// perhaps behind one more name.
 fn begins_a_reading(context: u16, codes: &[u16]) -> bool {

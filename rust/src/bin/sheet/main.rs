@@ -8,6 +8,7 @@ mod edits;
 mod lexer;
 mod locate;
 mod names;
+mod prevents;
 mod show;
 mod why;
 mod words;
@@ -23,7 +24,8 @@ sheet: where a printed Rust expression needs parentheses
                                      output; TEXT, or standard input without it; with
                                      --condition the condition of an `if` or a `while`
   sheet show [--names NAMES] FILE    the tree as text, with the pairs that it needs
-  sheet why [--names NAMES] FILE     a line for each added pair: who asks for it
+  sheet why [--names NAMES] FILE     for each added pair what it prevents: the text
+                                     without it and how that reads; and who asks for it
   sheet rows FILE                    the row of each expression: node, pair,
                                      precedence, previous and next operator, flags
   sheet tokens FILE                  the tokens of a plain tree: codes, symbols, words

@@ -1,5 +1,6 @@
 //! Why a pair was added: the owner's test, or a part of `parenthesize`.
 
+use crate::prevents::Prevents;
 use crate::show::{self, Shown};
 use crate::words;
 use tezhukor::boundary::questions::{self, Context, Handed, InContext, Place};
@@ -57,14 +58,18 @@ const PARTS: [Part; 7] = [
     },
 ];
 
-/// A line for each added pair, by node number.
+/// What is said of each added pair, by node number: what it prevents, where the tree is
+/// plain, and who asks for it.
 pub fn lines(tree: &Tree, names: Names) -> Vec<String> {
+    let prevents = Prevents::new(tree, &names);
     let shown = show::shown(tree, names);
     let (rows, owners) = (tree.rows(), owners(tree));
     let mut lines = Vec::new();
     for (number, row) in (1..).zip(&rows) {
         let operand = || Operand::new(tree, &rows, &owners, number);
-        lines.extend(row.has_outer_pair().then(|| line(&operand(), &shown)));
+        lines.extend(
+            row.has_outer_pair().then(|| prevents.before(line(&operand(), &shown), number)),
+        );
         lines.extend(row.has_inner_pair().then(|| inner_line(&operand(), &shown)));
     }
     lines
