@@ -2,6 +2,7 @@
 
 use super::open::{Next, Open};
 use model::codes::*;
+use std::fmt;
 
 /// A token and the bytes of the text that it stands for.
 #[derive(Copy, Clone, PartialEq, Eq, Debug)]
@@ -17,6 +18,14 @@ pub struct Error {
     pub at: usize,
     pub message: String,
 }
+
+impl fmt::Display for Error {
+    fn fmt(&self, f: &mut fmt::Formatter) -> fmt::Result {
+        write!(f, "{} (byte {})", self.message, self.at)
+    }
+}
+
+impl std::error::Error for Error {}
 
 /// Words of Rust that are no names.
 const KEYWORDS: [&str; 45] = [
@@ -43,6 +52,27 @@ pub fn tokens(text: &str) -> Result<Vec<Lexed>, Error> {
         lexer.token()?;
     }
     Ok(lexer.tokens)
+}
+
+/// The tokens of a text, with the symbols that a function has for its names, literals and
+/// members.
+///
+/// ```
+/// use tezhukor::{contexts, text::lexer, Tree};
+/// # fn main() -> Result<(), Box<dyn std::error::Error>> {
+/// let lines = ["offset", "station", "start"];
+/// let symbol = |word: &str| (1..).zip(lines).find(|(_, line)| *line == word).map_or(0, |at| at.0);
+/// let tokens = lexer::named("offset - (station - start)", symbol)?;
+/// assert_eq!(Tree::read(contexts::NONE, &tokens)?.node(5).map(|node| node.symbol), Some(3));
+/// # Ok(())
+/// # }
+/// ```
+pub fn named(text: &str, mut symbol: impl FnMut(&str) -> u16) -> Result<Vec<Token>, Error> {
+    let named = tokens(text)?.into_iter().map(|token| match has_symbol(token.code) {
+        true => Token::new(token.code, symbol(&text[token.at..token.end])),
+        false => token.code.into(),
+    });
+    Ok(named.collect())
 }
 
 struct Lexer<'a> {

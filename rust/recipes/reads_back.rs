@@ -1,0 +1,32 @@
+//! A step of a build that refuses a sheet whose text does not read back: for each NAME it
+//! holds NAME.rs, the expression that is compiled, against NAME.tree and NAME.names.
+
+use std::error::Error;
+use std::process::ExitCode;
+use tezhukor::text::lexer;
+use tezhukor::Tree;
+
+/// Whether a text reads as a plain sheet, its own parentheses left aside.
+pub fn reads_back(sheet: &[u8], names: &str, text: &str) -> Result<bool, Box<dyn Error>> {
+    let sheet = Tree::load(sheet)?;
+    let symbol = |word: &str| {
+        let at = names.lines().position(|line| line == word);
+        at.and_then(|at| u16::try_from(at + 1).ok()).unwrap_or(0)
+    };
+    // What is written for a sheet reads as the sheet without its own parentheses: proved.
+    let meant = Tree::read(sheet.context(), &sheet.tokens()?)?;
+    Ok(Tree::read(sheet.context(), &lexer::named(text, symbol)?) == Ok(meant))
+}
+
+fn main() -> Result<ExitCode, Box<dyn Error>> {
+    let mut status = ExitCode::SUCCESS;
+    for name in std::env::args().skip(1) {
+        let file = |ending: &str| std::fs::read(format!("{name}.{ending}"));
+        let [names, text] = [file("names")?, file("rs")?].map(String::from_utf8);
+        if !reads_back(&file("tree")?, &names?, &text?)? {
+            eprintln!("{name}.rs is not the sheet {name}.tree");
+            status = ExitCode::FAILURE;
+        }
+    }
+    Ok(status)
+}
