@@ -38,6 +38,7 @@ enum {
     SHEET_ROWS = TEZHUKOR_ROW_CELLS * TEZHUKOR_MOST_NODES
 };
 
+static uint8_t columns[BYTES], back[BYTES];
 static uint16_t table[CELLS];
 static uint16_t again[CELLS];
 static uint16_t sheet_rows[SHEET_ROWS];
@@ -76,6 +77,17 @@ int main(void) {
     uint32_t bytes = tezhukor_save(context, count, table, cells, saved, BYTES);
     printf("saved %u bytes, compared %u\n", (unsigned)bytes,
            (unsigned)tezhukor_compare(file, sizeof file, saved, bytes));
+    /* Rearranged for the store, put back, and loaded as it is stored. */
+    uint32_t stored = tezhukor_to_columns(file, sizeof file, columns, BYTES);
+    uint32_t restored = tezhukor_from_columns(columns, stored, back, BYTES);
+    int own = restored == sizeof file && memcmp(file, back, sizeof file) == 0;
+    uint32_t reloaded = tezhukor_load_columns(columns, stored, again, CELLS);
+    printf("stored %u bytes, put back %s, loaded %s\n", (unsigned)stored,
+           own ? "the same" : "others", reloaded == loaded ? "alike" : "otherwise");
+    /* A first form below 0. */
+    columns[2] = 1;
+    printf("refused %u\n",
+           (unsigned)TEZHUKOR_REFUSAL(tezhukor_load_columns(columns, stored, again, CELLS)));
     /* The minus, 1, has the level of sums and leans left. */
     uint16_t minus = tezhukor_binding(1);
     printf("level %u, lean %u\n", (unsigned)TEZHUKOR_LEVEL(minus), (unsigned)TEZHUKOR_LEAN(minus));

@@ -32,6 +32,8 @@
  *   17 the named node is absent or is no expression
  *   18 the edited tree would have more than 4,096 nodes, a path of more than 128, or a
  *      closure with a written output over another body than a bare block
+ *   19 a form or operand restored from the columns falls outside 0 to 65,535; told
+ *      straight after 5
  */
 #ifndef TEZHUKOR_H
 #define TEZHUKOR_H
@@ -72,9 +74,9 @@ enum {
 #define TEZHUKOR_MOST_NODES 4096
 #define TEZHUKOR_MOST_TOKENS 24576
 
-/* Bytes that are enough for the saved tree file of so many nodes: three for the header,
- * and of each node one for form, attributes and detail, two for an operand, three for
- * the symbol. */
+/* Bytes that are enough for the saved, put back or rearranged file of so many nodes: three
+ * for the header, and of each node one for form, attributes and detail, two for an operand,
+ * three for the symbol. */
 #define TEZHUKOR_FILE_BYTES(nodes) (3 + 10 * (size_t)(nodes))
 
 /* The refusal in a reply of load, save, compare, write, read, edit, preview and carry; 0 if
@@ -169,6 +171,26 @@ uint32_t tezhukor_preview(uint16_t context, uint16_t count, uint16_t order,
  * from then on the sheet holds our order. */
 uint32_t tezhukor_carry(uint16_t context, uint16_t count, uint16_t order, const uint16_t *table,
                         size_t table_length, uint16_t *rows, size_t rows_length);
+
+/* Rearranges a tree file by columns: the header, then all forms, each as its difference
+ * from the one before, the first from 0; all attributes; all details; all first operands and
+ * all second ones, each as its distance from its owner, or 0 when absent; all symbols. A
+ * difference d is held as 2 * d when it is not negative and as -2 * d - 1 otherwise. The
+ * bytes do not tell which kind a file is. Replies the refusal times 65,536 (1 to 11, then 12
+ * for a buffer shorter than the bytes to be written), or the number of bytes; of this and the
+ * next two TEZHUKOR_REFUSAL takes the refusal. */
+uint32_t tezhukor_to_columns(const uint8_t *file, size_t file_length, uint8_t *columns,
+                             size_t columns_length);
+
+/* Puts a rearranged file back: the bytes of the tree file that it comes from. Replies the
+ * refusal times 65,536 (1 to 5, 19, 6 to 11, then 12), or the number of bytes. */
+uint32_t tezhukor_from_columns(const uint8_t *columns, size_t columns_length, uint8_t *file,
+                               size_t file_length);
+
+/* Loads a rearranged file into a table. Replies as tezhukor_load does, with 19 straight
+ * after 5. */
+uint32_t tezhukor_load_columns(const uint8_t *columns, size_t columns_length, uint16_t *table,
+                               size_t table_length);
 
 #ifdef __cplusplus
 }

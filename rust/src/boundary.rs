@@ -3,6 +3,7 @@
 //! Each is total: no argument is wrong, a refusal is a reply. On a refusal every
 //! lent cell keeps its contents; otherwise cells past the answer keep theirs.
 
+pub mod columns;
 pub mod edits;
 mod library;
 pub mod questions;

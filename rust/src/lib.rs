@@ -101,6 +101,10 @@
 //! [`CalleeOrder`]: ours, or the crate's if it was open before there was ours, until it is
 //! carried.
 //!
+//! For a store that keeps similar numbers well when they lie together, a tree file is
+//! rearranged, all forms first, then all attributes and so on, by [`to_columns`], and put back
+//! byte for byte by [`from_columns`].
+//!
 //! Nests that double prettyplease's work with each level do not double it here.
 
 mod binding;
@@ -114,6 +118,7 @@ pub mod text;
 mod tree;
 
 pub use binding::{Binding, Lean};
+use model::sizes::{file_bytes, MOST_NODES};
 #[doc(inline)]
 pub use model::{codes, codes::Token, contexts, forms, sizes, CalleeOrder};
 pub use open_sheet::OpenSheet;
@@ -164,6 +169,44 @@ pub fn tokens(file: &[u8]) -> Result<Vec<Token>, Refusal> {
 /// ```
 pub fn cmp(first: &[u8], second: &[u8]) -> Result<Ordering, Refusal> {
     Ok(boundary::done(boundary::compare(first, second))?.cmp(&1))
+}
+
+/// The rearranged file of a tree file: its header, then all forms, each as its difference from
+/// the one before, all attributes, all details, all first and all second operands, each as its
+/// distance from its owner, and all symbols. A difference d is held as 2 d, or as -2 d - 1
+/// where it is negative. The bytes do not tell which of the two a file is.
+///
+/// ```
+/// // offset - (station - start)
+/// let name = |symbol| [26, 0, 0, 0, 0, symbol];
+/// let nodes = [[5, 0, 1, 2, 3, 0], name(1), [5, 0, 1, 4, 5, 0], name(2), name(3)];
+/// let file = [&[0, 5][..], &nodes.concat()].concat();
+/// let columns = tezhukor::to_columns(&file)?;
+/// assert_eq!(columns[2..7], [10, 42, 41, 42, 0]);
+/// assert_eq!(tezhukor::from_columns(&columns)?, file);
+/// # Ok::<(), tezhukor::Refusal>(())
+/// ```
+pub fn to_columns(file: &[u8]) -> Result<Vec<u8>, Refusal> {
+    rearranged_by(boundary::columns::to_columns, file)
+}
+
+/// The tree file that a rearranged file comes from: its own bytes.
+///
+/// ```
+/// use tezhukor::Refusal;
+/// assert_eq!(tezhukor::from_columns(&[0, 1, 52, 0, 0, 0, 0, 7]), Ok(vec![0, 1, 26, 0, 0, 0, 0, 7]));
+/// // A first form below 0, which comes before what is wrong with the attributes.
+/// assert_eq!(tezhukor::from_columns(&[0, 1, 1, 9, 0, 0, 0, 0]), Err(Refusal::Restored));
+/// ```
+pub fn from_columns(columns: &[u8]) -> Result<Vec<u8>, Refusal> {
+    rearranged_by(boundary::columns::from_columns, columns)
+}
+
+fn rearranged_by(rearrange: fn(&[u8], &mut [u8]) -> u32, file: &[u8]) -> Result<Vec<u8>, Refusal> {
+    let mut bytes = vec![0; file_bytes(MOST_NODES)];
+    let length = boundary::done(rearrange(file, &mut bytes))?;
+    bytes.truncate(length.into());
+    Ok(bytes)
 }
 
 /// The tree file of a token list's reading in a context.

@@ -8,8 +8,9 @@ macro_rules! refusals {
     ($($number:literal $name:ident $sentence:literal,)*) => {
         /// Why something was refused. Of several reasons the first by number is told, but
         /// that a token list is refused for its context, [`Refusal::NotPlain`], before its
-        /// buffer, and that an edit tells all reasons of the sheet before those of the second
-        /// tree, and [`Refusal::Buffer`] last.
+        /// buffer, that an edit tells all reasons of the sheet before those of the second
+        /// tree, and [`Refusal::Buffer`] last, and that of a rearranged file
+        /// [`Refusal::Restored`] is told straight after [`Refusal::Body`].
         #[derive(Copy, Clone, PartialEq, Eq, PartialOrd, Ord, Hash, Debug)]
         #[repr(u16)]
         pub enum Refusal {
@@ -49,15 +50,16 @@ refusals! {
     16 ReadingTooLarge "The reading needs more than 4,096 nodes, or a path of more than 128.",
     17 NamedNode "The named node is absent or is no expression.",
     18 EditedTree "The edited tree would have more than 4,096 nodes, a path of more than 128, or a closure with a written output over another body than a block without attributes and label.",
+    19 Restored "A form or operand restored from the columns falls outside 0 to 65,535.",
 }
 
 impl Refusal {
-    /// The reply number, 1 to 18.
+    /// The reply number, 1 to 19.
     pub fn number(self) -> u16 {
         self as u16
     }
 
-    /// The refusal with a reply number; none for 0 and above 18.
+    /// The refusal with a reply number; none for 0 and above 19.
     pub fn numbered(number: u16) -> Option<Refusal> {
         Refusal::ALL.into_iter().find(|refusal| refusal.number() == number)
     }

@@ -88,8 +88,12 @@ pub struct Tree {
 impl Tree {
     /// Loads a tree file.
     pub fn load(file: &[u8]) -> Result<Tree, Refusal> {
+        Tree::loaded_by(boundary::load, file)
+    }
+
+    fn loaded_by(load: fn(&[u8], &mut [u16]) -> u32, file: &[u8]) -> Result<Tree, Refusal> {
         let mut cells = vec![0; MOST_CELLS];
-        let done = boundary::done(boundary::load(file, &mut cells))?;
+        let done = boundary::done(load(file, &mut cells))?;
         let (context, count) = boundary::header(done);
         cells.truncate(NODE_CELLS * usize::from(count));
         Ok(Tree { context, cells })
@@ -166,6 +170,29 @@ impl Tree {
         // The table is accepted and the buffer long enough: nothing is refused.
         file.truncate(boundary::done(reply).map_or(0, usize::from));
         file
+    }
+
+    /// Loads a rearranged file ([`crate::to_columns`]).
+    ///
+    /// ```
+    /// use tezhukor::{Refusal, Tree};
+    /// // a + b
+    /// let tree = Tree::load(&[0, 3, 5, 0, 0, 2, 3, 0, 26, 0, 0, 0, 0, 1, 26, 0, 0, 0, 0, 2])?;
+    /// assert_eq!(Tree::from_columns(&tree.to_columns())?, tree);
+    /// // The same bytes are a Block as a tree file and an Async as a rearranged one.
+    /// let bytes = [0, 1, 6, 0, 0, 0, 0, 0];
+    /// assert_ne!(Tree::load(&bytes)?, Tree::from_columns(&bytes)?);
+    /// # Ok::<(), tezhukor::Refusal>(())
+    /// ```
+    pub fn from_columns(columns: &[u8]) -> Result<Tree, Refusal> {
+        Tree::loaded_by(boundary::columns::load_columns, columns)
+    }
+
+    /// The rearranged file of the tree: that of its file, so one for each context and tree,
+    /// however its nodes are numbered here.
+    pub fn to_columns(&self) -> Vec<u8> {
+        // What is saved is accepted.
+        crate::to_columns(&self.to_file()).unwrap_or_default()
     }
 
     /// The tree with its nodes numbered as in its file: equal for trees that are equal

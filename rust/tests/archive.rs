@@ -8,7 +8,7 @@
 
 use model::accept;
 use model::generate::{Dice, Draft, Family, Order};
-use model::lent::Lent;
+use model::lent::{told, Lent};
 use model::sizes::*;
 use model::table::{self, NodeTable, ATTRIBUTES, DETAIL, FORM, SECOND, SYMBOL};
 use std::cmp::Ordering;
@@ -34,11 +34,7 @@ fn meant(table: &NodeTable) -> Result<Vec<u8>, u16> {
 fn save(table: &NodeTable, length: usize, meant: &Result<Vec<u8>, u16>) {
     let mut file = Lent::new(length);
     let reply = boundary::save(table.context, table.count, &table.cells, file.lend(length));
-    let (number, stored) = match meant {
-        Ok(bytes) if bytes.len() <= length => (bytes.len() as u32, &bytes[..]),
-        Ok(_) => (12 * REFUSAL_UNIT, &[][..]),
-        Err(refusal) => (REFUSAL_UNIT * u32::from(*refusal), &[][..]),
-    };
+    let (number, stored) = told(meant, length);
     assert_eq!(reply, number, "{table:?}");
     assert_eq!(file.take(stored.len()).as_deref(), Some(stored), "{table:?}");
 }

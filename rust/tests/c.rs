@@ -28,6 +28,8 @@ fn example() {
         "read back the same",
         "refused 15, read 1 node",
         "saved 32 bytes, compared 1",
+        "stored 32 bytes, put back the same, loaded alike",
+        "refused 19",
         "level 11, lean 0",
         "refused 12",
         "refused 2",

@@ -1,6 +1,7 @@
 //! The recorded answers of `crates/recorded/data`, asked through this crate: files by
 //! `tools/record_files.py`, rows and callees by prettyplease's own files, readings and tokens by
-//! `tools/readings`, saved files and orders by `tools/record_archive.py`.
+//! `tools/readings`, saved files and orders by `tools/record_archive.py`, rearranged files by
+//! `tools/record_columns.py`.
 
 use model::callee::{apart, Apart};
 use model::lent::{Cell, Lent};
@@ -142,6 +143,30 @@ fn saves() {
         holds(file, &record.written);
     }
     println!("saves {}, different 0", records.len());
+}
+
+#[test]
+fn columns() {
+    use boundary::columns::{from_columns, to_columns};
+    let ways: [(_, fn(&[u8], &mut [u8]) -> u32); 2] =
+        [("columns", to_columns), ("restored", from_columns)];
+    for (name, rearrange) in ways {
+        let records = records(name);
+        for record in &records {
+            let mut file = Lent::new(record.lent);
+            assert_eq!(rearrange(&record.bytes, file.lend(record.lent)), reply(record));
+            holds(file, &record.written);
+            if name == "restored" && record.refusal != 12 {
+                let tree = Tree::from_columns(&record.bytes).map_err(Refusal::number);
+                let meant = match record.refusal {
+                    0 => Ok(Tree::load(&record.written).expect("a tree file")),
+                    refusal => Err(refusal),
+                };
+                assert_eq!(tree, meant);
+            }
+        }
+        println!("{name} {}, different 0", records.len());
+    }
 }
 
 #[test]

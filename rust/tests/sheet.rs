@@ -510,6 +510,92 @@ fn archive() {
     let _ = std::fs::remove_dir_all(&folder.0);
 }
 
+/// Files packed for the store and put back, many at once; none is written over.
+#[test]
+fn packed() {
+    let folder = Scratch::new("packed");
+    std::fs::create_dir_all(folder.0.join("inside")).expect("a folder");
+    let at = |name: &str| folder.0.join(name).to_str().expect("text").to_string();
+    let read = |name: &str| std::fs::read(at(name)).expect("a file");
+    let names = ["curve.tree", "turned", "inside/limit.tree"];
+    let turned = [0, 3, 5, 0, 0, 3, 2, 0, 20, 0, 0, 0, 0, 0, 26, 0, 0, 0, 0, 0];
+    let trees =
+        [tree_of("offset - (station - start)"), turned.to_vec(), tree_of("f((a as T) < b, -c)")];
+    for (name, tree) in names.iter().zip(&trees) {
+        std::fs::write(at(name), tree).expect("a file");
+    }
+    assert_eq!(printed(&["pack", folder.name()], b"", 0), "packed 3 of 3\n");
+    for (name, tree) in names.iter().zip(&trees) {
+        let columns = at(&format!("{name}.columns"));
+        assert_eq!(std::fs::read(&columns).ok(), tezhukor::to_columns(tree).ok());
+        // A rearranged file stands for its tree by its name.
+        let show = |file: &str| printed(&["show", file], b"", 0);
+        assert_eq!(show(&columns), show(&at(name)));
+        assert_eq!(printed(&["compare", &columns, &at(name)], b"", 0), "equal\n");
+        assert_eq!(printed(&["doubles", &columns, &at(name)], b"", 0).lines().count(), 2);
+        std::fs::remove_file(at(name)).expect("a file");
+    }
+    // Put back they have their own bytes, whatever numbers the nodes have.
+    assert_eq!(printed(&["unpack", folder.name()], b"", 0), "unpacked 3 of 3\n");
+    assert!(names.iter().zip(&trees).all(|(name, tree)| read(name) == *tree));
+    assert_eq!(sheet(&["pack", "-"], &turned).stdout, read("turned.columns"));
+    assert_eq!(sheet(&["unpack", "-"], &read("turned.columns")).stdout, turned);
+
+    // What is there stays, and the others are packed.
+    let [curve, limit] = [at("curve.tree"), at("inside/limit.tree")];
+    std::fs::write(at("curve.tree.columns"), b"kept").expect("a file");
+    std::fs::remove_file(at("inside/limit.tree.columns")).expect("a file");
+    let output = sheet(&["pack", &curve, &limit], b"");
+    assert_eq!(output.status.code(), Some(2));
+    assert_eq!(String::from_utf8_lossy(&output.stdout), "packed 1 of 2\n");
+    let told =
+        format!("sheet: {curve}.columns: is there, and stays as it is; --overwrite replaces it\n");
+    assert_eq!(String::from_utf8_lossy(&output.stderr), told);
+    assert_eq!(read("curve.tree.columns"), b"kept");
+    for option in [["--overwrite", &curve], [&curve, "--overwrite"]] {
+        assert_eq!(printed(&["pack", option[0], option[1]], b"", 0), "packed 1 of 1\n");
+        assert_eq!(sheet(&["unpack", "-"], &read("curve.tree.columns")).stdout, trees[0]);
+    }
+    // Nothing else is left.
+    assert_eq!(std::fs::read_dir(&folder.0).expect("a folder").count(), 5);
+
+    // A kind of file by its name, a refused file, and one that is not there.
+    let no = printed(&["pack", &at("turned.columns")], b"", 2);
+    assert!(no.ends_with("turned.columns: a rearranged file by its name\n"), "{no}");
+    let no = printed(&["unpack", &at("turned")], b"", 2);
+    assert!(no.ends_with("turned: no rearranged file by its name\n"), "{no}");
+    std::fs::write(at("bad.columns"), [0, 1, 1, 0, 0, 0, 0, 0]).expect("a file");
+    let no = printed(&["unpack", &at("bad.columns")], b"", 1);
+    let outside = "bad.columns: refused (19) at node 1, form: A form or operand restored from \
+                   the columns falls outside 0 to 65,535.\n";
+    assert!(no.ends_with(outside), "{no}");
+    assert!(!folder.0.join("bad").exists());
+    let no = printed(&["pack", "/nowhere/at/all"], b"", 2);
+    assert!(no.starts_with("sheet: /nowhere/at/all: "), "{no}");
+    let _ = std::fs::remove_dir_all(&folder.0);
+}
+
+/// Where a rearranged file is wrong.
+#[test]
+fn refused_columns() {
+    let place = |file: &[u8]| {
+        let told = printed(&["unpack", "-"], file, 1);
+        told.split(": ").nth(2).expect("a place").to_string()
+    };
+    // A call of a name, by columns.
+    let columns = [0, 2, 16, 36, 0, 0, 0, 0, 1, 0, 0, 0, 0, 0];
+    let with = |at: usize, bytes: &[u8]| [&columns[..at], bytes, &columns[at + 1..]].concat();
+    assert_eq!(place(&[]), "refused (2) at byte 0");
+    assert_eq!(place(&with(0, &[4])), "refused (3) with context 4");
+    assert_eq!(place(&columns[..11]), "refused (5) at node 2, second operand, byte 11");
+    assert_eq!(place(&with(13, &[0, 0])), "refused (5) behind the last node");
+    assert_eq!(place(&with(3, &[17])), "refused (19) at node 2, form");
+    assert_eq!(place(&with(8, &[0xFF, 0xFF, 3])), "refused (19) at node 1, first operand");
+    assert_eq!(place(&with(5, &[3])), "refused (6) at node 2");
+    assert_eq!(place(&with(8, &[0])), "refused (7) at node 1");
+    assert_eq!(place(&with(8, &[2])), "refused (8) at node 1");
+}
+
 /// Edits a file, and shows what comes of it with the names that it then has.
 fn edited(names: &Scratch, file: &[u8], node: &str, text: &str) -> (Vec<u8>, String) {
     let output = sheet(&["edit", "--names", names.name(), "-", node, text], file);
@@ -715,6 +801,8 @@ fn usage() {
         &["canonical"],
         &["compare", "a"],
         &["doubles"],
+        &["pack"],
+        &["unpack", "--overwrite"],
         &["edit", "a", "1"],
         &["preview", "a", "1", "b", "c"],
         &["edit", "--names", "a", "1", "b"],

@@ -171,6 +171,6 @@ fn sentences_agree() {
     }
     assert_eq!(MOST_TOKENS, TOKENS_PER_NODE * MOST_NODES);
     assert_eq!(codes::SPELLED.len(), usize::from(LAST_CODE) + 1);
-    assert_eq!(Refusal::numbered(LAST_REFUSAL), Some(Refusal::EditedTree));
+    assert_eq!(Refusal::numbered(LAST_REFUSAL), Some(Refusal::Restored));
     assert_eq!(Refusal::numbered(LAST_REFUSAL + 1), None);
 }

@@ -1,6 +1,18 @@
 //! Buffers that are lent, with a pattern in every cell and on both sides, so that each
 //! cell shows whether it was written to.
 
+use crate::sizes::REFUSAL_UNIT;
+
+/// The reply, and what is stored, where these bytes must be written and so many are lent: their
+/// number, 12, or the refusal.
+pub fn told(meant: &Result<Vec<u8>, u16>, lent: usize) -> (u32, &[u8]) {
+    match meant {
+        Ok(bytes) if bytes.len() <= lent => (bytes.len() as u32, bytes),
+        Ok(_) => (12 * REFUSAL_UNIT, &[]),
+        Err(refusal) => (REFUSAL_UNIT * u32::from(*refusal), &[]),
+    }
+}
+
 /// Cells on each side of those that can be lent.
 const SPARE: usize = 64;
 

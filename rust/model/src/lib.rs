@@ -6,7 +6,8 @@
 //!
 //! - [`sizes`], [`contexts`], [`forms`], [`codes`] and [`precedence`] are tables; the crate
 //!   `tezhukor` takes them from here.
-//! - [`table`] and [`accept`] are node tables, tree files and their refusals.
+//! - [`table`] and [`accept`] are node tables, tree files and their refusals; [`columns`]
+//!   are rearranged files.
 //! - [`rules`], [`chart`] and [`verdict`] are the plain grammar: all readings of a
 //!   token list, found by cutting it. [`written`] says what is written for a tree, and
 //!   [`commas`] where commas stand that may follow a last item.
@@ -20,6 +21,7 @@ pub mod accept;
 pub mod callee;
 pub mod chart;
 pub mod codes;
+pub mod columns;
 pub mod commas;
 pub mod contexts;
 pub mod edit;

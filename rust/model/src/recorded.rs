@@ -26,14 +26,14 @@ pub fn u16s(bytes: &[u8]) -> Vec<u16> {
 }
 
 /// How many bytes a recording has for each that its counts count: those of the cells of a
-/// node, a row or a token, one of a file that is saved, and none of an order, which is the
-/// count itself.
+/// node, a row or a token, one of a file that is saved, rearranged or put back, and none of an
+/// order, which is the count itself.
 fn each(name: &str) -> usize {
     match name {
         "files" | "readings" => 2 * NODE_CELLS,
         "rows" | "callees" => 2 * ROW_CELLS,
         "tokens" => 2 * TOKEN_CELLS,
-        "saves" => 1,
+        "saves" | "columns" | "restored" => 1,
         "orders" => 0,
         _ => unreachable!("{name} is no recording"),
     }

@@ -37,7 +37,7 @@ pub const LAST_CODE: u16 = 46;
 pub const LAST_CONTEXT: u16 = 3;
 
 /// The last refusal.
-pub const LAST_REFUSAL: u16 = 18;
+pub const LAST_REFUSAL: u16 = 19;
 
 /// A reply of one number is the refusal times this, or without one what was done.
 pub const REFUSAL_UNIT: u32 = 65_536;
@@ -45,8 +45,8 @@ pub const REFUSAL_UNIT: u32 = 65_536;
 /// The reply to a file that is loaded is its context times this, and the count.
 pub const CONTEXT_UNIT: u16 = 8_192;
 
-/// The most bytes of an accepted table's header in its file: one for the context, two for
-/// the count.
+/// The most bytes of an accepted table's header in its file, rearranged or not: one for the
+/// context, two for the count.
 pub const HEADER_BYTES: usize = 3;
 
 /// The most bytes of a node there: one for each of form, attributes and detail, two for each

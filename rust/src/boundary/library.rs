@@ -1,4 +1,4 @@
-//! The exports of the static libraries: of `answers` the first ten, of
+//! The exports of the static libraries: of `answers` the first thirteen, of
 //! `answers_asked` the others. They are declared here only.
 
 extern "C" {
@@ -97,6 +97,27 @@ extern "C" {
         table_length: usize,
         rows: *mut u16,
         rows_length: usize,
+    ) -> u32;
+
+    pub fn tezhukor_to_columns(
+        file: *const u8,
+        file_length: usize,
+        columns: *mut u8,
+        columns_length: usize,
+    ) -> u32;
+
+    pub fn tezhukor_from_columns(
+        columns: *const u8,
+        columns_length: usize,
+        file: *mut u8,
+        file_length: usize,
+    ) -> u32;
+
+    pub fn tezhukor_load_columns(
+        columns: *const u8,
+        columns_length: usize,
+        table: *mut u16,
+        table_length: usize,
     ) -> u32;
 
     pub fn tezhukor_decide_by_order(

@@ -5,6 +5,8 @@
 //! - save: the table that it holds into a buffer with room for as many bytes as so many
 //!   nodes can take.
 //! - compare: the file with itself, so that all of it is read; both are checked.
+//! - to_columns, from_columns: the file rearranged, and put back, into such a buffer.
+//! - load_columns: the rearranged file into a table of the most nodes.
 //! - write: the table's tokens, of sets whose trees are all plain.
 //! - read: these tokens into a table of the most nodes, on the stack of the caller.
 //!
@@ -15,14 +17,17 @@ use crate::sets::{Set, SETS};
 use crate::{instructions, quartiles, ROUNDS, ROUND_NANOSECONDS};
 use model::sizes::{file_bytes, MOST_CELLS, NODE_CELLS, TOKEN_CELLS, TOKEN_CELLS_PER_NODE};
 use model::written::without_parens;
-use model::{table, NodeTable};
+use model::{columns, table, NodeTable};
 use std::hint::black_box;
 use tezhukor::boundary;
+use tezhukor::boundary::columns::{from_columns, load_columns, to_columns};
 
-/// A tree with its file, and the cells of its tokens; none where it is not plain.
+/// A tree with its file, as it is and rearranged, and the cells of its tokens; none where it
+/// is not plain.
 struct Filed {
     table: NodeTable,
     file: Vec<u8>,
+    columns: Vec<u8>,
     tokens: Vec<u16>,
 }
 
@@ -33,8 +38,10 @@ struct Lent {
     tokens: Vec<u16>,
 }
 
-/// What is asked of a tree.
-const SIDES: [(&str, fn(&Filed, &mut Lent) -> u32); 5] = [
+/// A name, and what is asked of a tree.
+type Side = (&'static str, fn(&Filed, &mut Lent) -> u32);
+
+const SIDES: [Side; 8] = [
     ("load", |tree, lent| boundary::load(&tree.file, &mut lent.cells)),
     ("save", |tree, lent| {
         let NodeTable { context, count, cells } = &tree.table;
@@ -42,6 +49,9 @@ const SIDES: [(&str, fn(&Filed, &mut Lent) -> u32); 5] = [
         boundary::save(*context, *count, cells, &mut lent.bytes[..room])
     }),
     ("compare", |tree, _| boundary::compare(&tree.file, &tree.file)),
+    ("to_columns", |tree, lent| to_columns(&tree.file, &mut lent.bytes)),
+    ("from_columns", |tree, lent| from_columns(&tree.columns, &mut lent.bytes)),
+    ("load_columns", |tree, lent| load_columns(&tree.columns, &mut lent.cells)),
     ("write", |tree, lent| write(&tree.table, &mut lent.tokens)),
     ("read", |tree, lent| boundary::read_here(tree.table.context, &tree.tokens, &mut lent.cells)),
 ];
@@ -49,10 +59,13 @@ const SIDES: [(&str, fn(&Filed, &mut Lent) -> u32); 5] = [
 const LOAD: usize = 0;
 const SAVE: usize = 1;
 const COMPARE: usize = 2;
+const TO_COLUMNS: usize = 3;
+const FROM_COLUMNS: usize = 4;
+const LOAD_COLUMNS: usize = 5;
 
 /// The sides from here on are for plain trees.
-const WRITE: usize = 3;
-const READ: usize = 4;
+const WRITE: usize = 6;
+const READ: usize = 7;
 
 fn write(tree: &NodeTable, tokens: &mut [u16]) -> u32 {
     let NodeTable { context, count, cells } = tree;
@@ -80,7 +93,7 @@ impl Asked {
         let mut filed = |table: NodeTable| {
             let written = boundary::done(write(&table, &mut lent.tokens)).unwrap_or(0);
             let tokens = lent.tokens[..TOKEN_CELLS * usize::from(written)].to_vec();
-            Filed { file: table::write(&table), tokens, table }
+            Filed { file: table::write(&table), columns: columns::write(&table), tokens, table }
         };
         let trees: Vec<Filed> = tables.into_iter().map(&mut filed).collect();
         let plain = trees.iter().all(|tree| !tree.tokens.is_empty());
@@ -109,18 +122,26 @@ impl Asked {
         clock.nanoseconds()
     }
 
-    /// Stops unless each file is loaded as its table, saved as the numbered one and equal to
-    /// itself, and a plain tree's tokens are read as the tree without its own parentheses.
+    /// Stops unless each file is loaded as its table, saved as the numbered one, equal to
+    /// itself, rearranged and put back, and a plain tree's tokens are read as the tree without
+    /// its own parentheses.
     fn check(&mut self) {
         let Asked { trees, lent, sides, .. } = self;
         for tree in trees {
             let done = |side: usize, lent: &mut Lent| {
                 usize::from(boundary::done(SIDES[side].1(tree, lent)).expect("accepted"))
             };
-            done(LOAD, lent);
-            assert_eq!(lent.cells[..tree.table.cells.len()], tree.table.cells[..]);
-            let bytes = done(SAVE, lent);
-            assert_eq!(lent.bytes[..bytes], table::write(&tree.table.numbered())[..]);
+            for side in [LOAD, LOAD_COLUMNS] {
+                lent.cells.fill(0);
+                done(side, lent);
+                assert_eq!(lent.cells[..tree.table.cells.len()], tree.table.cells[..]);
+            }
+            let saved = table::write(&tree.table.numbered());
+            let files = [(SAVE, &saved), (TO_COLUMNS, &tree.columns), (FROM_COLUMNS, &tree.file)];
+            for (side, meant) in files {
+                let bytes = done(side, lent);
+                assert_eq!(lent.bytes[..bytes], meant[..]);
+            }
             assert_eq!(done(COMPARE, lent), 1);
             if *sides > WRITE {
                 let cells = NODE_CELLS * done(READ, lent);
@@ -170,8 +191,10 @@ pub fn run_files(set: &Set, side: usize) {
 
 fn heading(unit: &str) {
     let sides = SIDES.map(|(name, _)| name).join(" | ");
-    println!("| {unit} a node | trees | nodes | {sides} | save / load | compare / load |");
-    println!("|---|{}", "---:|".repeat(4 + SIDES.len()));
+    println!(
+        "| {unit} a node | trees | nodes | {sides} | save / load | compare / load | load_columns / load |"
+    );
+    println!("|---|{}", "---:|".repeat(5 + SIDES.len()));
 }
 
 fn line(asked: &Asked, rounds: &[Vec<f64>]) {
@@ -183,10 +206,6 @@ fn line(asked: &Asked, rounds: &[Vec<f64>]) {
     let sides: Vec<String> = (0..SIDES.len()).map(side).collect();
     let ratio = |side: usize| format!("{:.2}", median(&|round| round[side] / round[LOAD]));
     let (name, trees, nodes) = (asked.name, asked.trees.len(), asked.nodes());
-    println!(
-        "| {name} | {trees} | {nodes} | {} | {} | {} |",
-        sides.join(" | "),
-        ratio(SAVE),
-        ratio(COMPARE)
-    );
+    let ratios = [SAVE, COMPARE, LOAD_COLUMNS].map(ratio);
+    println!("| {name} | {trees} | {nodes} | {} | {} |", sides.join(" | "), ratios.join(" | "));
 }

@@ -4,12 +4,13 @@
 //!     cargo run --release                         nanoseconds a node
 //!     cargo run --release -- turns                the same, with cold trees
 //!     cargo run --release -- instructions         instructions a node, with valgrind
-//!     cargo run --release -- files                load, save, compare, write and read (files.rs)
+//!     cargo run --release -- files                what takes and gives files and tokens (files.rs)
 //!     cargo run --release -- files instructions   the same, with valgrind
 //!     cargo run --release -- edits                instructions of an edit, with valgrind (edits.rs)
 //!     cargo run --release -- nests [FOLDER]       nests of 4 to 126 levels
 //!     cargo run --release -- slowest [FOLDER]     the slowest trees that a search finds
 //!     cargo run --release -- reads FILE..         reads of the table a node, with valgrind
+//!     cargo run --release -- archive FOLDER       tree files for tools/store.py (archive.rs)
 //!     cargo run --release -- run SET SIDE TIMES   what valgrind and perf look at
 //!
 //! Inside the timing of each side, for one tree:
@@ -43,6 +44,7 @@
 //! less. In a round all sides take turns; the medians of the rounds' times and of
 //! the rounds' ratios count.
 
+mod archive;
 mod clock;
 mod edits;
 mod files;
@@ -73,6 +75,7 @@ fn main() -> ExitCode {
             Some(set) => files::run_files(set, number(side)),
             None => return usage(),
         },
+        ["archive", folder] => archive::write(folder),
         ["edits"] => edits::count_edits(),
         ["edits", "run", size, side] => edits::run_edits(number(size), number(side)),
         ["nests"] => nests::time_nests(None),
@@ -98,7 +101,7 @@ fn main() -> ExitCode {
 }
 
 fn usage() -> ExitCode {
-    eprintln!("usage: bench [turns | instructions | files [instructions] | edits | nests [FOLDER] | slowest [FOLDER] | reads FILE.. | run SET SIDE TIMES], sets and sides from 0 on");
+    eprintln!("usage: bench [turns | instructions | files [instructions] | edits | nests [FOLDER] | slowest [FOLDER] | reads FILE.. | archive FOLDER | run SET SIDE TIMES], sets and sides from 0 on");
     ExitCode::FAILURE
 }
 

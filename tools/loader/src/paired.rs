@@ -1,12 +1,11 @@
 //! Files that two refusals apply to, each beside each later one.
 
+use crate::kinds::Kind;
+use model::columns::RESTORED;
 use model::forms::{BLOCK, CALL, CAST, CLOSURE, LINK, PATH, TYPE_PATH};
 use model::generate::Dice;
 use model::sizes::{MOST_FILE_BYTES, MOST_LEVELS, MOST_NODES, NODE_CELLS};
 use model::table::{self, NodeTable, ATTRIBUTES, DETAIL, FIRST, FORM, SECOND};
-
-/// The refusals of a file.
-const REFUSALS: std::ops::RangeInclusive<u16> = 1..=11;
 
 /// A call of this tree on two more: `path as Type`, which 9 can speak of, and a closure with a
 /// written output over a plain Block, which 10 can.
@@ -30,25 +29,35 @@ fn with_more(tree: &NodeTable) -> NodeTable {
     NodeTable { context: tree.context, count: count + 8, cells }
 }
 
-/// Each refusal beside each that is not earlier, in the file of a tree; those that the tree
-/// leaves no room for are left out.
-pub fn refused_twice(tree: &NodeTable, dice: &mut Dice) -> Vec<(String, Vec<u8>)> {
+/// A file, and what it is.
+pub struct Made {
+    pub file: Vec<u8>,
+    pub what: String,
+    /// The refusal that is meant, if one is.
+    pub meant: Option<u16>,
+}
+
+/// Each refusal beside each that is not told before it, in the file of a tree; those that the
+/// tree leaves no room for are left out.
+pub fn refused_twice(kind: Kind, tree: &NodeTable, dice: &mut Dice) -> Vec<Made> {
     if usize::from(tree.count) + MOST_LEVELS + 9 > MOST_NODES {
         return Vec::new();
     }
     let tree = with_more(tree);
-    let mut found = vec![("no refusal".to_string(), table::write(&tree))];
-    for first in REFUSALS {
-        for second in first..=*REFUSALS.end() {
-            let file = refused_by(&tree, &[first, second], dice);
-            found.push((format!("{first} and {second}"), file));
+    let what = "no refusal".to_string();
+    let mut found = vec![Made { file: kind.write(&tree), what, meant: None }];
+    for (at, &first) in kind.refusals().iter().enumerate() {
+        for &second in &kind.refusals()[at..] {
+            let file = refused_by(kind, &tree, &[first, second], dice);
+            let what = format!("{first} and {second}");
+            found.push(Made { file, what, meant: Some(first) });
         }
     }
     found
 }
 
 /// The file of a tree that these refusals apply to.
-fn refused_by(tree: &NodeTable, refusals: &[u16], dice: &mut Dice) -> Vec<u8> {
+fn refused_by(kind: Kind, tree: &NodeTable, refusals: &[u16], dice: &mut Dice) -> Vec<u8> {
     let is = |refusal: u16| refusals.contains(&refusal);
     let mut tree = if is(11) { tree.in_parens(MOST_LEVELS as u16) } else { tree.clone() };
     let nodes = tree.cells.len() / NODE_CELLS;
@@ -61,8 +70,12 @@ fn refused_by(tree: &NodeTable, refusals: &[u16], dice: &mut Dice) -> Vec<u8> {
         tree.cells[cell(2, DETAIL)] = 0;
     }
     if is(8) {
-        let number = dice.pick(&[1, nodes as u16 + 1, tree.cells[cell(4, FIRST)] - 1]);
-        tree.cells[cell(4, FIRST)] = number;
+        let [owner, closure, above] = [nodes - 4, nodes - 1, nodes + 1].map(|number| number as u16);
+        // No distance is held for an operand that is not above its owner.
+        tree.cells[cell(4, FIRST)] = match kind {
+            Kind::Tree => dice.pick(&[1, above, owner]),
+            Kind::Columns => dice.pick(&[above, u16::MAX, closure]),
+        };
     }
     if is(7) {
         tree.cells[cell(5, FIRST)] = 0;
@@ -77,7 +90,11 @@ fn refused_by(tree: &NodeTable, refusals: &[u16], dice: &mut Dice) -> Vec<u8> {
     if is(3) {
         tree.context = dice.pick(&[4, 127, 128, u16::MAX]);
     }
-    let mut file = table::write(&tree);
+    let mut numbers = kind.numbers(&tree);
+    if is(RESTORED) {
+        outside(&mut numbers, dice);
+    }
+    let mut file = table::write(&numbers);
     if is(5) {
         match dice.below(3) {
             0 => file.push(0),
@@ -86,10 +103,25 @@ fn refused_by(tree: &NodeTable, refusals: &[u16], dice: &mut Dice) -> Vec<u8> {
         }
     }
     if is(2) {
-        file.splice(..1, dice.pick(&[[0x80, 0], [0xFF, 0x80]]));
+        let malformed: [&[u8]; 2] = [&[0x80, 0], &[0xFF, 0xFF, 0x7F]];
+        file.splice(..1, dice.pick(&malformed).iter().copied());
     }
     if is(1) {
         file.resize(MOST_FILE_BYTES + 1 + dice.below(3), 0);
     }
     file
+}
+
+/// Makes one of the numbers that columns hold fall outside: a form below 0 or, of the third
+/// node or a later one, above 65,535, or an operand above 65,535.
+fn outside(held: &mut NodeTable, dice: &mut Dice) {
+    let nodes = held.cells.len() / NODE_CELLS;
+    let node = dice.below(nodes);
+    match dice.below(4) {
+        0 => held.cells[node] = u16::MAX,
+        1 => held.cells[node.min(nodes - 3)..][..3].fill(u16::MAX - 1),
+        operand => {
+            held.cells[(operand + 1) * nodes + node] = u16::MAX - dice.below(node + 1) as u16
+        }
+    }
 }

@@ -24,6 +24,34 @@ pub fn damage(table: &NodeTable, dice: &mut Dice) -> Damaged {
     }
 }
 
+/// Damages a file of a header and numbers, whatever these stand for.
+#[allow(dead_code)] // not by all that take this file
+pub fn in_file(numbers: &NodeTable, dice: &mut Dice) -> Damaged {
+    match dice.below(12) {
+        0..=3 => in_numbers(numbers, dice),
+        4..=7 => in_any_number(numbers, dice),
+        8 => in_bytes(numbers, dice),
+        9 => malformed(numbers, dice),
+        _ => at_end(numbers, dice),
+    }
+}
+
+/// Another number for one or two of them, a near one or any.
+fn in_any_number(numbers: &NodeTable, dice: &mut Dice) -> Damaged {
+    let mut numbers = numbers.clone();
+    for _ in 0..dice.pick(&[1, 1, 2]) {
+        let at = dice.below(numbers.cells.len());
+        let (old, bits) = (numbers.cells[at], dice.between(1, 16));
+        numbers.cells[at] = match dice.below(4) {
+            0 => old.wrapping_add(dice.pick(&[1, 2])),
+            1 => old.wrapping_sub(dice.pick(&[1, 2])),
+            2 => dice.below(1 << bits) as u16,
+            _ => u16::MAX - dice.below(usize::from(numbers.count) + 2) as u16,
+        };
+    }
+    Damaged { file: table::write(&numbers), meant: None }
+}
+
 /// Other numbers in the header, in one node or in two.
 fn in_numbers(table: &NodeTable, dice: &mut Dice) -> Damaged {
     let mut table = table.clone();

@@ -1,6 +1,7 @@
 //! What a command answers.
 
 use crate::USAGE;
+use std::ffi::OsStr;
 use tezhukor::Refusal;
 
 /// Output, message for people, and exit status.
@@ -20,6 +21,17 @@ impl Answer {
     /// Refused, in words.
     pub fn refused(message: String) -> Answer {
         Answer { output: Vec::new(), message: format!("sheet: {message}\n"), status: 1 }
+    }
+
+    /// Refused, in words, with the file's name.
+    pub fn refused_file(file: &OsStr, words: &str) -> Answer {
+        Answer::refused(format!("{}: {words}", file.to_string_lossy()))
+    }
+
+    /// Tells what came of one file among others.
+    pub fn tells(&mut self, of_file: Answer) {
+        self.message += &of_file.message;
+        self.status = self.status.max(of_file.status);
     }
 
     /// Wrong usage, or a file that cannot be read or written.

@@ -1,12 +1,19 @@
-//! Where a refused tree file is wrong. The refusal is the library's; this only looks
-//! for the place that it speaks of.
+//! Where a refused file is wrong. The refusal is the library's; this only looks for the
+//! place that it speaks of.
 
+use crate::kind::Kind;
+use model::columns::{self, Outside};
+use model::NodeTable;
 use tezhukor::forms::{self, Class, Place};
 use tezhukor::sizes::{MOST_LEVELS, NODE_CELLS};
 use tezhukor::{Node, Refusal};
 
+/// The numbers of a node, as a rearranged file has a column for each.
+const COLUMNS: [&str; NODE_CELLS] =
+    ["form", "attributes", "detail", "first operand", "second operand", "symbol"];
+
 /// The place that a refusal of a file speaks of, in words.
-pub fn place(refusal: Refusal, file: &[u8]) -> String {
+pub fn place(kind: Kind, refusal: Refusal, file: &[u8]) -> String {
     let (numbers, malformed) = numbers(file);
     let number = |at: usize| numbers.get(at).map_or("absent".to_string(), u16::to_string);
     match refusal {
@@ -14,12 +21,25 @@ pub fn place(refusal: Refusal, file: &[u8]) -> String {
         Refusal::Header => format!(" at byte {malformed}"),
         Refusal::Context => format!(" with context {}", number(0)),
         Refusal::Count => format!(" with count {}", number(1)),
-        Refusal::Body => body(&numbers, malformed),
-        _ => match node(refusal, &nodes(&numbers)) {
-            Some(node) => format!(" at node {node}"),
-            None => String::new(),
+        Refusal::Body => body(kind, &numbers, malformed),
+        _ => match (kind, restored(&numbers)) {
+            (Kind::Columns, Err(Outside { column, node })) => {
+                format!(" at node {node}, {}", COLUMNS[column])
+            }
+            (Kind::Columns, Ok(restored)) => at_node(refusal, &nodes(&restored)),
+            (Kind::Tree, _) => at_node(refusal, &nodes(numbers.get(2..).unwrap_or(&[]))),
         },
     }
+}
+
+fn at_node(refusal: Refusal, nodes: &[Node]) -> String {
+    node(refusal, nodes).map_or(String::new(), |node| format!(" at node {node}"))
+}
+
+/// The cells of the nodes of a rearranged file, from its numbers.
+fn restored(numbers: &[u16]) -> Result<Vec<u16>, Outside> {
+    let cells = numbers.get(2..).unwrap_or(&[]).to_vec();
+    columns::restored(&NodeTable { context: 0, count: 0, cells }).map(|table| table.cells)
 }
 
 /// The numbers of a file up to the first that is malformed, and where that begins.
@@ -41,19 +61,23 @@ fn number(bytes: &[u8]) -> Option<(u16, usize)> {
     u16::try_from(value).ok().filter(|_| !is_padded).map(|number| (number, length))
 }
 
-fn body(numbers: &[u16], malformed: usize) -> String {
+fn body(kind: Kind, numbers: &[u16], malformed: usize) -> String {
     let count = numbers.get(1).copied().map_or(0, usize::from);
-    match numbers.len() < 2 + NODE_CELLS * count {
-        true => format!(
-            " at node {}, byte {malformed}",
-            numbers.len().saturating_sub(2) / NODE_CELLS + 1
-        ),
-        false => " behind the last node".to_string(),
+    let well_formed = numbers.len().saturating_sub(2);
+    if well_formed >= NODE_CELLS * count {
+        return " behind the last node".to_string();
+    }
+    match kind {
+        Kind::Tree => format!(" at node {}, byte {malformed}", well_formed / NODE_CELLS + 1),
+        Kind::Columns => {
+            let (column, node) = (COLUMNS[well_formed / count], well_formed % count + 1);
+            format!(" at node {node}, {column}, byte {malformed}")
+        }
     }
 }
 
-fn nodes(numbers: &[u16]) -> Vec<Node> {
-    numbers.get(2..).unwrap_or(&[]).chunks_exact(NODE_CELLS).map(Node::of_cells).collect()
+fn nodes(cells: &[u16]) -> Vec<Node> {
+    cells.chunks_exact(NODE_CELLS).map(Node::of_cells).collect()
 }
 
 /// The first node that a refusal from 6 to 11 speaks of.
@@ -168,7 +192,7 @@ mod tests {
     fn refused_nodes_are_found() {
         let (mut found, mut accepted) = (0, 0);
         for Record { bytes: file, .. } in records("files") {
-            let nodes = nodes(&numbers(&file).0);
+            let nodes = nodes(numbers(&file).0.get(2..).unwrap_or(&[]));
             match Tree::load(&file) {
                 Ok(_) => {
                     let blamed = Refusal::ALL.map(|refusal| node(refusal, &nodes));
@@ -179,7 +203,7 @@ mod tests {
                     assert!(node(refusal, &nodes).is_some(), "{refusal:?} {nodes:?}");
                     found += 1;
                 }
-                Err(refusal) => assert!(place(refusal, &file).len() < 60),
+                Err(refusal) => assert!(place(Kind::Tree, refusal, &file).len() < 60),
             }
         }
         assert!(found > 5_000 && accepted > 1_000, "{found} found, {accepted} accepted");

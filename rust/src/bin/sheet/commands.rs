@@ -1,8 +1,9 @@
 //! The commands.
 
 use crate::answer::{words, Answer};
+use crate::kind::Kind;
 use crate::names::Table;
-use crate::{blame, doubles, edits, lexer, locate, show, why, USAGE};
+use crate::{blame, doubles, edits, lexer, locate, pack, show, why, USAGE};
 use std::cmp::Ordering;
 use std::ffi::{OsStr, OsString};
 use std::fmt::Write;
@@ -22,8 +23,11 @@ pub fn run(arguments: &[OsString]) -> Result<Answer, Answer> {
     let Some((command, rest)) = arguments.split_first() else {
         return Err(Answer::usage());
     };
-    if command == "read" {
-        return read_by(rest);
+    match command.to_str() {
+        Some("read") => return read_by(rest),
+        Some("pack") => return pack::rearranged(Kind::Tree, rest),
+        Some("unpack") => return pack::rearranged(Kind::Columns, rest),
+        _ => {}
     }
     let (names, rest) = names_option(rest)?;
     match (command.to_str(), rest, names) {
@@ -162,14 +166,13 @@ fn check(file: &OsStr) -> Result<Answer, Answer> {
 
 /// How the first file stands to the second.
 fn compare(first: &OsStr, second: &OsStr) -> Result<Answer, Answer> {
-    let (one, two) = (tree_bytes(first)?, tree_bytes(second)?);
+    let (one, two) = (put_back(first)?, put_back(second)?);
     let order = tezhukor::cmp(&one, &two).map_err(|refusal| {
         let (file, bytes) = match Tree::load(&one) {
             Err(_) => (first, &one),
             Ok(_) => (second, &two),
         };
-        let place = blame::place(refusal, bytes);
-        Answer::refused(format!("{}: {}", file.to_string_lossy(), words(refusal, &place)))
+        Answer::refused_file(file, &blamed(Kind::Tree, refusal, bytes))
     })?;
     Ok(Answer::done(match order {
         Ordering::Less => "before\n",
@@ -178,18 +181,34 @@ fn compare(first: &OsStr, second: &OsStr) -> Result<Answer, Answer> {
     }))
 }
 
-/// Loads a tree file, or says what is wrong with it and where.
+/// Loads a tree file or a rearranged one, or says what is wrong with it and where.
 pub fn load(file: &OsStr) -> Result<Tree, Answer> {
     let bytes = tree_bytes(file)?;
-    loaded(&bytes).map_err(Answer::refused)
+    loaded(Kind::of(file), &bytes).map_err(Answer::refused)
 }
 
 /// The tree of a file's bytes, or what is wrong with them and where.
-pub fn loaded(bytes: &[u8]) -> Result<Tree, String> {
-    Tree::load(bytes).map_err(|refusal| words(refusal, &blame::place(refusal, bytes)))
+pub fn loaded(kind: Kind, bytes: &[u8]) -> Result<Tree, String> {
+    kind.load(bytes).map_err(|refusal| blamed(kind, refusal, bytes))
 }
 
-/// The bytes of a tree file, or of the beginning of one that is too long.
+/// A refusal of a file with the place that it speaks of.
+pub fn blamed(kind: Kind, refusal: Refusal, bytes: &[u8]) -> String {
+    words(refusal, &blame::place(kind, refusal, bytes))
+}
+
+/// The bytes of a tree file, or of the one that a rearranged file comes from.
+fn put_back(file: &OsStr) -> Result<Vec<u8>, Answer> {
+    let bytes = tree_bytes(file)?;
+    match Kind::of(file) {
+        Kind::Tree => Ok(bytes),
+        kind => kind
+            .rearranged(&bytes)
+            .map_err(|refusal| Answer::refused_file(file, &blamed(kind, refusal, &bytes))),
+    }
+}
+
+/// The bytes of a tree file or a rearranged one, or of the beginning of one that is too long.
 pub fn tree_bytes(file: &OsStr) -> Result<Vec<u8>, Answer> {
     bytes_of(file, FILE_BYTES)
 }

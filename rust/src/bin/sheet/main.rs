@@ -5,9 +5,13 @@ mod blame;
 mod commands;
 mod doubles;
 mod edits;
+mod kind;
 mod lexer;
 mod locate;
+mod many;
 mod names;
+mod open;
+mod pack;
 mod prevents;
 mod show;
 mod why;
@@ -43,15 +47,21 @@ sheet: where a printed Rust expression needs parentheses
   sheet doubles FILE..               the files that hold the same tree in the same
                                      context, a line each, with an empty line between
                                      trees; a folder stands for the files in it
+  sheet pack [--overwrite] FILE..    each tree file rearranged for the store, as
+                                     FILE.columns; a folder stands for the files in it;
+                                     - from standard input to standard output
+  sheet unpack [--overwrite] FILE..  each rearranged file put back, byte for byte: of
+                                     FILE.columns as FILE
 
-FILE is a tree file; - is standard input. NODE is a number, or the text of an operand
-that stands once in what is shown; its names, and those of TEXT, are the names shown,
-and `edit --names NAMES` adds a line to NAMES for each other one. Tree files hold a
-symbol, a number, for each name and literal, equal ones for equal names. A names file
-is the table of symbols, line n for symbol n: `read --names OUT` writes it to OUT, and
-`--names NAMES` takes names from such a file. Without a line names are called a, b,
-c .. (types A, B, C ..), literals 1, members 0; closed forms have `..` inside, and a
-struct, read as `Name { .. }` or `Name {}`, keeps no name.
+FILE is a tree file, or a rearranged one if its name ends in .columns; - is a tree file
+on standard input. Only with --overwrite is another file written over. NODE is a number,
+or the text of an operand that stands once in what is shown; its names, and those of
+TEXT, are the names shown, and `edit --names NAMES` adds a line to NAMES for each other
+one. Tree files hold a symbol, a number, for each name and literal, equal ones for equal
+names. A names file is the table of symbols, line n for symbol n: `read --names OUT`
+writes it to OUT, and `--names NAMES` takes names from such a file. Without a line names
+are called a, b, c .. (types A, B, C ..), literals 1, members 0; closed forms have `..`
+inside, and a struct, read as `Name { .. }` or `Name {}`, keeps no name.
 The first example:
 
   sheet read 'offset - (station - start)' > curve.tree
