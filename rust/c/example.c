@@ -57,14 +57,16 @@ int main(void) {
     if (tezhukor_decide(context, count, table, cells, rows, ROWS, scratch, SCRATCH) != 0) return 1;
     for (unsigned node = 1; node <= count; node++)
         if (rows[TEZHUKOR_ROW_CELLS * (node - 1)] & 1) printf("node %u needs a pair\n", node);
-    uint32_t written = tezhukor_write(context, count, table, cells, tokens, TOKENS);
+    uint64_t reply = tezhukor_write(context, count, table, cells, tokens, TOKENS);
+    uint32_t written = TEZHUKOR_TOKENS(reply);
+    if (TEZHUKOR_WRITE_REFUSAL(reply) != 0) return 1;
     printf("tokens");
     for (uint32_t at = 0; at < written; at++) {
         const uint16_t *token = &tokens[TEZHUKOR_TOKEN_CELLS * at];
         if (token[1] != 0) printf(" %s", names[token[1]]);
         else printf(" %u", (unsigned)token[0]);
     }
-    printf("\n");
+    printf(", pairs %u\n", (unsigned)TEZHUKOR_PAIRS(reply));
     uint32_t nodes = tezhukor_read(context, tokens, TEZHUKOR_TOKEN_CELLS * written, again, CELLS);
     int same = nodes == count && memcmp(table, again, 2 * cells) == 0;
     printf("read back %s\n", same ? "the same" : "another");

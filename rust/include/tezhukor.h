@@ -79,7 +79,7 @@ enum {
  * three for the symbol. */
 #define TEZHUKOR_FILE_BYTES(nodes) (3 + 10 * (size_t)(nodes))
 
-/* The refusal in a reply of load, save, compare, write, read, edit, preview and carry; 0 if
+/* The refusal in a reply of load, save, compare, read, edit, preview and carry; 0 if
  * there is none. */
 #define TEZHUKOR_REFUSAL(reply) ((uint16_t)((reply) >> 16))
 /* Without a refusal: the context and the count in a reply of load. */
@@ -116,9 +116,14 @@ uint16_t tezhukor_decide(uint16_t context, uint16_t count, const uint16_t *table
 
 /* Writes the tokens of a plain table in context 0 or 3, two cells a token: its code, and the
  * symbol of its node on names (32), literals (33) and numbered members (44), else 0.
- * Twelve cells a node must be lent. Replies the refusal times 65,536 (3, 4, 6 to 13), or
- * the number of tokens. */
-uint32_t tezhukor_write(uint16_t context, uint16_t count, const uint16_t *table,
+ * Twelve cells a node must be lent. Replies the refusal times 2^32 (3, 4, 6 to 13), or the
+ * number of pairs that were added times 65,536 and the number of tokens. The pairs are the
+ * rows whose outer pair is 1. Of a tree without Parens in context 0, no way of putting pairs
+ * round its operands that reads back as it has fewer. */
+#define TEZHUKOR_WRITE_REFUSAL(reply) ((uint16_t)((reply) >> 32))
+#define TEZHUKOR_PAIRS(reply) ((uint16_t)((reply) >> 16))
+#define TEZHUKOR_TOKENS(reply) ((uint16_t)(reply))
+uint64_t tezhukor_write(uint16_t context, uint16_t count, const uint16_t *table,
                         size_t table_length, uint16_t *tokens, size_t tokens_length);
 
 /* Reads a token list in context 0 or 3, two cells a token and so many cells as

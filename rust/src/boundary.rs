@@ -10,6 +10,7 @@ pub mod questions;
 
 use crate::Refusal;
 use model::sizes::{CONTEXT_UNIT, MOST_TOKENS, REFUSAL_UNIT, TOKEN_CELLS};
+use model::sizes::{PAIRS_UNIT, WRITTEN_UNIT};
 
 /// What a reply of one number says: what was done, or the refusal.
 pub fn done(reply: u32) -> Result<u16, Refusal> {
@@ -85,8 +86,8 @@ pub fn decide(
 /// Writes the tokens of a plain table in a context of [`PLAIN`](model::contexts::PLAIN),
 /// [`TOKEN_CELLS`] cells a token: its code and its symbol;
 /// [`TOKEN_CELLS_PER_NODE`](model::sizes::TOKEN_CELLS_PER_NODE) cells a node must be lent.
-/// What is done is the number of tokens.
-pub fn write(context: u16, count: u16, table: &[u16], tokens: &mut [u16]) -> u32 {
+/// The reply says how many they are, and how many pairs: see [`counted`].
+pub fn write(context: u16, count: u16, table: &[u16], tokens: &mut [u16]) -> u64 {
     // SAFETY: as above.
     unsafe {
         library::tezhukor_write(
@@ -97,6 +98,25 @@ pub fn write(context: u16, count: u16, table: &[u16], tokens: &mut [u16]) -> u32
             tokens.as_mut_ptr(),
             tokens.len(),
         )
+    }
+}
+
+/// What a reply of [`write`] says.
+#[derive(Copy, Clone, PartialEq, Eq, Debug)]
+pub struct Counted {
+    pub tokens: u16,
+    /// Of those that were added: the rows whose outer pair is 1.
+    pub pairs: u16,
+}
+
+/// How many tokens and pairs are written, or the refusal.
+pub fn counted(reply: u64) -> Result<Counted, Refusal> {
+    match Refusal::numbered((reply / WRITTEN_UNIT) as u16) {
+        None => Ok(Counted {
+            tokens: (reply % PAIRS_UNIT) as u16,
+            pairs: (reply / PAIRS_UNIT % PAIRS_UNIT) as u16,
+        }),
+        Some(refusal) => Err(refusal),
     }
 }
 

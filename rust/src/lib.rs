@@ -76,8 +76,10 @@
 //!
 //! It is proved, for every accepted plain tree in context 0 or 3, that its tokens have
 //! exactly one reading, the tree without its own parentheses, and that no pair that
-//! was added can be left out. `docs/TRUST.md` says what a reader must believe; this
-//! crate, which calls the proved library, is on that list.
+//! was added can be left out. In context 0, of a tree without parentheses of its own, no way
+//! of putting pairs round its operands that reads back as it has fewer; [`Tree::written`]
+//! says how many there are. `docs/TRUST.md` says what a reader must believe; this crate,
+//! which calls the proved library, is on that list.
 //!
 //! What is wrong with a file is told by number and in a sentence:
 //!
@@ -126,7 +128,7 @@ pub use prevented::{Prevented, Reading};
 pub use preview::{Preview, Sight};
 pub use refusal::Refusal;
 use std::cmp::Ordering;
-pub use tree::{Node, Row, Tree};
+pub use tree::{Node, Row, Tree, Written};
 
 /// The rows of a tree file, node 1 first.
 ///

@@ -1,6 +1,7 @@
 //! Accepted trees.
 
-use crate::{boundary, Refusal};
+use crate::boundary::{self, Counted};
+use crate::Refusal;
 use model::codes::{self, Token};
 use model::sizes::*;
 use model::table;
@@ -76,6 +77,17 @@ impl Row {
     pub fn has_inner_pair(self) -> bool {
         self.pair & 2 == 2
     }
+}
+
+/// What is written for a plain tree.
+#[derive(Clone, PartialEq, Eq, Hash, Debug)]
+pub struct Written {
+    pub tokens: Vec<Token>,
+    /// How many pairs were added: as many as there are rows whose outer pair is 1, and as there
+    /// are opening parentheses but those of Calls, MethodCalls and Parens. Of a tree without
+    /// Parens in context 0 no other way of putting pairs round its operands, if it reads back
+    /// as that tree, has fewer.
+    pub pairs: u16,
 }
 
 /// A tree that is accepted: none of refusals 1 to 11 applies to it.
@@ -155,10 +167,26 @@ impl Tree {
     /// nodes' symbols. Refused is only what is not plain, and any other context
     /// ([`Refusal::NotPlain`]).
     pub fn tokens(&self) -> Result<Vec<Token>, Refusal> {
+        Ok(self.written()?.tokens)
+    }
+
+    /// The same with how many pairs there are.
+    ///
+    /// ```
+    /// use tezhukor::{codes::tokens, contexts::NONE, Tree};
+    /// // a - ((b - c)): of the two pairs one does.
+    /// let tree = Tree::read(NONE, &tokens(&[32, 1, 35, 35, 32, 1, 32, 36, 36]))?;
+    /// let written = tree.written()?;
+    /// assert_eq!(written.tokens, tokens(&[32, 1, 35, 32, 1, 32, 36]));
+    /// assert_eq!(written.pairs, 1);
+    /// # Ok::<(), tezhukor::Refusal>(())
+    /// ```
+    pub fn written(&self) -> Result<Written, Refusal> {
         let mut cells = vec![0; TOKEN_CELLS_PER_NODE * usize::from(self.count())];
         let reply = boundary::write(self.context, self.count(), &self.cells, &mut cells);
-        let written = usize::from(boundary::done(reply)?);
-        Ok(Token::of_cells(&cells[..TOKEN_CELLS * written]))
+        let Counted { tokens, pairs } = boundary::counted(reply)?;
+        cells.truncate(TOKEN_CELLS * usize::from(tokens));
+        Ok(Written { tokens: Token::of_cells(&cells), pairs })
     }
 
     /// The tree file: one for each context and tree, however its nodes are numbered

@@ -24,7 +24,7 @@ fn example() {
     let printed = String::from_utf8_lossy(&output.stdout);
     let meant = [
         "node 3 needs a pair",
-        "tokens offset 1 35 station 1 start 36",
+        "tokens offset 1 35 station 1 start 36, pairs 1",
         "read back the same",
         "refused 15, read 1 node",
         "saved 32 bytes, compared 1",

@@ -10,8 +10,12 @@ use model::table;
 use std::cmp::Ordering;
 use std::fmt::Debug;
 use tezhukor::boundary::questions::decide_by_order;
+use tezhukor::boundary::{self, Counted};
+use tezhukor::codes::OPEN;
+use tezhukor::contexts::NONE;
+use tezhukor::forms::{CALL, METHOD_CALL, PAREN};
 use tezhukor::sizes::{CONTEXT_UNIT, MOST_CELLS, REFUSAL_UNIT, ROW_CELLS, SCRATCH_CELLS};
-use tezhukor::{boundary, CalleeOrder, Refusal, Row, Token, Tree};
+use tezhukor::{CalleeOrder, Refusal, Row, Token, Tree, Written};
 
 /// Checks that a buffer holds an answer, and else what it was lent with.
 fn holds<Of: Cell + Debug>(mut buffer: Lent<Of>, answer: &[Of]) {
@@ -104,13 +108,47 @@ fn tokens() {
         let mut tokens = Lent::new(record.lent);
         let lent = tokens.lend(record.lent);
         let written = boundary::write(tree.context(), tree.count(), tree.cells(), lent);
-        assert_eq!(written, reply(record));
+        let counted = boundary::counted(written).map_err(Refusal::number);
+        let meant = if record.refusal == 0 { Ok(record.count) } else { Err(record.refusal) };
+        assert_eq!(counted.map(|counted| counted.tokens), meant);
         holds(tokens, &record.cells());
-        if record.refusal == 0 {
-            assert_eq!(tree.tokens(), Ok(Token::of_cells(&record.cells())));
+        if let Ok(Counted { pairs, .. }) = counted {
+            let tokens = Token::of_cells(&record.cells());
+            assert_eq!(usize::from(pairs), tree.rows().iter().filter(|row| row.pair == 1).count());
+            assert_eq!(usize::from(pairs), groups(&tokens, &tree, &[CALL, METHOD_CALL, PAREN]));
+            assert_eq!(tree.written(), Ok(Written { tokens, pairs }));
         }
     }
     println!("tokens {}, different 0", records.len());
+}
+
+/// How many parentheses of a list of tokens are not those of its tree's nodes of some forms.
+fn groups(tokens: &[Token], tree: &Tree, forms: &[u16]) -> usize {
+    let is_own = |&number: &u16| tree.node(number).is_some_and(|node| forms.contains(&node.form));
+    let open = tokens.iter().filter(|token| token.code == OPEN).count();
+    open - (1..=tree.count()).filter(is_own).count()
+}
+
+/// Of the recorded lists that have a reading in context 0 none has fewer pairs than are written
+/// for it.
+#[test]
+fn pairs_of_readings() {
+    let [mut lists, mut theirs, mut ours] = [0; 3];
+    for record in records("readings") {
+        if record.refusal != 0 || record.context != NONE {
+            continue;
+        }
+        let tokens = Token::of_cells(&u16s(&record.bytes));
+        let tree = Tree::read(NONE, &tokens).expect("a tree");
+        let [read, written] = [
+            groups(&tokens, &tree, &[CALL, METHOD_CALL]),
+            tree.written().expect("plain").pairs.into(),
+        ];
+        assert!(written <= read, "{tokens:?}");
+        (lists, theirs, ours) = (lists + 1, theirs + read, ours + written);
+    }
+    println!("lists {lists}: pairs {theirs}, of ours {ours}; fewer than ours 0");
+    assert!(lists > 1_000 && ours < theirs);
 }
 
 #[test]

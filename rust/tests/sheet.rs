@@ -70,7 +70,8 @@ fn first_example() {
          (offset - station) - start\n  \
          node 3 `station - start`, right operand of node 1, Binary `-`: precedence Sum (11), \
          the owner's Sum (11); the owner's test asks for it: it groups what is not above Sum (11); \
-         `-` leans left: of operators of its level the left one comes first\n"
+         `-` leans left: of operators of its level the left one comes first\n\
+         1 pair; no fewer do\n"
     );
     assert_eq!(printed(&["check", "-"], &file, 0), "accepted: 5 nodes, context 0, plain\n");
     let rows =
@@ -203,7 +204,8 @@ fn reasons() {
     assert_eq!(
         printed(&["why", "-"], &inner, 0),
         "node 1 `(a + b)`, the root: an inner pair; Binary `+` has one whenever it has \
-         attributes, also inner ones\n"
+         attributes, also inner ones\n\
+         0 outer pairs, 1 inner pair; the tree is not plain: nothing is promised of the count\n"
     );
 }
 
@@ -212,12 +214,12 @@ fn reasons() {
 fn callees() {
     let name = [26, 0, 0, 0, 0, 0];
     let [call, group] = [[8, 0, 0, 2, 0, 0], [15, 0, 0, 3, 0, 0]];
-    let ours = "; in our callee order, in the crate's it would have none\n";
+    let ours = "; in our callee order, in the crate's it would have none\n1 pair;";
     let member = [&[0, 3][..], &call, &[13, 2, 1, 3, 0, 0], &name].concat();
     assert_eq!(printed(&["show", "-"], &member, 0), "(#[..] a.0)()\n");
     let why = printed(&["why", "-"], &member, 0);
     assert!(
-        why.contains("it groups what is below Unambiguous (15)") && why.ends_with(ours),
+        why.contains("it groups what is below Unambiguous (15)") && why.contains(ours),
         "{why}"
     );
     let grouped = |attributes| {
@@ -228,7 +230,7 @@ fn callees() {
     let why = printed(&["why", "-"], &grouped(0), 0);
     let meant = "the owner's test asks for it: a named field in a group that is called, which \
                  would be a method call";
-    assert!(why.contains(meant) && why.ends_with(ours), "{why}");
+    assert!(why.contains(meant) && why.contains(ours), "{why}");
     // What both orders group, and what neither does.
     for file in [grouped(2), tree_of("(s.f)(x)"), tree_of("(-x)(y)")] {
         assert!(!printed(&["why", "-"], &file, 0).contains("order"));
@@ -283,7 +285,8 @@ fn prevented() {
     ] {
         let file = sheet(&["read", "--names", names.name(), text], b"").stdout;
         let why = printed(&["why", "--names", names.name(), "-"], &file, 0);
-        let firsts: Vec<&str> = why.lines().filter(|line| !line.starts_with("  ")).collect();
+        let mut firsts: Vec<&str> = why.lines().filter(|line| !line.starts_with("  ")).collect();
+        assert!(firsts.pop().is_some_and(|line| line.contains("; no fewer do")), "{why}");
         assert_eq!(firsts, lines, "{why}");
     }
     // What is not plain has no tokens to leave a pair out of.
@@ -302,6 +305,39 @@ fn lines_that_are_no_names() {
     let message = "sheet: The line of symbol 2, `station - start`, is not the one token that \
                    stands for it.\n";
     assert_eq!(String::from_utf8_lossy(&output.stderr), message);
+}
+
+/// How many pairs there are, and what is promised of their number.
+#[test]
+fn counts() {
+    let counted = |file: &[u8]| printed(&["show", "--count", "-"], file, 0);
+    let last = |file: &[u8]| {
+        let why = printed(&["why", "-"], file, 0);
+        why.lines().last().expect("a line").to_string()
+    };
+    let two = tree_of("((a - (b - c)) * ((d)))");
+    assert_eq!(counted(&two), "(a - (b - c)) * d\n2 pairs\n");
+    assert_eq!(last(&two), "2 pairs; no fewer do");
+    let none = tree_of("a - b(c)");
+    assert_eq!(counted(&none), "a - b(c)\n0 pairs\n");
+    assert_eq!(last(&none), "no pair was added");
+    // A condition that is written with two pairs, and reads with one.
+    let condition = |text| sheet(&["read", "--condition", text], b"").stdout;
+    let structs = condition("x == (S {} + S {})");
+    assert_eq!(counted(&structs), "a == (S { .. }) + (S { .. })\n2 pairs\n");
+    assert_eq!(last(&structs), "2 pairs; in a condition fewer may do: the count alone is promised");
+    // A tree with parentheses of its own: (a) + b, times c.
+    let names = [[26, 0, 0, 0, 0, 1], [26, 0, 0, 0, 0, 2], [26, 0, 0, 0, 0, 3]];
+    let nodes = [[5, 0, 2, 2, 6, 0], [5, 0, 0, 3, 5, 0], [25, 0, 0, 4, 0, 0]];
+    let parens = [&[0, 6][..], &nodes.concat(), &names.concat()].concat();
+    assert_eq!(counted(&parens), "((a) + b) * c\n1 pair\n");
+    let promise = "1 pair; beside the sheet's own parentheses, of which none is counted: the \
+                   count alone is promised";
+    assert_eq!(last(&parens), promise);
+    let names = Scratch::new("counts");
+    std::fs::write(&names.0, "station\nstart\n").expect("a file");
+    let named = printed(&["show", "--names", names.name(), "--count", "-"], &none, 0);
+    assert_eq!(named, "station - start(c)\n0 pairs\n");
 }
 
 /// A struct in a condition is read with its pair, shown and explained with it, and refused
@@ -324,7 +360,8 @@ fn conditions() {
          struct needs parentheses, since its brace would open the block\n  \
          node 3 `S { .. }`, right operand of node 1, Binary `==`: precedence Unambiguous (15), \
          the owner's Compare (6); parenthesize asks for it: part 4, a struct in a condition, \
-         where its brace would open the block\n"
+         where its brace would open the block\n\
+         1 pair; in a condition fewer may do: the count alone is promised\n"
     );
     assert_eq!(printed(&["check", "-"], &file, 0), "accepted: 3 nodes, context 3, plain\n");
     let tokens = "ok 5\n32 12 35 46 36\n1 0 0 0 0\nNAME == ( STRUCT )\n";
@@ -814,6 +851,7 @@ fn usage() {
         &["read", "--condition", "a", "b"],
         &["read", "a", "--condition"],
         &["show", "--condition", "a"],
+        &["why", "--count", "a"],
     ] {
         assert_eq!(printed(arguments, b"", 2), usage);
     }

@@ -42,6 +42,13 @@ pub const LAST_REFUSAL: u16 = 19;
 /// A reply of one number is the refusal times this, or without one what was done.
 pub const REFUSAL_UNIT: u32 = 65_536;
 
+/// The reply of writing is the refusal times this, or without one the number of pairs times
+/// [`PAIRS_UNIT`], and the number of tokens.
+pub const WRITTEN_UNIT: u64 = 1 << 32;
+
+/// See [`WRITTEN_UNIT`].
+pub const PAIRS_UNIT: u64 = 1 << 16;
+
 /// The reply to a file that is loaded is its context times this, and the count.
 pub const CONTEXT_UNIT: u16 = 8_192;
 

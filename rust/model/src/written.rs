@@ -9,6 +9,7 @@ use crate::sizes::{NODE_CELLS, TOKEN_CELLS_PER_NODE};
 use crate::table::{self, Node, NodeTable, FIRST};
 
 /// The tokens of a tree, and where the pairs stand that were added.
+#[derive(Clone, PartialEq, Eq, Debug, Default)]
 pub struct Written {
     pub tokens: Vec<Token>,
     pub pairs: Vec<[usize; 2]>,
@@ -23,10 +24,13 @@ impl Written {
     /// The same with a comma after the last item of each list whose last link is one of
     /// those, in order: never written, and read alike.
     pub fn with_commas(tree: &NodeTable, has_pair: &[bool], has_comma: &[u16]) -> Written {
-        let out = Written { tokens: Vec::new(), pairs: Vec::new() };
-        let mut writer = Writer { cells: &tree.cells, has_pair, has_comma, out };
-        writer.node(1);
-        writer.out
+        let pairs: Vec<usize> = has_pair.iter().map(|&has_pair| has_pair.into()).collect();
+        Writer::written(tree, &pairs, has_comma)
+    }
+
+    /// Writes an accepted plain tree with so many pairs round each of its nodes.
+    pub fn with_pairs(tree: &NodeTable, pairs: &[usize]) -> Written {
+        Writer::written(tree, pairs, &[])
     }
 
     /// The tokens without one of the pairs, and no other token.
@@ -47,23 +51,30 @@ pub fn last_links(tree: &NodeTable) -> Vec<u16> {
 
 struct Writer<'a> {
     cells: &'a [u16],
-    has_pair: &'a [bool],
+    /// How many stand round each node.
+    pairs: &'a [usize],
     has_comma: &'a [u16],
     out: Written,
 }
 
 impl Writer<'_> {
+    fn written(tree: &NodeTable, pairs: &[usize], has_comma: &[u16]) -> Written {
+        let mut writer = Writer { cells: &tree.cells, pairs, has_comma, out: Written::default() };
+        writer.node(1);
+        writer.out
+    }
+
     fn node(&mut self, number: u16) {
         if number == 0 {
             return;
         }
-        let has_pair = self.has_pair[usize::from(number) - 1];
+        let pairs = self.pairs[usize::from(number) - 1];
         let node = table::node(self.cells, number);
         let [before, between, behind] = signs(&node);
         let start = self.out.tokens.len();
         // Of a node's own tokens at most one has a symbol, which is the node's.
         let own = |code: u16| Token::new(code, if has_symbol(code) { node.symbol } else { 0 });
-        self.out.tokens.extend(has_pair.then(|| Token::from(OPEN)));
+        self.out.tokens.extend(vec![Token::from(OPEN); pairs]);
         self.out.tokens.extend(before.into_iter().map(own));
         self.node(node.operands[0]);
         self.out.tokens.extend(between.into_iter().map(own));
@@ -72,8 +83,8 @@ impl Writer<'_> {
         if self.has_comma.binary_search(&number).is_ok() {
             self.out.tokens.push(COMMA.into());
         }
-        if has_pair {
-            self.out.pairs.push([start, self.out.tokens.len()]);
+        for open in (start..start + pairs).rev() {
+            self.out.pairs.push([open, self.out.tokens.len()]);
             self.out.tokens.push(CLOSE.into());
         }
     }
@@ -112,17 +123,17 @@ fn signs(node: &Node) -> [Vec<u16>; 3] {
     [before.to_vec(), between.to_vec(), behind.to_vec()]
 }
 
-/// The tokens that must be written for any node table with so many cells lent, or the
-/// refusal, if the nodes of an accepted table have those pairs.
+/// What must be written for any node table with so many cells lent, or the refusal, if the
+/// nodes of an accepted table have those pairs.
 pub fn reply(
     tree: &NodeTable,
     lent: usize,
     pairs: impl Fn(&NodeTable) -> Vec<bool>,
-) -> Result<Vec<Token>, u16> {
+) -> Result<Written, u16> {
     match accept::refusal(tree) {
         0 if lent < TOKEN_CELLS_PER_NODE * usize::from(tree.count) => Err(12),
         0 if !is_plain(tree) || !contexts::PLAIN.contains(&tree.context) => Err(13),
-        0 => Ok(Written::new(tree, &pairs(tree)).tokens),
+        0 => Ok(Written::new(tree, &pairs(tree))),
         refusal => Err(refusal),
     }
 }

@@ -43,7 +43,7 @@ extern "C" {
         table_length: usize,
         tokens: *mut u16,
         tokens_length: usize,
-    ) -> u32;
+    ) -> u64;
 
     pub fn tezhukor_read(
         context: u16,

@@ -172,13 +172,14 @@ fn write(table: &NodeTable, length: usize, tally: &mut Tally) -> Option<Vec<Toke
     let reply = boundary::write(*context, *count, cells, lent.lend(length));
     let meant = written::reply(table, length, pairs);
     let number = match &meant {
-        Ok(tokens) => tokens.len() as u32,
-        Err(refusal) => REFUSAL_UNIT * u32::from(*refusal),
+        Ok(written) => PAIRS_UNIT * written.pairs.len() as u64 + written.tokens.len() as u64,
+        Err(refusal) => WRITTEN_UNIT * u64::from(*refusal),
     };
     assert_eq!(reply, number, "{table:?}");
     tally.count(meant.as_ref().err().copied().unwrap_or(0));
-    holds(lent, &codes::cells(meant.as_deref().unwrap_or(&[])));
-    meant.ok()
+    let tokens = meant.ok().map(|written| written.tokens);
+    holds(lent, &codes::cells(tokens.as_deref().unwrap_or(&[])));
+    tokens
 }
 
 /// What is read: the context and the cells of tokens.

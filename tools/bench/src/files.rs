@@ -15,6 +15,7 @@
 use crate::clock::Clock;
 use crate::sets::{Set, SETS};
 use crate::{instructions, quartiles, ROUNDS, ROUND_NANOSECONDS};
+use model::sizes::REFUSAL_UNIT;
 use model::sizes::{file_bytes, MOST_CELLS, NODE_CELLS, TOKEN_CELLS, TOKEN_CELLS_PER_NODE};
 use model::written::without_parens;
 use model::{columns, table, NodeTable};
@@ -70,7 +71,12 @@ const READ: usize = 7;
 fn write(tree: &NodeTable, tokens: &mut [u16]) -> u32 {
     let NodeTable { context, count, cells } = tree;
     let room = TOKEN_CELLS_PER_NODE * usize::from(*count);
-    boundary::write(*context, *count, cells, &mut tokens[..room])
+    let reply = boundary::write(*context, *count, cells, &mut tokens[..room]);
+    // As other replies are, without the pairs.
+    match boundary::counted(reply) {
+        Ok(counted) => counted.tokens.into(),
+        Err(refusal) => REFUSAL_UNIT * u32::from(refusal.number()),
+    }
 }
 
 /// A set's trees, what is lent to them, and how many sides they have.

@@ -3,6 +3,7 @@
 mod ast;
 mod changes;
 mod commas;
+mod fewest;
 mod lists;
 mod long;
 mod makers;
@@ -25,6 +26,8 @@ const USAGE: &str = "usage:
   readings trees [OURS [SEED]]   what is written for plain trees, beside its readings
   readings lists [OURS [SEED [CHANGE]]]    token lists and their verdicts
   readings commas [OURS [SEED [CHANGE]]]   lists with commas before what closes something
+  readings fewest [OURS [SEED [SMALLER]]]  every way of putting pairs round operands, on trees so
+                                           many nodes smaller than those of trees, 1 if not given
   readings long library [NAME]   the longest lists: our reader's answer, time and stack
   readings rustc TREES PAIRS [SEED]   rustc beside the readings, so many random trees and pairs
   readings commas rustc TREES PAIRS [SEED]   the part of it with such commas
@@ -79,6 +82,12 @@ fn run(arguments: &[&str]) -> Option<u64> {
         #[cfg(feature = "library")]
         ["texts", "rustc", trees, rest @ ..] => {
             Some(texts::compare(number(trees)?, rest.first().map_or(Some(1), number)?))
+        }
+        ["fewest", rest @ ..] => {
+            let mut ours = Ours::named(rest.first().unwrap_or(&"absent"))?;
+            let seed = rest.get(1).map_or(Some(1), number)?;
+            let smaller = rest.get(2).map_or(Some(1), number)? as usize;
+            Some(fewest::compare(&mut ours, smaller, 20_000 >> smaller, seed))
         }
         [what, rest @ ..] => {
             let mut ours = Ours::named(rest.first().unwrap_or(&"absent"))?;

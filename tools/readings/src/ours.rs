@@ -12,6 +12,7 @@ use model::codes::{self, Token};
 use model::sizes::NODE_CELLS;
 use model::table::{self, NodeTable};
 use model::verdict::Verdict;
+use model::written::Written;
 use std::io::{ErrorKind, Read, Write};
 use std::path::PathBuf;
 use std::process::{Command, Stdio};
@@ -19,6 +20,22 @@ use std::process::{Command, Stdio};
 /// In place of a reply: something was written that should have kept its contents,
 /// or what was printed is no answer.
 pub const SPOILT: u16 = 65_535;
+
+/// What we write: the tokens, and how many pairs, where that is told; or the refusal.
+#[derive(Debug)]
+pub struct Answer {
+    tokens: Result<Vec<Token>, u16>,
+    pairs: Option<usize>,
+}
+
+impl Answer {
+    /// Whether it is what must be written.
+    pub fn is(&self, written: Result<&Written, u16>) -> bool {
+        let pairs = written.map(|written| written.pairs.len()).ok();
+        self.tokens == written.map(|written| written.tokens.clone())
+            && (self.pairs.is_none() || self.pairs == pairs)
+    }
+}
 
 /// How we are asked.
 pub enum Ours {
@@ -62,10 +79,13 @@ impl Ours {
 
     /// The tokens of a node table, or the refusal, with so many cells lent.
     #[allow(unused_variables)]
-    pub fn write(&mut self, tree: &NodeTable, lent: usize) -> Option<Result<Vec<Token>, u16>> {
+    pub fn write(&mut self, tree: &NodeTable, lent: usize) -> Option<Answer> {
         match self {
             Ours::Absent => None,
-            Ours::Programs => Some(printed_tokens(&run("tokens", &table::write(tree)))),
+            Ours::Programs => {
+                let tokens = printed_tokens(&run("tokens", &table::write(tree)));
+                Some(Answer { tokens, pairs: None })
+            }
             #[cfg(feature = "library")]
             Ours::Library(library) => Some(library.write(tree, lent)),
         }
@@ -160,13 +180,13 @@ fn printed_table(printed: &str) -> Verdict {
 
 #[cfg(feature = "library")]
 mod library {
-    use super::SPOILT;
+    use super::{Answer, SPOILT};
     use model::codes::Token;
     use model::lent::Lent;
     use model::sizes::{MOST_NODES, NODE_CELLS, TOKEN_CELLS, TOKEN_CELLS_PER_NODE};
     use model::verdict::Verdict;
     use model::NodeTable;
-    use tezhukor::boundary;
+    use tezhukor::{boundary, Refusal};
 
     /// A buffer that is lent again and again.
     pub struct Library(Lent);
@@ -176,20 +196,24 @@ mod library {
             Library(Lent::new(TOKEN_CELLS_PER_NODE * (MOST_NODES + 1)))
         }
 
-        pub fn write(&mut self, tree: &NodeTable, lent: usize) -> Result<Vec<Token>, u16> {
+        pub fn write(&mut self, tree: &NodeTable, lent: usize) -> Answer {
             let NodeTable { context, count, cells } = tree;
             let reply = boundary::write(*context, *count, cells, self.0.lend(lent));
-            self.taken(reply, TOKEN_CELLS).map(|cells| Token::of_cells(&cells))
+            let counted = boundary::counted(reply);
+            let cells = self.taken(counted.map(|counted| counted.tokens), TOKEN_CELLS);
+            Answer {
+                tokens: cells.map(|cells| Token::of_cells(&cells)),
+                pairs: counted.ok().map(|counted| counted.pairs.into()),
+            }
         }
 
         pub fn read(&mut self, context: u16, tokens: &[u16], lent: usize) -> Verdict {
             let reply = boundary::read_here(context, tokens, self.0.lend(lent));
-            self.taken(reply, NODE_CELLS)
+            self.taken(boundary::done(reply), NODE_CELLS)
         }
 
         /// Takes the answer out of the buffer, with so many cells a count.
-        fn taken(&mut self, reply: u32, each: usize) -> Result<Vec<u16>, u16> {
-            let done = boundary::done(reply);
+        fn taken(&mut self, done: Result<u16, Refusal>, each: usize) -> Result<Vec<u16>, u16> {
             let Some(answer) = self.0.take(each * usize::from(done.unwrap_or(0))) else {
                 *self = Library::new();
                 return Err(SPOILT);

@@ -136,7 +136,7 @@ fn add_tree(records: &mut Records, lent: u16, tree: &NodeTable) {
     if !written::fits_a_file(tree) {
         return;
     }
-    let reply = written::reply(tree, lent.into()).map(|tokens| cells(&tokens));
+    let reply = written::reply(tree, lent.into()).map(|written| cells(&written.tokens));
     let asked = Asked { context: 0, lent, read: &table::write(tree) };
     records.add(asked, &reply, TOKEN_CELLS);
 }

@@ -2,7 +2,7 @@
 //! parentheses, and none that equals it with a pair left out.
 
 use crate::makers;
-use crate::ours::Ours;
+use crate::ours::{Answer, Ours};
 use crate::plain::{self, PlainTrees};
 use crate::written::{self, written};
 use model::chart::Chart;
@@ -71,7 +71,7 @@ impl Tally {
             }
         }
         let lent = TOKEN_CELLS_PER_NODE * usize::from(tree.count) + self.trees as usize % 3;
-        if ours.write(tree, lent).is_some_and(|ours| ours.as_ref() != Ok(tokens)) {
+        if ours.write(tree, lent).is_some_and(|ours| !ours.is(Ok(&written))) {
             self.differs("we write otherwise", tokens);
         }
         if ours.read(tree.context, tokens, MOST_CELLS).is_some_and(|ours| ours != Ok(meant)) {
@@ -240,7 +240,8 @@ fn replies(ours: &mut Ours, tables: u64, seed: u64) -> u64 {
         let lent = if ours.is_lent() { lent } else { needed };
         let reply = written::reply(&tree, lent);
         counts[usize::from(*reply.as_ref().err().unwrap_or(&0))] += 1;
-        if ours.write(&tree, lent).is_some_and(|ours| ours != reply) {
+        let is_meant = |ours: Answer| ours.is(reply.as_ref().map_err(|&refusal| refusal));
+        if !ours.write(&tree, lent).is_none_or(is_meant) {
             different += 1;
             if different <= 3 {
                 println!("  our reply is not {reply:?} for {tree:?}");

@@ -22,9 +22,8 @@ pub fn with_commas(tree: &NodeTable, has_comma: &[u16]) -> Vec<Token> {
     Written::with_commas(tree, &pairs(tree), has_comma).tokens
 }
 
-/// The tokens that must be written for any node table with so many cells lent, or
-/// the refusal.
-pub fn reply(tree: &NodeTable, lent: usize) -> Result<Vec<Token>, u16> {
+/// What must be written for any node table with so many cells lent, or the refusal.
+pub fn reply(tree: &NodeTable, lent: usize) -> Result<Written, u16> {
     written::reply(tree, lent, pairs)
 }
 

@@ -31,7 +31,8 @@ pub fn run(arguments: &[OsString]) -> Result<Answer, Answer> {
     }
     let (names, rest) = names_option(rest)?;
     match (command.to_str(), rest, names) {
-        (Some("show"), [file], names) => show(file, names),
+        (Some("show"), [file], names) => show(file, names, false),
+        (Some("show"), [option, file], names) if option == "--count" => show(file, names, true),
         (Some("why"), [file], names) => why(file, names),
         (Some("rows"), [file], None) => rows(file),
         (Some("tokens"), [file], None) => tokens(file),
@@ -110,21 +111,20 @@ pub fn write_names(file: &OsStr, table: &Table) -> Result<(), Answer> {
     std::fs::write(file, table.lines()).map_err(|error| unreadable(file, &error))
 }
 
-fn show(file: &OsStr, names: Option<&OsStr>) -> Result<Answer, Answer> {
+/// The text, and if that is asked how many pairs were added.
+fn show(file: &OsStr, names: Option<&OsStr>, is_counted: bool) -> Result<Answer, Answer> {
     let (tree, names) = (load(file)?, names_from(names)?);
     let shown = show::shown(&tree, names);
-    let mut text = shown.text(show::is_coloured());
-    text.push('\n');
-    Ok(Answer { message: shown.note(), ..Answer::done(text) })
+    let mut lines = vec![shown.text(show::is_coloured())];
+    lines.extend(is_counted.then(|| crate::count::Count::of(&tree).words()));
+    Ok(Answer { message: shown.note(), ..Answer::done(lines.join("\n") + "\n") })
 }
 
 fn why(file: &OsStr, names: Option<&OsStr>) -> Result<Answer, Answer> {
     let (tree, names) = (load(file)?, names_from(names)?);
-    let lines = why::lines(&tree, names);
-    Ok(match lines.is_empty() {
-        true => Answer::done("no pair was added\n"),
-        false => Answer::done(lines.join("\n") + "\n"),
-    })
+    let mut lines = why::lines(&tree, names);
+    lines.push(crate::count::Count::of(&tree).promise());
+    Ok(Answer::done(lines.join("\n") + "\n"))
 }
 
 /// As the program `parens` prints them.

@@ -3,6 +3,7 @@
 mod answer;
 mod blame;
 mod commands;
+mod count;
 mod doubles;
 mod edits;
 mod kind;
@@ -27,9 +28,12 @@ sheet: where a printed Rust expression needs parentheses
                                      an expression as text to a tree file on standard
                                      output; TEXT, or standard input without it; with
                                      --condition the condition of an `if` or a `while`
-  sheet show [--names NAMES] FILE    the tree as text, with the pairs that it needs
+  sheet show [--names NAMES] [--count] FILE
+                                     the tree as text, with the pairs that it needs;
+                                     with --count how many they are
   sheet why [--names NAMES] FILE     for each added pair what it prevents: the text
-                                     without it and how that reads; and who asks for it
+                                     without it and how that reads; and who asks for it;
+                                     and how many there are, and whether fewer do
   sheet rows FILE                    the row of each expression: node, pair,
                                      precedence, previous and next operator, flags
   sheet tokens FILE                  the tokens of a plain tree: codes, symbols, words
