@@ -1,0 +1,9 @@
+pub mod Alike
+pub mod Entries
+pub mod Near
+pub mod Classes
+pub mod Tried
+pub mod Looked
+pub mod Choices
+pub mod Told
+pub mod Replies
