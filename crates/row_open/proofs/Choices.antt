@@ -71,7 +71,7 @@ from-more lo zero = let e : lo + 0 ≡ lo = omega arith in rw e
 from-more lo (suc n) = let e : lo + suc n ≡ suc lo + n = omega arith in rw e (ap (λ (l : List ℕ). lo ∷ l) (from-more (suc lo) n))
 
 module _ (test : ℕ → Bool) where
-  from-all : (lo n : ℕ) → allOf (map test (from lo n)) ≡ true → (k : ℕ) → lo ≤ k → k < lo + n → test k ≡ true
+  pub from-all : (lo n : ℕ) → allOf (map test (from lo n)) ≡ true → (k : ℕ) → lo ≤ k → k < lo + n → test k ≡ true
   unfolding from allOf
   from-all lo zero e k h l = absurd (omega arith)
   from-all lo (suc n) e k h l = go (test lo) refl (decLe k lo) (λ r. from-all (suc lo) n r k)
@@ -80,6 +80,11 @@ module _ (test : ℕ → Bool) where
       go true f (yes q) r = let z : k ≡ lo = omega arith in rw z f
       go true f (no q) r = r (rw f at e) (omega arith) (omega arith)
       go false f d r = true-not-false (sym (rw f at e))
+
+  pub all-from : (lo n : ℕ) → ((k : ℕ) → lo ≤ k → k < lo + n → test k ≡ true) → allOf (map test (from lo n)) ≡ true
+  unfolding from allOf
+  all-from lo zero h = refl
+  all-from lo (suc n) h = rw (h lo (omega arith) (omega arith)) (all-from (suc lo) n (λ k l m. h k (omega arith) (omega arith)))
 
   module _ (lowest : ℕ) (respects : (o : ℕ) → o ≤ lastOperator → test (previous o) ≡ test o) where
     -- what has been passed
@@ -213,10 +218,19 @@ neither true true x y e = true-not-false e
 neither true false x y e = and-false x
 neither false b x y e = refl
 
-pub some-choice : (test : List ℕ → Bool) (count : ℕ) (es : List Entry) (cells : List ℕ) → Good count cells es → allOpen test es cells && allOpen (λ c. not (test c)) es cells ≡ false
+-- the ends of each entry have an operator between them
+pub data Ends : List Entry → Type 0 where
+  ended : Ends []
+  meets : {e : Entry} {es : List Entry} → e .lowest ≤ e .highest → Ends es → Ends (e ∷ es)
+
+pub good-ends : {count : ℕ} {cells : List ℕ} {es : List Entry} → Good count cells es → Ends es
+good-ends done = ended
+good-ends (more g r) = meets (g .ends) (good-ends r)
+
+pub some-choice : (test : List ℕ → Bool) {es : List Entry} → Ends es → (cells : List ℕ) → allOpen test es cells && allOpen (λ c. not (test c)) es cells ≡ false
 unfolding from allOf
-some-choice test count [] cells g = and-not-self (test cells)
-some-choice test count (x ∷ es) cells (more g r) =
-    let e : suc (x .highest) - x .lowest ≡ suc (x .highest - x .lowest) = omega (arith, g .ends) in
-    rw e (neither (allOpen test es (withOperator (x .node) (x .lowest) cells)) (allOpen (λ c. not (test c)) es (withOperator (x .node) (x .lowest) cells)) _ _
-    (some-choice test count es (withOperator (x .node) (x .lowest) cells) (good-put count (x .node) (x .lowest) (g .low) cells es r)))
+some-choice test ended cells = and-not-self (test cells)
+some-choice test (meets {e} {es} h r) cells =
+    let z : suc (e .highest) - e .lowest ≡ suc (e .highest - e .lowest) = omega arith in
+    rw z (neither (allOpen test es (withOperator (e .node) (e .lowest) cells)) (allOpen (λ c. not (test c)) es (withOperator (e .node) (e .lowest) cells)) _ _
+    (some-choice test r (withOperator (e .node) (e .lowest) cells)))

@@ -1,24 +1,31 @@
 -- The classes of operators: what is asked of an operator is the same in each. Assumes nothing.
 use mathlib.Core.Path.{_≡_, refl, sym, ap, ap₂, _∙_}
 use mathlib.Core.Bool.{Bool, true, false, _&&_}
-use Prim.Native.Nat.{ℕ, _≤_, _<_}
+use Prim.Native.Nat.{ℕ, suc, _-_, _≤_, _<_}
 use native.Mathlib.Omega.{arith}
 use lib.Dec.{T, eqb, leb}
-use borrow.Author.Tests.{eqb-true, leb-true}
+use lib.ListN.{length}
+use borrow.Author.Tests.{eqb-true, leb-true, eq-eqb}
 use Rattle.laws.specs.Choice.{pick, lookup}
-use Rattle.laws.proofs.Choice.{true-of, of-true, and-true, alike, alike-same}
+use Rattle.laws.proofs.Choice.{true-not-false, true-of, of-true, and-true, alike, alike-same}
 use Rattle.laws.proofs.Each.{all, all-at}
 use Rattle.precedence.specs.declared.Precedence.{Precedence}
 use Rattle.precedence.specs.declared.Lean.{Lean}
 use Rattle.precedence.specs.declared.Binding.{Binding}
-use Rattle.precedence.specs.Precedences.{rankOf, leanNumber, binding, operators, binopBinding}
+use Rattle.precedence.specs.Precedences.{rankOf, leanNumber, binding, operators, binopBinding, ofBinop}
 use Rattle.precedence.proofs.Levels.{same-lean}
 use Rattle.row_pack.specs.FromCells.{ofRank}
 use Rattle.row_pack.proofs.Cells.{of-rank}
 use Rattle.expr.specs.Expr.{canBeginExpr, canBeginGenerics}
 use Rattle.row_open.specs.Open.{lastOperator}
-use Rattle.row_open.specs.Steps.{previous}
+use Rattle.row_open.specs.Statement.{SameClass}
+use Rattle.row_open.specs.Steps.{previous, isNew, news}
 use Rattle.row_open.proofs.Alike.{SameOperator}
+
+-- the second where the first holds
+abbrev follows : Bool → Bool → Bool
+follows true b = b
+follows false b = true
 
 -- whether what is asked of two operators is the same
 abbrev sameLevel : ℕ → ℕ → Bool
@@ -52,3 +59,30 @@ previous-same o h = from-test (previous o) o (all-at (λ k. sameLevel (previous 
 pub previous-most : (o : ℕ) → o ≤ lastOperator → previous o ≤ o
 unfolding previous lookup pick
 previous-most o h = leb-true _ _ (true-of (all-at (λ k. leb (previous k) k) 28 tt o (omega arith)))
+
+-- operators of one level lean the same way
+one-lean : (o p : ℕ) → o ≤ lastOperator → p ≤ lastOperator → sameLevel o p ≡ true → T (sameLean o p)
+unfolding operators lookup pick
+one-lean o p h k e =
+    by (sameLevel o p) (sameLean o p) e (all-at (λ m. follows (sameLevel o m) (sameLean o m)) 28 (all-at (λ n. all (λ m. follows (sameLevel n m) (sameLean n m)) 28) 28 tt o (omega arith)) p (omega arith))
+  where
+    by : (a b : Bool) → a ≡ true → T (follows a b) → T b
+    by true b f t = t
+    by false b f t = true-not-false (sym f)
+
+-- operators that agree in level, and in the two tests of their tokens
+pub class-operator : (o p : ℕ) → o ≤ lastOperator → p ≤ lastOperator → SameClass o p → SameOperator o p
+unfolding ofBinop
+class-operator o p h k c =
+    let l : sameLevel o p ≡ true = eq-eqb _ _ (ap rankOf (c .level)) in
+    record {
+      binding = ap₂ (λ (l : Precedence) (n : Lean). binding l n) (c .level) (same-lean _ _ (one-lean o p h k l));
+      begins = c .begins;
+      generics = c .generics;
+    }
+
+-- no range of operators meets more than 14 classes: at most 2,744 walks for three entries
+pub fourteen-classes : (lowest highest : ℕ) → lowest ≤ lastOperator → highest ≤ lastOperator → length (news lowest lowest (suc highest - lowest)) ≤ 14
+unfolding news isNew previous lookup pick
+fourteen-classes lowest highest h k =
+    leb-true _ _ (true-of (all-at (λ m. leb (length (news lowest lowest (suc m - lowest))) 14) 28 (all-at (λ n. all (λ m. leb (length (news n n (suc m - n))) 14) 28) 28 tt lowest (omega arith)) highest (omega arith)))

@@ -7,3 +7,4 @@ pub mod Looked
 pub mod Choices
 pub mod Told
 pub mod Replies
+pub mod Theorems

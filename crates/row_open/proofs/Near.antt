@@ -6,7 +6,7 @@ use mathlib.Core.List.{List}
 use Prim.Native.Nat.{ℕ, zero, suc, _+_, _*_, _-_, _%_, _≤_, _<_}
 use native.Mathlib.Omega.{arith}
 use native.Mathlib.Decide.{decLe, ℕ-discrete}
-use lib.ListN.{length, getD, set, length-set}
+use lib.ListN.{length, getD, set, replicate, length-set}
 use lib.Seq.{getD-set-same, getD-set-other}
 use Rattle.tree.specs.Sizes.{nodeCells, rowCells}
 use Rattle.tree.specs.Forms.{ExprBinary}
@@ -82,10 +82,12 @@ module _ (count : ℕ) (cells after : List ℕ) (near : Near count cells after) 
       rw (operand-near firstColumn (λ j h l. near j h l .first) i, operand-near secondColumn (λ j h l. near j h l .second) i, placed-near a (operandAt after count i firstColumn) (rowStored i r into))
       (placed-near b (operandAt after count i secondColumn) _)
 
+  pub rows-near : (order : CalleeOrder) (context : ℕ) (rows : List ℕ) → treeRows order context count (treeAt cells count 1) cells rows ≡ treeRows order context count (treeAt after count 1) after rows
+  rows-near order context rows = rw (all-rows-like order context (alike-at 1), placed-near _ 1 _)
+
   pub has-near : (order : CalleeOrder) (context i : ℕ) → hasOuter order context count cells i ≡ hasOuter order context count after i
   unfolding hasOuter
-  has-near order context i =
-      rw (all-rows-like order context (alike-at 1), placed-near _ 1 _)
+  has-near order context i = ap (λ (rows : List ℕ). outerIn rows i) (rows-near order context (replicate (rowCells * count) 0))
 
 -- ---- a table with another operator
 

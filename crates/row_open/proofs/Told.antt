@@ -22,7 +22,7 @@ use Rattle.row_open.specs.Steps.{unasked, varied}
 use Rattle.row_open.proofs.Near.{Near, near-cells, has-near}
 use Rattle.row_open.proofs.Tried.{allNew, length-varied, tried, varied-at, varied-past, held, has, hasNot, tried-held}
 use Rattle.row_open.proofs.Looked.{over-start}
-use Rattle.row_open.proofs.Choices.{all-map, allOpen, choices-all, Good, good-forms, open-near, new-open, some-choice}
+use Rattle.row_open.proofs.Choices.{all-map, allOpen, choices-all, Good, good-forms, open-near, new-open, good-ends, some-choice}
 
 -- ---- what lies in a buffer behind what is written over it
 
@@ -67,7 +67,7 @@ held-answer false true e = refl
 held-answer false false e = refl
 
 module _ (order : CalleeOrder) (context count : ℕ) (es : List Entry) (cells : List ℕ) where
-  answer-is : (i : ℕ) → answerAt order context count es cells i ≡ pick (allOpen (has order context count i) es cells) Always (pick (allOpen (hasNot order context count i) es cells) Never Depends)
+  pub answer-is : (i : ℕ) → answerAt order context count es cells i ≡ pick (allOpen (has order context count i) es cells) Always (pick (allOpen (hasNot order context count i) es cells) Never Depends)
   unfolding answerAt answerBy
   answer-is i =
       ap₂ (λ (a n : Bool). pick a Always (pick n Never Depends))
@@ -94,7 +94,7 @@ module _ (order : CalleeOrder) (context count : ℕ) (es : List Entry) (cells : 
     tried-answer i =
         tried-held order context count i es own′ true true
         ∙ ap₂ held (by (has order context count i) (λ a b n. has-near count a b n order context i)) (by (hasNot order context count i) (λ a b n. ap not (has-near count a b n order context i)))
-        ∙ held-answer _ _ (some-choice (has order context count i) count es cells good)
+        ∙ held-answer _ _ (some-choice (has order context count i) (good-ends good) cells)
         ∙ ap answerNumber (sym (answer-is i))
 
     -- ---- all nodes
