@@ -4,6 +4,7 @@ use mathlib.Core.Bool.{true, false}
 use mathlib.Core.List.{List, [], _∷_}
 use Prim.Native.Nat.{ℕ, suc, _*_, _-_, _≤_, _<_}
 use native.Mathlib.Omega.{arith}
+use native.Mathlib.Decide.{decLe}
 use lib.Dec.{ltb}
 use lib.ListN.{length, take, drop, length-drop, take-append-drop}
 use lib.Seq.{length-take-le}
@@ -11,17 +12,19 @@ use borrow.Author.Tests.{eq-eqb, ne-eqb, lt-ltb, le-ltb, ltb-false}
 use Rattle.laws.specs.Lists.{over}
 use Rattle.laws.proofs.Choice.{pick-true, pick-false, true-not-false, or-false}
 use Rattle.tree.specs.Sizes.{nodeCells, mostNodes, mostFileBytes}
-use Rattle.tree_rules.specs.Refusals.{refusal3, refusal4, refuse, firstOf, nodeRefusals, refusal, Accepted as Table}
-use Rattle.tree_rules.proofs.First.{stop, skip, passed}
+use Rattle.tree_rules.specs.Refusals.{refusal3, refusal4, Refusal, refuse, firstOf, nodeRefusals, refusal, Accepted as Table}
+use Rattle.tree_rules.proofs.First.{stop, skip, no-more, passed}
 use Rattle.tree_rules.proofs.Count.{count-fits, fits-count}
 use Rattle.file_loader.specs.declared.Loaded.the-variants.{Refused, Accepted}
 use Rattle.file_loader.specs.Several.{Numbers, broken, numbers, numbersOf, isBroken, valuesIn, bytesAfter}
-use Rattle.file_loader.specs.Files.{header, contextIn, countIn, body, cellsIn, refusal1, refusal2, refusal5, fileRefusal, loaded, loadedTable}
+use Rattle.file_loader.specs.Files.{header, contextIn, countIn, body, cellsIn, refusal1, refusal2, badBody, refusal5, numberRefusals, fileRefusal, loaded, loadedTable, numbersRefusal, numbersLoaded, numbersTable}
 use Rattle.tree_source.specs.Source.{behindHeader, cellsOf}
 use Rattle.tree_source.proofs.Cells.{cells-file}
+use Rattle.file_loader.specs.declared.Header.{Header}
+use Rattle.file_loader.specs.declared.Header.the-variants.{Read}
 use Rattle.file_loader.specs.declared.Body.{Body}
 use Rattle.file_loader.specs.declared.Body.the-variants.{End}
-use Rattle.file_loader.specs.Reads.{LaidOut, Begun, Counted, bodyRefusal}
+use Rattle.file_loader.specs.Reads.{HeaderRead, Passed, LaidOut, Begun, Counted, bodyRefusal}
 use Rattle.file_loader.proofs.Several.{numbers-length, some-left}
 
 -- the first of 6 to 11, where 3 and 4 do not apply
@@ -32,6 +35,10 @@ nodes-refusal context count cells h e = skip _ _ (le-ltb 3 context h) ∙ skip _
 -- ---- what is answered and stored
 
 module _ (file table : List ℕ) where
+  pub numbers-refused : (n : ℕ) → numbersRefusal file (length table) ≡ n → (n ≡ 0 → ⊥) → (Refused n ≡ numbersLoaded file (length table)) × (table ≡ numbersTable file table)
+  unfolding numbersLoaded numbersTable
+  numbers-refused n e h = rw e (sym (pick-false _ _ (ne-eqb n 0 h)), sym (pick-false _ _ (ne-eqb n 0 h)))
+
   pub refused : (n : ℕ) → fileRefusal file (length table) ≡ n → (n ≡ 0 → ⊥) → (Refused n ≡ loaded file (length table)) × (table ≡ loadedTable file table)
   unfolding loaded loadedTable
   refused n e h = rw e (sym (pick-false _ _ (ne-eqb n 0 h)), sym (pick-false _ _ (ne-eqb n 0 h)))
@@ -42,42 +49,67 @@ module _ (file table : List ℕ) where
 
 -- ---- the header
 
-module _ (file : List ℕ) (lent : ℕ) where
-  pub too-long : mostFileBytes < length file → fileRefusal file lent ≡ 1
-  unfolding fileRefusal refusal1
+-- the first refusal of a file, or of others after those of its numbers
+abbrev pub firstIn : List ℕ → ℕ → List Refusal → ℕ
+firstIn file lent others = firstOf (numberRefusals file lent others)
+
+module _ (file : List ℕ) (lent : ℕ) (others : List Refusal) where
+  pub too-long : mostFileBytes < length file → firstIn file lent others ≡ 1
+  unfolding numberRefusals refusal1
   too-long h = stop _ _ (lt-ltb mostFileBytes (length file) h)
 
-  pub bad-header : length file ≤ mostFileBytes → header file ≡ broken → fileRefusal file lent ≡ 2
-  unfolding fileRefusal refusal1 refusal2 isBroken
+  pub bad-header : length file ≤ mostFileBytes → header file ≡ broken → firstIn file lent others ≡ 2
+  unfolding numberRefusals refusal1 refusal2 isBroken
   bad-header h e = skip _ _ (le-ltb mostFileBytes (length file) h) ∙ stop _ _ (rw e)
 
 pub begun : (file : List ℕ) (context count at : ℕ) → length file ≤ mostFileBytes → header file ≡ numbers (context ∷ count ∷ []) (drop at file) → Begun file context count at
 unfolding refusal1 refusal2 contextIn countIn body isBroken valuesIn bytesAfter
 begun file context count at h e = record { short = le-ltb mostFileBytes (length file) h; formed = rw e; is-context = rw e; is-count = rw e; is-body = rw e }
 
+pub header-begun : (file : List ℕ) (x : Header) (context count at : ℕ) → x ≡ Read context count at → length file ≤ mostFileBytes → HeaderRead file x → Begun file context count at
+header-begun file x context count at z h e = let r = rw z at e in begun file context count at h (r .0)
+
 -- ---- the nodes
 
-module _ (file : List ℕ) (lent context count at : ℕ) (b : Begun file context count at) where
-  after-header : fileRefusal file lent ≡ firstOf (refuse 3 (refusal3 context) ∷ refuse 4 (refusal4 count lent) ∷ refuse 5 (refusal5 file) ∷ nodeRefusals count (cellsIn file))
-  unfolding fileRefusal
+module _ (file : List ℕ) (lent context count at : ℕ) (b : Begun file context count at) (others : List Refusal) where
+  after-header : firstIn file lent others ≡ firstOf (refuse 3 (refusal3 context) ∷ refuse 4 (refusal4 count lent) ∷ refuse 5 (refusal5 file) ∷ others)
+  unfolding numberRefusals
   after-header = skip _ _ (b .short) ∙ skip _ _ (b .formed) ∙ rw (b .is-context, b .is-count)
 
-  pub bad-context : 3 < context → fileRefusal file lent ≡ 3
+  pub bad-context : 3 < context → firstIn file lent others ≡ 3
   unfolding refusal3
   bad-context h = after-header ∙ stop _ _ (lt-ltb 3 context h)
 
   module _ (ok : context ≤ 3) where
-    pub bad-count : refusal4 count lent ≡ true → fileRefusal file lent ≡ 4
+    pub bad-count : refusal4 count lent ≡ true → firstIn file lent others ≡ 4
     unfolding refusal3
     bad-count e = after-header ∙ skip _ _ (le-ltb 3 context ok) ∙ stop _ _ e
 
-    pub after-count : refusal4 count lent ≡ false → fileRefusal file lent ≡ bodyRefusal file
-    unfolding refusal3 bodyRefusal
-    after-count fits = after-header ∙ skip _ _ (le-ltb 3 context ok) ∙ skip _ _ fits ∙ rw (b .is-count)
+    pub counted-others : refusal4 count lent ≡ false → firstIn file lent others ≡ firstOf (refuse 5 (refusal5 file) ∷ others)
+    unfolding refusal3
+    counted-others fits = after-header ∙ skip _ _ (le-ltb 3 context ok) ∙ skip _ _ fits
+
+module _ (file : List ℕ) (lent context count at : ℕ) (b : Begun file context count at) (ok : context ≤ 3) (fits : refusal4 count lent ≡ false) where
+  pub after-count : fileRefusal file lent ≡ bodyRefusal file
+  unfolding fileRefusal bodyRefusal
+  after-count = counted-others file lent context count at b _ ok fits
+
+  -- 5 alone is left of the numbers
+  pub after-numbers : refusal5 file ≡ true → numbersRefusal file lent ≡ 5
+  unfolding numbersRefusal
+  after-numbers e = counted-others file lent context count at b [] ok fits ∙ stop _ _ e
+
+  pub formed-numbers : refusal5 file ≡ false → numbersRefusal file lent ≡ 0
+  unfolding numbersRefusal
+  formed-numbers e = counted-others file lent context count at b [] ok fits ∙ skip _ _ e ∙ no-more
+
+  pub five-is : refusal5 file ≡ badBody (numbersOf (nodeCells * count) (drop at file))
+  unfolding refusal5
+  five-is = rw (b .is-body)
 
 module _ (file : List ℕ) (context count at : ℕ) (b : Begun file context count at) where
   pub bad-body : numbersOf (nodeCells * count) (drop at file) ≡ broken → bodyRefusal file ≡ 5
-  unfolding bodyRefusal refusal5 isBroken
+  unfolding bodyRefusal refusal5 badBody isBroken
   bad-body e = stop _ _ (rw (b .is-body, e))
 
   module _ (cells : List ℕ) (end : ℕ) (read : numbersOf (nodeCells * count) (drop at file) ≡ numbers cells (drop end file)) where
@@ -86,7 +118,7 @@ module _ (file : List ℕ) (context count at : ℕ) (b : Begun file context coun
     are-cells = rw (b .is-body, read)
 
     trails : refusal5 file ≡ ltb 0 (length file - end)
-    unfolding refusal5 isBroken bytesAfter
+    unfolding refusal5 badBody isBroken bytesAfter
     trails = rw (b .is-body, read, length-drop end file)
 
     pub trailing : end < length file → bodyRefusal file ≡ 5
@@ -104,6 +136,25 @@ module _ (file : List ℕ) (context count at : ℕ) (b : Begun file context coun
 pub short-file : (file : List ℕ) → refusal1 file ≡ false → length file ≤ mostFileBytes
 unfolding refusal1
 short-file file e = ltb-false mostFileBytes (length file) e
+
+-- 5 of numbers that have been read
+pub broken-body : {ns : Numbers} → ns ≡ broken → true ≡ badBody ns
+unfolding badBody isBroken
+broken-body e = rw e
+
+pub five-formed : (ns : Numbers) → badBody ns ≡ false → isBroken ns ≡ false
+unfolding badBody
+five-formed ns e = or-false (isBroken ns) _ e .0
+
+pub ended-body : (file : List ℕ) (from n : ℕ) (x : Body) (end : ℕ) → x ≡ End end → Passed file from n x → ltb end (length file) ≡ badBody (numbersOf n (drop from file))
+unfolding badBody isBroken bytesAfter
+ended-body file from n x end z h =
+    let e = rw z at h in
+    rw (e, length-drop end file) (go (decLe (length file) end))
+  where
+    go : Dec (length file ≤ end) → ltb end (length file) ≡ ltb 0 (length file - end)
+    go (yes l) = le-ltb end (length file) l ∙ sym (le-ltb 0 (length file - end) (omega arith))
+    go (no l) = lt-ltb end (length file) (omega arith) ∙ sym (lt-ltb 0 (length file - end) (omega arith))
 
 -- what is known where the nodes are looked at
 pub to-body : (file : List ℕ) (lent context count at : ℕ) → Begun file context count at → at ≡ behindHeader file → context ≤ 3 → refusal4 count lent ≡ false → Counted file context count at
@@ -132,7 +183,7 @@ module _ (file table : List ℕ) (context count at : ℕ) (b : Begun file contex
 -- ---- accepted files
 
 -- a file of which none is refused, one number for each cell
-body-length : (file : List ℕ) → isBroken (body file) ≡ false → length (cellsIn file) ≡ nodeCells * countIn file
+pub body-length : (file : List ℕ) → isBroken (body file) ≡ false → length (cellsIn file) ≡ nodeCells * countIn file
 unfolding cellsIn body isBroken valuesIn
 body-length file e = go (numbersOf (nodeCells * countIn file) (bytesAfter (header file))) refl (e)
   where
@@ -140,39 +191,48 @@ body-length file e = go (numbersOf (nodeCells * countIn file) (bytesAfter (heade
     go broken p q = true-not-false q
     go (numbers ns bytes) p q = numbers-length (nodeCells * countIn file) (bytesAfter (header file)) ns bytes p
 
--- what is known of a file that is not refused
+-- what is known of a file whose numbers are not refused
 pub record Passes (file : List ℕ) (lent : ℕ) : Type 0 where
   pub short : length file ≤ mostFileBytes
   pub headed : refusal2 file ≡ false
   pub ok : contextIn file ≤ 3
   pub fits : refusal4 (countIn file) lent ≡ false
   pub formed : isBroken (body file) ≡ false
-  pub nodes : firstOf (nodeRefusals (countIn file) (cellsIn file)) ≡ 0
+  pub ended : ltb 0 (length (bytesAfter (body file))) ≡ false
 
-pub passes : (file : List ℕ) (lent : ℕ) → fileRefusal file lent ≡ 0 → Passes file lent
-unfolding fileRefusal refusal1 refusal3 refusal5
-passes file lent e =
+-- nor are others after them
+pub passes : (file : List ℕ) (lent : ℕ) (others : List Refusal) → firstIn file lent others ≡ 0 → Passes file lent × (firstOf others ≡ 0)
+unfolding numberRefusals refusal1 refusal3 refusal5 badBody
+passes file lent others e =
     let r1 = passed 1 _ _ (omega arith) e in
     let r2 = passed 2 _ _ (omega arith) (r1 .1) in
     let r3 = passed 3 _ _ (omega arith) (r2 .1) in
     let r4 = passed 4 _ _ (omega arith) (r3 .1) in
     let r5 = passed 5 _ _ (omega arith) (r4 .1) in
-    record {
-      short = ltb-false mostFileBytes (length file) (r1 .0);
-      headed = r2 .0;
-      ok = ltb-false 3 (contextIn file) (r3 .0);
-      fits = r4 .0;
-      formed = or-false (isBroken (body file)) _ (r5 .0) .0;
-      nodes = r5 .1;
-    }
+    let b = or-false (isBroken (body file)) _ (r5 .0) in (
+      record {
+        short = ltb-false mostFileBytes (length file) (r1 .0);
+        headed = r2 .0;
+        ok = ltb-false 3 (contextIn file) (r3 .0);
+        fits = r4 .0;
+        formed = b .0;
+        ended = b .1;
+      },
+      r5 .1,
+    )
+
+pub file-passes : (file : List ℕ) (lent : ℕ) → fileRefusal file lent ≡ 0 → Passes file lent × (firstOf (nodeRefusals (countIn file) (cellsIn file)) ≡ 0)
+unfolding fileRefusal
+file-passes file lent e = passes file lent _ e
 
 -- its nodes are at most 4,096 and have six cells each, and they are an accepted table
 pub accepted-cells : (file : List ℕ) (lent : ℕ) → fileRefusal file lent ≡ 0 → (countIn file ≤ mostNodes) × (length (cellsIn file) ≡ nodeCells * countIn file) × Table (contextIn file) (countIn file) (cellsIn file)
 accepted-cells file lent e =
-    let r = passes file lent e in
+    let p = file-passes file lent e in
+    let r = p .0 in
     let f = count-fits (countIn file) lent (r .fits) in
     let l = body-length file (r .formed) in
-    let t = nodes-refusal (contextIn file) (countIn file) (cellsIn file) (r .ok) (fits-count _ _ (f .0) (f .1) (omega arith)) ∙ r .nodes in
+    let t = nodes-refusal (contextIn file) (countIn file) (cellsIn file) (r .ok) (fits-count _ _ (f .0) (f .1) (omega arith)) ∙ p .1 in
     (f .1, l, t)
 
 pub accepted-file : (file : List ℕ) (lent : ℕ) → fileRefusal file lent ≡ 0 → Table (contextIn file) (countIn file) (cellsIn file)
@@ -182,25 +242,32 @@ accepted-file file lent e = accepted-cells file lent e .2
 module _ (file : List ℕ) (lent : ℕ) (e : fileRefusal file lent ≡ 0) where
   pub no-bad-header : header file ≡ broken → ⊥
   unfolding refusal2 isBroken
-  no-bad-header h = true-not-false (sym (ap isBroken h) ∙ passes file lent e .headed)
+  no-bad-header h = true-not-false (sym (ap isBroken h) ∙ file-passes file lent e .0 .headed)
 
   module _ (context count at : ℕ) (h : header file ≡ numbers (context ∷ count ∷ []) (drop at file)) where
     b : Begun file context count at
-    b = begun file context count at (passes file lent e .short) h
+    b = begun file context count at (file-passes file lent e .0 .short) h
 
     pub stored-room : nodeCells * count ≤ lent
-    stored-room = rw (b .is-count) at (count-fits (countIn file) lent (passes file lent e .fits) .2)
+    stored-room = rw (b .is-count) at (count-fits (countIn file) lent (file-passes file lent e .0 .fits) .2)
 
     pub stored-formed : isBroken (numbersOf (nodeCells * count) (drop at file)) ≡ false
-    stored-formed = rw (b .is-body) at (passes file lent e .formed)
+    stored-formed = rw (b .is-body) at (file-passes file lent e .0 .formed)
 
 pub stored : (file table : List ℕ) (context count at : ℕ) → fileRefusal file (length table) ≡ 0 → header file ≡ numbers (context ∷ count ∷ []) (drop at file)
     → (Accepted context count ≡ loaded file (length table)) × (over (valuesIn (numbersOf (nodeCells * count) (drop at file))) table ≡ loadedTable file table)
 unfolding cellsIn
 stored file table context count at e h =
     let r = accepted file table e in
-    let b = begun file context count at (passes file (length table) e .short) h in
+    let b = begun file context count at (file-passes file (length table) e .0 .short) h in
     (rw (b .is-context, b .is-count) at (r .0), rw (b .is-body) at (r .1))
+
+-- the same of its numbers alone
+pub numbers-stored : (file table : List ℕ) (context count at : ℕ) → Begun file context count at → numbersRefusal file (length table) ≡ 0
+    → (Accepted context count ≡ numbersLoaded file (length table)) × (over (valuesIn (numbersOf (nodeCells * count) (drop at file))) table ≡ numbersTable file table)
+unfolding numbersLoaded numbersTable cellsIn
+numbers-stored file table context count at b e =
+    (sym (pick-true _ _ (eq-eqb _ 0 e) ∙ rw (b .is-context, b .is-count)), rw (← b .is-body) (sym (pick-true _ _ (eq-eqb _ 0 e))))
 
 -- the table once all its cells are stored
 pub all-stored : (n : ℕ) (bytes r new old : List ℕ) → numbersOf n bytes ≡ numbers (take n new) r → drop n new ≡ drop n old → n ≤ length new → new ≡ over (valuesIn (numbersOf n bytes)) old

@@ -7,7 +7,7 @@ use lib.ListN.{length, getD}
 use Rattle.laws.specs.Choice.{pick}
 use Rattle.laws.specs.Lists.{over}
 use Rattle.tree.specs.Sizes.{nodeCells, mostFileBytes}
-use Rattle.tree_rules.specs.Refusals.{refusal3, refusal4, refuse, firstOf, nodeRefusals}
+use Rattle.tree_rules.specs.Refusals.{refusal3, refusal4, Refusal, refuse, firstOf, nodeRefusals}
 use Rattle.file_loader.specs.declared.Loaded.{Loaded}
 use Rattle.file_loader.specs.declared.Loaded.the-variants.{Refused, Accepted}
 use Rattle.file_loader.specs.Several.{Numbers, numbersOf, isBroken, valuesIn, bytesAfter}
@@ -41,19 +41,25 @@ unfoldable pub refusal2 : List ℕ → Bool
 refusal2 file = isBroken (header file)
 
 -- 5. "A body number is malformed, or bytes follow the last one."
-unfoldable pub refusal5 : List ℕ → Bool
-refusal5 file = isBroken (body file) || ltb 0 (length (bytesAfter (body file)))
+unfoldable pub badBody : Numbers → Bool
+badBody ns = isBroken ns || ltb 0 (length (bytesAfter ns))
 
--- the first refusal that applies to a file and a lent table of so many cells, or 0
-unfoldable pub fileRefusal : List ℕ → ℕ → ℕ
-fileRefusal file lent =
-    firstOf
-    (refuse 1 (refusal1 file) ∷
+unfoldable pub refusal5 : List ℕ → Bool
+refusal5 file = badBody (body file)
+
+-- the refusals of a file and a lent table of so many cells that come before those of its nodes, in order, and then others
+unfoldable pub numberRefusals : List ℕ → ℕ → List Refusal → List Refusal
+numberRefusals file lent others =
+    refuse 1 (refusal1 file) ∷
     refuse 2 (refusal2 file) ∷
     refuse 3 (refusal3 (contextIn file)) ∷
     refuse 4 (refusal4 (countIn file) lent) ∷
     refuse 5 (refusal5 file) ∷
-    nodeRefusals (countIn file) (cellsIn file))
+    others
+
+-- the first refusal that applies to a file and a lent table of so many cells, or 0
+unfoldable pub fileRefusal : List ℕ → ℕ → ℕ
+fileRefusal file lent = firstOf (numberRefusals file lent (nodeRefusals (countIn file) (cellsIn file)))
 
 -- ---- what loading answers and stores
 
@@ -65,6 +71,19 @@ loaded file lent =
 -- the lent table afterwards: the file's numbers over its start, or, on a refusal, as it was
 unfoldable pub loadedTable : List ℕ → List ℕ → List ℕ
 loadedTable file table = pick (eqb (fileRefusal file (length table)) 0) (over (cellsIn file) table) table
+
+-- ---- the numbers alone, as they stand
+
+-- the first of 1 to 5 that applies, or 0: document 02, Paper 11, "Loading a rearranged file runs refusals 1 to 11 as for tree files", and there the numbers of the body are no nodes yet
+unfoldable pub numbersRefusal : List ℕ → ℕ → ℕ
+numbersRefusal file lent = firstOf (numberRefusals file lent [])
+
+unfoldable pub numbersLoaded : List ℕ → ℕ → Loaded
+numbersLoaded file lent =
+    pick (eqb (numbersRefusal file lent) 0) (Accepted (contextIn file) (countIn file)) (Refused (numbersRefusal file lent))
+
+unfoldable pub numbersTable : List ℕ → List ℕ → List ℕ
+numbersTable file table = pick (eqb (numbersRefusal file (length table)) 0) (over (cellsIn file) table) table
 
 -- "When an answer is an enum, a definition gives this paper's number and values for each of its cases." The reply number, 0 for done, and behind it the values
 abbrev pub loadedInNumbers : Loaded → List ℕ

@@ -10,7 +10,7 @@ ghost use Rattle.laws.specs.Lists.{over};
 ghost use Rattle.tree.specs.Sizes.{nodeCells, mostFileBytes};
 ghost use Rattle.tree_source.specs.Source.{behindHeader};
 ghost use Rattle.file_loader.specs.Several.{numbersOf, isBroken, valuesIn};
-ghost use Rattle.file_loader.specs.Files.{fileRefusal, loaded, loadedTable};
+ghost use Rattle.file_loader.specs.Files.{badBody, fileRefusal, loaded, loadedTable, numbersLoaded, numbersTable};
 ghost use Rattle.file_loader.specs.Reads.{HeaderRead, Passed, LaidOut, Begun, Counted, bodyRefusal};
 
 // ---- several numbers
@@ -64,6 +64,22 @@ fn after_node(file: &[u8], from: usize) -> Body
         return Body::Malformed;
     };
     Body::End(end)
+}
+
+// So many numbers from a place on.
+fn after_numbers(file: &[u8], from: usize, numbers: usize) -> Body
+    ensures { λ r. ⌜ Passed (now (file .entry)) from numbers r ⌝ }
+{
+    let mut at = from;
+    let mut done = 0;
+    while done < numbers {
+        let Number::Value(_, next) = number_at(file, at) else {
+            return Body::Malformed;
+        };
+        at = next;
+        done += 1;
+    }
+    Body::End(at)
 }
 
 // The nodes from a place on, one and so many others: where the others begin.
@@ -171,6 +187,16 @@ pub fn check(file: &[u8], lent: usize) -> u16
     check_nodes(file, lent, context, count, at)
 }
 
+// Whether 5 applies to so many numbers from a place on.
+fn is_bad_body(file: &[u8], from: usize, numbers: usize) -> bool
+    ensures { λ r. ⌜ r ≡ badBody (numbersOf numbers (drop from (now (file .entry)))) ⌝ }
+{
+    let Body::End(end) = after_numbers(file, from, numbers) else {
+        return true;
+    };
+    end < file.len()
+}
+
 // What loading answers.
 pub enum Loaded {
     // The number of the first refusal that applies.
@@ -193,5 +219,30 @@ pub fn load(file: &[u8], table: &mut [u16]) -> Loaded
         return Loaded::Refused(2);
     };
     store(file, at, sizes::NODE_CELLS * (count as usize), table);
+    Loaded::Accepted(context, count)
+}
+
+// The numbers of a file into a lent table as they stand, whatever they say: the context and the count, or the first of 1 to 5 that applies. Nothing is stored before that is known.
+pub fn load_numbers(file: &[u8], table: &mut [u16]) -> Loaded
+    ensures reply { λ r. ⌜ r ≡ numbersLoaded (now (file .entry)) (length (now (table .entry))) ⌝ }
+    ensures table { λ r. ⌜ now (table .exit) ≡ numbersTable (now (file .entry)) (now (table .entry)) ⌝ }
+{
+    if file.len() > sizes::MOST_FILE_BYTES {
+        return Loaded::Refused(1);
+    }
+    let Header::Read(context, count, at) = read_header(file) else {
+        return Loaded::Refused(2);
+    };
+    if context > 3 {
+        return Loaded::Refused(3);
+    }
+    if tree_rules::refusal::is_bad_count(count, table.len()) {
+        return Loaded::Refused(4);
+    }
+    let cells = sizes::NODE_CELLS * (count as usize);
+    if is_bad_body(file, at, cells) {
+        return Loaded::Refused(5);
+    }
+    store(file, at, cells, table);
     Loaded::Accepted(context, count)
 }

@@ -13,7 +13,7 @@ use Rattle.file_numbers.specs.Standing.{standsAt}
 use Rattle.file_loader.specs.Several.{numbersOf, valuesIn}
 use Rattle.file_loader.specs.Files.{header, cellsIn, refusal2}
 use Rattle.file_loader.proofs.Several.{numbers-next}
-use Rattle.file_loader.proofs.Files.{begun, Passes, passes}
+use Rattle.file_loader.proofs.Files.{begun, Passes, file-passes}
 use Rattle.file_order.specs.declared.Order.{Order}
 use Rattle.file_order.specs.declared.Order.the-variants.{Before, After}
 use Rattle.file_order.specs.declared.Compared.the-variants.{Refused, Ordered}
@@ -27,7 +27,7 @@ use Rattle.file_order.proofs.Runs.{Formed, not-bad, run-next}
 module _ (file : List ℕ) (ok : checksOf file ≡ 0) where
   fine : Passes file mostCells
   unfolding checksOf
-  fine = passes file mostCells ok
+  fine = file-passes file mostCells ok .0
 
   is-run : Formed (run file 0 2)
   unfolding header refusal2
