@@ -2,13 +2,13 @@
 use mathlib.Core.Path.{_≡_, refl, sym, _∙_}
 use mathlib.Core.Bool.{Bool, true, false}
 use mathlib.Core.List.{List, [], _∷_}
-use Prim.Native.Nat.{ℕ, _*_, _≤_}
+use Prim.Native.Nat.{ℕ, _*_, _≤_, _<_}
 use native.Mathlib.Omega.{arith}
 use lib.Dec.{ltb}
 use lib.ListN.{length, take}
 use lib.Seq.{take-at, length-take-le}
 use borrow.Author.Tests.{eq-eqb, ne-eqb}
-use Rattle.tree.specs.Sizes.{nodeCells}
+use Rattle.tree.specs.Sizes.{nodeCells, mostFileBytes}
 use Rattle.laws.specs.Lists.{over}
 use Rattle.laws.proofs.Choice.{pick-true, pick-false}
 use Rattle.laws.proofs.Lists.{length-over}
@@ -25,10 +25,13 @@ use Rattle.tree_sound.proofs.Accepts.{accepted-sound}
 use Rattle.file_bytes.specs.Bytes.{allBytes}
 use Rattle.file_save.specs.declared.Saved.{Saved}
 use Rattle.file_save.specs.declared.Saved.the-variants.{Refused}
-use Rattle.file_save.specs.Saves.{file, fileOf, saveRefusal12, saveRefusal, saved, savedAfter}
-use Rattle.file_save.specs.Stores.{Few, stored, storedAfter}
-use Rattle.file_save.proofs.Putting.{whole-long}
+use Rattle.file_save.specs.Saves.{file, fileOf, saveRefusal12, stored, storedAfter, countedOf, saveRefusal, saved, savedAfter}
+use Rattle.file_save.proofs.Putting.{whole-long, stored-counted, after-counted}
 use Rattle.file_save.proofs.Small.{bytes-one, bytes-two, few-bytes}
+
+-- what is answered where numbers are stored, and left in the buffer
+abbrev pub StoredIn : List ℕ → List ℕ → List ℕ → Saved → Type 0
+StoredIn bytes buffer last r = (r ≡ stored bytes (countedOf (length buffer))) × (last ≡ storedAfter bytes (countedOf (length buffer)) buffer)
 
 module _ (context count : ℕ) (cells : List ℕ) where
   -- ---- a table that is refused
@@ -57,18 +60,18 @@ module _ (context count : ℕ) (cells : List ℕ) where
     too-short lent e = only-12 lent ∙ stop _ _ e
 
     pub saved-is : (lent : ℕ) → saved context count cells lent ≡ stored (fileOf context count cells) lent
-    unfolding saved stored
+    unfolding saved stored saveRefusal12
     saved-is lent = go (ltb lent (length (fileOf context count cells))) refl
       where
         go : (b : Bool) → ltb lent (length (fileOf context count cells)) ≡ b → saved context count cells lent ≡ stored (fileOf context count cells) lent
         go true e = rw (too-short lent e) (pick-false _ _ (ne-eqb 12 0 (λ z. omega arith)) ∙ sym (pick-true _ _ e))
         go false e = rw (long-enough lent e) (pick-true _ _ (eq-eqb 0 0 refl) ∙ sym (pick-false _ _ e))
 
-    pub after-is : (buffer : List ℕ) → savedAfter context count cells buffer ≡ storedAfter (fileOf context count cells) buffer
-    unfolding savedAfter storedAfter
+    pub after-is : (buffer : List ℕ) → savedAfter context count cells buffer ≡ storedAfter (fileOf context count cells) (length buffer) buffer
+    unfolding savedAfter storedAfter saveRefusal12
     after-is buffer = go (ltb (length buffer) (length (fileOf context count cells))) refl
       where
-        go : (b : Bool) → ltb (length buffer) (length (fileOf context count cells)) ≡ b → savedAfter context count cells buffer ≡ storedAfter (fileOf context count cells) buffer
+        go : (b : Bool) → ltb (length buffer) (length (fileOf context count cells)) ≡ b → savedAfter context count cells buffer ≡ storedAfter (fileOf context count cells) (length buffer) buffer
         go true e = rw (too-short (length buffer) e) (pick-false _ _ (ne-eqb 12 0 (λ z. omega arith)) ∙ sym (pick-true _ _ e))
         go false e = rw (long-enough (length buffer) e) (pick-true _ _ (eq-eqb 0 0 refl) ∙ sym (pick-false _ _ e))
 
@@ -94,10 +97,9 @@ module _ (context count : ℕ) (cells : List ℕ) where
       unfolding over
       part-is = rw are-cells (take-at (numbered tree) _ (nodeCells * count) long)
 
-      part-few : Few context count (take (nodeCells * count) after)
-      unfolding numbered
-      part-few =
-          let l = part-length in
+      short : length (fileOf context count cells) < mostFileBytes
+      unfolding numbered file
+      short =
           let s = is-size in
           let m = context-most context count cells ok in
           let k = count-bounds context count cells ok in
@@ -105,17 +107,19 @@ module _ (context count : ℕ) (cells : List ℕ) where
           let p = bytes-one context (omega arith) in
           let q = bytes-two count (omega arith) in
           let w = whole-long context count (numbered tree) in
-          (omega arith, omega arith, rw part-is (omega arith))
+          rw is-size (omega arith)
 
       is-file : allBytes (context ∷ count ∷ take (nodeCells * count) after) ≡ fileOf context count cells
       unfolding file
       is-file = rw (part-is, is-size)
 
       saved-by : (buffer last : List ℕ) (r : Saved)
-          → (r ≡ stored (allBytes (context ∷ count ∷ take (nodeCells * count) after)) (length buffer)) × (last ≡ storedAfter (allBytes (context ∷ count ∷ take (nodeCells * count) after)) buffer)
+          → StoredIn (allBytes (context ∷ count ∷ take (nodeCells * count) after)) buffer last r
           → (r ≡ saved context count cells (length buffer)) × (last ≡ savedAfter context count cells buffer)
-      saved-by buffer last r e =
-          (e .0 ∙ rw is-file (sym (saved-is (length buffer))), e .1 ∙ rw is-file (sym (after-is buffer)))
+      saved-by buffer last r e = (
+        e .0 ∙ rw is-file (stored-counted (fileOf context count cells) short (length buffer) ∙ sym (saved-is (length buffer))),
+        e .1 ∙ rw is-file (after-counted (fileOf context count cells) short buffer ∙ sym (after-is buffer)),
+      )
 
 -- ---- an array of our own with room for every accepted table
 
@@ -137,10 +141,7 @@ module _ (context count : ℕ) (cells own : List ℕ) (room : Accepted context c
     pub number-length : nodeCells * count ≡ length (take (nodeCells * count) after)
     number-length = sym (part-length context count cells ok own after (room ok) over-own)
 
-    pub number-few : Few context count (take (nodeCells * count) after)
-    number-few = part-few context count cells ok own after (room ok) over-own
-
     pub number-saved : (buffer last : List ℕ) (r : Saved)
-        → (r ≡ stored (allBytes (context ∷ count ∷ take (nodeCells * count) after)) (length buffer)) × (last ≡ storedAfter (allBytes (context ∷ count ∷ take (nodeCells * count) after)) buffer)
+        → StoredIn (allBytes (context ∷ count ∷ take (nodeCells * count) after)) buffer last r
         → (r ≡ saved context count cells (length buffer)) × (last ≡ savedAfter context count cells buffer)
     number-saved buffer last r e = saved-by context count cells ok own after (room ok) over-own buffer last r e

@@ -54,13 +54,13 @@ most-symbol form detail = go (isOneOf (ExprField ∷ ExprLit ∷ ExprMethodCall 
     go false true false = omega arith
     go false false d = omega arith
 
-record Small (l : Label) : Type 0 where
-  form : l .form < 128
-  attributes : l .attributes < 128
-  detail : l .detail < 128
-  symbol : l .symbol < 65536
+pub record Small (l : Label) : Type 0 where
+  pub form : l .form < 57
+  pub attributes : l .attributes < 128
+  pub detail : l .detail < 128
+  pub symbol : l .symbol < 65536
 
-small-label : (l : Label) → badLabel l ≡ false → Small l
+pub small-label : (l : Label) → badLabel l ≡ false → Small l
 unfolding badLabel allowed fewNumbers
 small-label l e =
     let a = and-true (not (eqb (classOf (l .form)) 0)) _ (not-false _ e) in
@@ -121,7 +121,7 @@ few-bytes (node l a b) i h e =
     let s = small-label l (d .0) in
     let m = number-most a (suc i) in
     let n = number-most b (suc i + size a) in
-    let p = bytes-one (l .form) (s .form) in
+    let p = bytes-one (l .form) (omega (arith, s .form)) in
     let q = bytes-one (l .attributes) (s .attributes) in
     let r = bytes-one (l .detail) (s .detail) in
     let u = bytes-two (numberOf a (suc i)) (omega arith) in

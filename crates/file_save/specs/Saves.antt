@@ -1,11 +1,12 @@
 -- Document 02, Paper 2: the file of a tree, what saving a node table answers, and what the lent buffer holds afterwards.
 use mathlib.Core.Bool.{Bool}
 use mathlib.Core.List.{List, [], _∷_}
-use Prim.Native.Nat.{ℕ}
+use Prim.Native.Nat.{ℕ, _-_}
 use lib.Dec.{eqb, ltb}
 use lib.ListN.{length}
 use Rattle.laws.specs.Choice.{pick}
 use Rattle.laws.specs.Lists.{over}
+use Rattle.tree.specs.Sizes.{mostFileBytes}
 use Rattle.tree.specs.Trees.{Tree, treeAt}
 use Rattle.tree_rules.specs.Refusals.{refusal, refuse, firstOf}
 use Rattle.tree_numbering.specs.Numbered.{size, numbered}
@@ -24,6 +25,17 @@ fileOf context count cells = file context (treeAt cells count 1)
 -- 12. "An output buffer shorter than the bytes to be written meets refusal 12." `lent` is the buffer's length
 unfoldable pub saveRefusal12 : List ℕ → ℕ → Bool
 saveRefusal12 bytes lent = ltb lent (length bytes)
+
+-- numbers as a file, once nothing else is refused: 12, or how many bytes they are; and the buffer afterwards, on 12 as it was, else the bytes over its start. `room` is how many bytes are taken
+unfoldable pub stored : List ℕ → ℕ → Saved
+stored bytes room = pick (saveRefusal12 bytes room) (Refused 12) (Bytes (length bytes))
+
+unfoldable pub storedAfter : List ℕ → ℕ → List ℕ → List ℕ
+storedAfter bytes room buffer = pick (saveRefusal12 bytes room) buffer (over bytes buffer)
+
+-- those of a buffer that a 16-bit answer can count; all that are written for an accepted table are fewer
+unfoldable pub countedOf : ℕ → ℕ
+countedOf lent = pick (ltb lent mostFileBytes) lent (mostFileBytes - 1)
 
 -- the first that applies: the table's refusals, then 12; or 0
 unfoldable pub saveRefusal : ℕ → ℕ → List ℕ → ℕ → ℕ

@@ -7,16 +7,11 @@ ghost use Prim.Native.Nat.{_+_, _*_, _≤_, _<_};
 ghost use lib.Dec.{ltb};
 ghost use lib.ListN.{length};
 ghost use Rattle.laws.specs.Puts.{Put};
-ghost use Rattle.tree.specs.Sizes.{nodeCells, mostNodes};
+ghost use Rattle.tree.specs.Sizes.{nodeCells};
 ghost use Rattle.tree_rules.specs.Refusals.{Accepted};
 ghost use Rattle.file_bytes.specs.Bytes.{bytesOf, allBytes};
-ghost use Rattle.file_save.specs.Saves.{saved, savedAfter};
-ghost use Rattle.file_save.specs.Stores.{Few, stored, storedAfter};
-
-// The most bytes of an accepted table's context and count, and of a node.
-const HEADER_BYTES: usize = 3;
-
-const NODE_BYTES: usize = 10;
+ghost use Rattle.file_save.specs.Saves.{countedOf, stored, storedAfter, saved, savedAfter};
+ghost use Rattle.file_save.specs.Stores.{Leaves};
 
 // What saving answers.
 pub enum Saved {
@@ -41,18 +36,27 @@ fn long(value: u16) -> usize
     3
 }
 
-// How many bytes several numbers take.
-fn all_long(numbers: &[u16]) -> usize
-    requires { ⌜ length (now numbers) ≤ nodeCells * mostNodes ⌝ }
-    ensures { λ r. ⌜ r ≡ length (allBytes (now (numbers .entry))) ⌝ }
+// What several numbers leave of so many bytes.
+enum Room {
+    // They take more.
+    Short,
+    Left(usize),
+}
+
+fn left_after(numbers: &[u16], room: usize) -> Room
+    ensures { λ r. ⌜ Leaves (allBytes (now (numbers .entry))) room r ⌝ }
 {
-    let mut bytes = 0;
+    let mut left = room;
     let mut done = 0;
     while done < numbers.len() {
-        bytes += long(numbers[done]);
+        let bytes = long(numbers[done]);
+        if left < bytes {
+            return Room::Short;
+        }
+        left -= bytes;
         done += 1;
     }
-    bytes
+    Room::Left(left)
 }
 
 // A number from a place on; answers the place behind it.
@@ -90,25 +94,42 @@ fn put_all(file: &mut [u8], from: usize, numbers: &[u16]) -> usize
 
 // ---- files
 
-// Whether so many bytes are too few for a context, a count and the numbers of the nodes. They are counted only where the most that so many nodes take might be too many.
-fn is_short(context: u16, count: u16, numbers: &[u16], lent: usize) -> bool
-    requires { ⌜ Few context count (now numbers) ⌝ }
-    ensures { λ r. ⌜ r ≡ ltb lent (length (allBytes (context ∷ count ∷ now (numbers .entry)))) ⌝ }
+// Whether so many bytes are too few for a context, a count and the numbers of the nodes. They are counted only where three for each might be too many.
+fn is_short(context: u16, count: u16, numbers: &[u16], room: usize) -> bool
+    ensures { λ r. ⌜ r ≡ ltb room (length (allBytes (context ∷ count ∷ now (numbers .entry)))) ⌝ }
 {
-    if HEADER_BYTES + NODE_BYTES * (count as usize) <= lent {
-        return false;
+    let thirds = room / 3;
+    if numbers.len() < thirds {
+        if 1 < thirds - numbers.len() {
+            return false;
+        }
     }
-    let bytes = long(context) + long(count) + all_long(numbers);
-    lent < bytes
+    let header = long(context) + long(count);
+    if room < header {
+        return true;
+    }
+    let Room::Left(_) = left_after(numbers, room - header) else {
+        return true;
+    };
+    false
+}
+
+// The most bytes of so many that an answer can count.
+fn counted(room: usize) -> usize
+    ensures { λ r. ⌜ r ≡ countedOf room ⌝ }
+{
+    if room < sizes::MOST_FILE_BYTES {
+        return room;
+    }
+    sizes::MOST_FILE_BYTES - 1
 }
 
 // A context, a count and the numbers of the nodes as a file, where the buffer has room for it. Nothing is stored before that is known.
-fn store(context: u16, count: u16, numbers: &[u16], file: &mut [u8]) -> Saved
-    requires { ⌜ Few context count (now numbers) ⌝ }
-    ensures { λ r. ⌜ r ≡ stored (allBytes (context ∷ count ∷ now (numbers .entry))) (length (now (file .entry))) ⌝ }
-    ensures { λ r. ⌜ now (file .exit) ≡ storedAfter (allBytes (context ∷ count ∷ now (numbers .entry))) (now (file .entry)) ⌝ }
+pub fn store(context: u16, count: u16, numbers: &[u16], file: &mut [u8]) -> Saved
+    ensures reply { λ r. ⌜ r ≡ stored (allBytes (context ∷ count ∷ now (numbers .entry))) (countedOf (length (now (file .entry)))) ⌝ }
+    ensures file { λ r. ⌜ now (file .exit) ≡ storedAfter (allBytes (context ∷ count ∷ now (numbers .entry))) (countedOf (length (now (file .entry)))) (now (file .entry)) ⌝ }
 {
-    if is_short(context, count, numbers, file.len()) {
+    if is_short(context, count, numbers, counted(file.len())) {
         return Saved::Refused(12);
     }
     let second = put(file, 0, context);
