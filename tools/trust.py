@@ -32,6 +32,7 @@ ROOTS = [
     'file_loader/Files',
     'file_save/Saves',
     'file_order/Orders',
+    'file_columns/Rearranged',
     'row_walk/Walk',
     'sheet_carry/Carries',
     'token_writer/Writes',
