@@ -21,6 +21,11 @@ ghost use Rattle.row_open.specs.Steps.{joined, joinedTo, previous, isNew
 // The numbers of an entry: its node, its lowest and its highest operator.
 const ENTRY_CELLS: usize = 3;
 
+// Where its ends stand, behind its node.
+const LOWEST: usize = 1;
+
+const HIGHEST: usize = 2;
+
 // The most entries.
 const MOST_ENTRIES: u16 = 3;
 
@@ -66,8 +71,8 @@ fn entry_at(entries: &[u16], place: u16) -> Entry
     let at = ENTRY_CELLS * (place as usize);
     Entry {
         node: entries[at],
-        lowest: entries[at + 1],
-        highest: entries[at + 2],
+        lowest: entries[at + LOWEST],
+        highest: entries[at + HIGHEST],
     }
 }
 
