@@ -20,7 +20,7 @@ use Rattle.expr.specs.Expr.{canBeginExpr, canBeginGenerics}
 use Rattle.row_open.specs.Open.{lastOperator}
 use Rattle.row_open.specs.Statement.{SameClass}
 use Rattle.row_open.specs.Steps.{previous, isNew, news}
-use Rattle.row_open.proofs.Alike.{SameOperator}
+use Rattle.row_walk.proofs.Alike.{SameOperator}
 
 -- the second where the first holds
 abbrev follows : Bool → Bool → Bool

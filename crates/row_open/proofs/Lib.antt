@@ -1,4 +1,3 @@
-pub mod Alike
 pub mod Entries
 pub mod Near
 pub mod Classes

@@ -20,7 +20,7 @@ use Rattle.row.specs.Rows.{Rows}
 use Rattle.row_walk.specs.Walk.{rowStored, placed, treeRows}
 use Rattle.row_walk.proofs.Placed.{length-placed}
 use Rattle.row_open.specs.Open.{withOperator, outerIn, hasOuter}
-use Rattle.row_open.proofs.Alike.{SameOperator, Alike, gone, kept, other, label, all-rows-like}
+use Rattle.row_walk.proofs.Alike.{SameOperator, Alike, gone, kept, other, label, all-rows-like}
 
 -- ---- trees
 

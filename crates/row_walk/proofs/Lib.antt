@@ -5,4 +5,5 @@ pub mod Promises
 pub mod Local
 pub mod Below
 pub mod Paths
+pub mod Alike
 pub mod Erase
