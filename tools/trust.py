@@ -17,13 +17,8 @@ import re
 import sys
 from pathlib import Path
 
-<<<<<<< HEAD
-# What is promised: demand 3, commas, both contexts, the two callee orders, open sheets, one file for one tree, the
-# order on files, and the contracts of the functions of the boundary.
-=======
-# What is promised: demand 3, commas, both contexts, open sheets, operators not chosen yet, one file for one tree, the order on files, and the
-# contracts of the functions of the boundary.
->>>>>>> 1871867 (row_walk: trees that are asked the same have the same rows, once for symbols and operators)
+# What is promised: demand 3, commas, both contexts, the two callee orders, open sheets, operators not chosen yet, one
+# file for one tree, the order on files, and the contracts of the functions of the boundary.
 ROOTS = [
     'token_theorem/Statement',
     'token_plain/Commas',
@@ -39,12 +34,9 @@ ROOTS = [
     'file_order/Orders',
     'file_columns/Rearranged',
     'row_walk/Walk',
-<<<<<<< HEAD
     'sheet_carry/Carries',
-=======
     'row_open/Open',
     'row_open/Statement',
->>>>>>> 1871867 (row_walk: trees that are asked the same have the same rows, once for symbols and operators)
     'token_writer/Writes',
     'token_reader/Reading',
     'answers/Replies',
