@@ -107,6 +107,17 @@ int main(void) {
     printf("edited %u nodes, %s\n", (unsigned)edited, as_seen ? "as seen before" : "otherwise");
     for (unsigned node = 1; node <= edited; node++)
         if (sheet_rows[TEZHUKOR_ROW_CELLS * (node - 1)] & 1) printf("node %u needs a pair\n", node);
+    /* `(offset - station) ? start`, whose operator is one from `+` to `*`, and then `+` or `-`. */
+    const uint16_t draft[] = {5, 0, 0, 2, 3, 0, 5, 0, 1, 4, 5, 0, 26, 0, 0, 0, 0, 3,
+                              26, 0, 0, 0, 0, 1, 26, 0, 0, 0, 0, 2};
+    const uint16_t wide[] = {1, 0, 2}, narrow[] = {1, 0, 1};
+    uint16_t told[NODES];
+    tezhukor_decide_open(TEZHUKOR_NONE, NODES, TEZHUKOR_OUR_ORDER, draft, 6 * NODES, 1, wide,
+                         TEZHUKOR_ENTRY_CELLS, told, NODES);
+    printf("the left operand's pair: %s, ", told[1] == TEZHUKOR_DEPENDS ? "depends" : "does not");
+    tezhukor_decide_open(TEZHUKOR_NONE, NODES, TEZHUKOR_OUR_ORDER, draft, 6 * NODES, 1, narrow,
+                         TEZHUKOR_ENTRY_CELLS, told, NODES);
+    printf("then %s\n", told[1] == TEZHUKOR_NEVER ? "never" : "otherwise");
     /* Once carried, the callee has a pair; carried again, the sheet stays as it is. */
     uint16_t older_rows[OLDER_ROWS] = {0};
     uint32_t carried = tezhukor_carry(TEZHUKOR_NONE, OLDER_NODES, TEZHUKOR_CRATES_ORDER, older,

@@ -34,6 +34,10 @@
  *      closure with a written output over another body than a bare block
  *   19 a form or operand restored from the columns falls outside 0 to 65,535; told
  *      straight after 5
+ *   20 more than three operators are left open
+ *   21 a node whose operator is left open is absent or no Binary, or is named twice
+ *   22 of an operator that is left open the lowest is above the highest, or the highest
+ *      above 27
  */
 #ifndef TEZHUKOR_H
 #define TEZHUKOR_H
@@ -64,6 +68,14 @@ enum {
     TEZHUKOR_OUR_ORDER = 1
 };
 
+/* Whether an expression has an outer pair, where operators are not chosen yet: for no choice,
+ * for every choice, or for some. */
+enum {
+    TEZHUKOR_NEVER = 0,
+    TEZHUKOR_ALWAYS = 1,
+    TEZHUKOR_DEPENDS = 2
+};
+
 /* Cells that a node takes in a table, in rows and in scratch, and tokens at the most;
  * cells that a token takes. */
 #define TEZHUKOR_NODE_CELLS 6
@@ -73,6 +85,10 @@ enum {
 #define TEZHUKOR_TOKEN_CELLS 2
 #define TEZHUKOR_MOST_NODES 4096
 #define TEZHUKOR_MOST_TOKENS 24576
+
+/* Operators that can be left open at most, and cells that each entry takes. */
+#define TEZHUKOR_MOST_ENTRIES 3
+#define TEZHUKOR_ENTRY_CELLS 3
 
 /* Bytes that are enough for the saved, put back or rearranged file of so many nodes: three
  * for the header, and of each node one for form, attributes and detail, two for an operand,
@@ -196,6 +212,19 @@ uint32_t tezhukor_from_columns(const uint8_t *columns, size_t columns_length, ui
  * after 5. */
 uint32_t tezhukor_load_columns(const uint8_t *columns, size_t columns_length, uint16_t *table,
                                size_t table_length);
+
+/* Decides which pairs stand while operators are not chosen yet. There are `entered` entries,
+ * three cells each: a Binary's number, and the lowest and the highest operator that may be
+ * chosen there, both included; the operator that the table holds there plays no part. Of each
+ * node, one cell of answers says whether it has an outer pair for no choice of operators at all
+ * entries, for every choice or for some; 0 for types and links. Without entries that is the
+ * row's outer pair. The pairs are those of the callee order. Replies 0 or the refusal (3, 4, 6
+ * to 11, then 12 for fewer answers than nodes or fewer cells than the entries take, 20, 21 and
+ * 22, each over all entries before the next). */
+uint16_t tezhukor_decide_open(uint16_t context, uint16_t count, uint16_t order,
+                              const uint16_t *table, size_t table_length, uint16_t entered,
+                              const uint16_t *entries, size_t entries_length,
+                              uint16_t *answers, size_t answers_length);
 
 #ifdef __cplusplus
 }

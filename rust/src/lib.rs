@@ -107,11 +107,15 @@
 //! rearranged, all forms first, then all attributes and so on, by [`to_columns`], and put back
 //! byte for byte by [`from_columns`].
 //!
+//! A draft in which operators are not chosen yet has pairs that stand whatever is chosen, and
+//! pairs that depend on it: [`Tree::with_open`].
+//!
 //! Nests that double prettyplease's work with each level do not double it here.
 
 mod binding;
 pub mod boundary;
 pub mod build;
+mod open;
 mod open_sheet;
 mod prevented;
 mod preview;
@@ -123,6 +127,7 @@ pub use binding::{Binding, Lean};
 use model::sizes::{file_bytes, MOST_NODES};
 #[doc(inline)]
 pub use model::{codes, codes::Token, contexts, forms, sizes, CalleeOrder};
+pub use open::{Answer, Ops};
 pub use open_sheet::OpenSheet;
 pub use prevented::{Prevented, Reading};
 pub use preview::{Preview, Sight};

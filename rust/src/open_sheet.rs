@@ -32,7 +32,7 @@ pub struct OpenSheet {
     context: u16,
     count: u16,
     order: CalleeOrder,
-    table: Vec<u16>,
+    pub(crate) table: Vec<u16>,
     rows: Vec<u16>,
 }
 
@@ -95,7 +95,7 @@ impl OpenSheet {
     }
 
     /// What it is beside its table and its rows.
-    fn header(&self) -> edits::Sheet {
+    pub(crate) fn header(&self) -> edits::Sheet {
         let order = self.order.number();
         edits::Sheet { context: self.context, count: self.count, order }
     }

@@ -51,15 +51,18 @@ refusals! {
     17 NamedNode "The named node is absent or is no expression.",
     18 EditedTree "The edited tree would have more than 4,096 nodes, a path of more than 128, or a closure with a written output over another body than a block without attributes and label.",
     19 Restored "A form or operand restored from the columns falls outside 0 to 65,535.",
+    20 Entries "More than three operators are left open.",
+    21 OpenNode "A node whose operator is left open is absent or is no Binary, or is named twice.",
+    22 OpenRange "Of an operator that is left open the lowest is above the highest, or the highest above 27.",
 }
 
 impl Refusal {
-    /// The reply number, 1 to 19.
+    /// The reply number, 1 to 22.
     pub fn number(self) -> u16 {
         self as u16
     }
 
-    /// The refusal with a reply number; none for 0 and above 19.
+    /// The refusal with a reply number; none for 0 and above 22.
     pub fn numbered(number: u16) -> Option<Refusal> {
         Refusal::ALL.into_iter().find(|refusal| refusal.number() == number)
     }

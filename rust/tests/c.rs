@@ -36,6 +36,7 @@ fn example() {
         "edited 7 nodes, as seen before",
         "node 3 needs a pair",
         "node 5 needs a pair",
+        "the left operand's pair: depends, then never",
         "carried 1, pair of the callee 1",
         "carried again, left 9",
     ];

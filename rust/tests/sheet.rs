@@ -420,6 +420,49 @@ fn leans() {
     assert!(printed(&["why", "-"], &ranges, 0).contains("ranges lean to neither side"));
 }
 
+/// Drafts: pairs that stand whatever is chosen, those that depend with a choice for each, and
+/// what is refused.
+#[test]
+fn drafts() {
+    let draft = |text: &str| printed(&["draft", text], b"", 0);
+    assert_eq!(
+        draft("offset {+|-} (station - start)"),
+        "offset {+|-} (station - start)\nno pair depends on what is chosen\n"
+    );
+    assert_eq!(
+        draft("(left + right) {-|*} depth"),
+        "(left + right) {-|*} depth\n\
+         ?            ?\n\
+         depends: the pair round node 2, `left + right`; with `*` it stands, with `-` not\n"
+    );
+    // A set that is no range, and operators above, below and beside each other.
+    assert_eq!(
+        draft("(a {+|<} b) {+..%} (c {*|<<} d) == e"),
+        "(a {+|<} b) {+..%} (c {*|<<} d) == e\n\
+         ?         ?        ?          ?\n\
+         depends: the pair round node 3, `a {+|<} b`; with `+`, `*`, `*` it stands, with `+`, `+`, \
+         `*` not\n\
+         depends: the pair round node 6, `c {*|<<} d`; with `+`, `+`, `<<` it stands, with `+`, \
+         `+`, `*` not\n"
+    );
+    assert_eq!(draft("a {+} b"), "a + b\nno pair depends on what is chosen\n");
+    assert_eq!(
+        printed(&["draft", "--condition"], b"x {==|&&} (S {})\n", 0),
+        "x {&&|==} (S { .. })\nno pair depends on what is chosen\n"
+    );
+    let refused = |text: &str| printed(&["draft", text], b"", 1);
+    let unlike = "sheet: what is read depends on the operator, `+` or `*`: parentheses must say \
+                  which operands it has (line 1, column 7)";
+    assert!(refused("a + b {+|*} c").starts_with(unlike));
+    assert!(refused("a < b {==|+} c").contains("what is read depends on the operator"));
+    assert!(refused("{-|*} a").contains("must stand between two operands"));
+    assert!(refused("a {+|=} b").contains("other than `=`, must stand here (line 1, column 6)"));
+    assert!(refused("a {-..+} b").starts_with("sheet: refused (22): "));
+    assert!(refused("((a {+|-} b) {+|-} (c {+|-} d)) {+|-} e").starts_with("sheet: refused (20)"));
+    assert!(refused("a {+|-} ").contains("the text ends where an operand must stand"));
+    assert_eq!(sheet(&["draft", "a", "b"], b"").status.code(), Some(2));
+}
+
 /// A second comparison is told from what has no reading for another reason.
 #[test]
 fn chains() {

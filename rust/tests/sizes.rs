@@ -4,10 +4,10 @@
 use std::collections::HashMap;
 use std::path::{Path, PathBuf};
 use tezhukor::sizes::*;
-use tezhukor::{codes, contexts, CalleeOrder, Refusal};
+use tezhukor::{codes, contexts, Answer, CalleeOrder, Refusal};
 
 /// The numbers by name.
-const SIZES: [(&str, usize); 17] = [
+const SIZES: [(&str, usize); 19] = [
     ("NODE_CELLS", NODE_CELLS),
     ("NODE_BYTES", NODE_BYTES),
     ("MOST_SYMBOL", MOST_SYMBOL as usize),
@@ -25,6 +25,8 @@ const SIZES: [(&str, usize); 17] = [
     ("LAST_OPERATOR", LAST_OPERATOR as usize),
     ("NO_OPERATOR", NO_OPERATOR as usize),
     ("LEVEL_UNIT", LEVEL_UNIT as usize),
+    ("MOST_ENTRIES", MOST_ENTRIES),
+    ("ENTRY_CELLS", ENTRY_CELLS),
 ];
 
 fn root() -> PathBuf {
@@ -109,6 +111,8 @@ fn the_header_agrees() {
     defined.sort();
     let names: Vec<&str> = defined.iter().map(|found| found.0).collect();
     let meant = [
+        "ENTRY_CELLS",
+        "MOST_ENTRIES",
         "MOST_NODES",
         "MOST_TOKENS",
         "NODE_CELLS",
@@ -122,10 +126,10 @@ fn the_header_agrees() {
     assert!(defined.iter().all(|found| SIZES.contains(found)), "{defined:?}");
 }
 
-/// The contexts of the header are those of `contexts`, and its callee orders those of
-/// [`CalleeOrder`].
+/// The contexts of the header are those of `contexts`, its callee orders those of
+/// [`CalleeOrder`], and its answers those of [`Answer`].
 #[test]
-fn contexts_and_orders_agree() {
+fn numbers_with_names_agree() {
     let path = root().join("rust/include/tezhukor.h");
     let text = std::fs::read_to_string(path).expect("the header");
     let context = |line: &str| {
@@ -141,6 +145,9 @@ fn contexts_and_orders_agree() {
         ("CONDITION", contexts::CONDITION),
         ("CRATES_ORDER", CalleeOrder::Crate.number()),
         ("OUR_ORDER", CalleeOrder::Ours.number()),
+        ("NEVER", Answer::Never.number()),
+        ("ALWAYS", Answer::Always.number()),
+        ("DEPENDS", Answer::Depends.number()),
     ];
     assert_eq!(named, meant.map(|(name, number)| (name.to_string(), number.into())));
     assert_eq!(contexts::CONDITION, LAST_CONTEXT);
@@ -166,11 +173,14 @@ fn sentences_agree() {
         (Refusal::ReadingTooLarge, MOST_LEVELS),
         (Refusal::EditedTree, MOST_NODES),
         (Refusal::EditedTree, MOST_LEVELS),
+        (Refusal::OpenRange, LAST_BINARY.into()),
     ] {
         assert!(refusal.sentence().contains(&spelled(number)), "{number}: {refusal}");
     }
     assert_eq!(MOST_TOKENS, TOKENS_PER_NODE * MOST_NODES);
     assert_eq!(codes::SPELLED.len(), usize::from(LAST_CODE) + 1);
-    assert_eq!(Refusal::numbered(LAST_REFUSAL), Some(Refusal::Restored));
+    assert_eq!(Refusal::numbered(LAST_REFUSAL), Some(Refusal::OpenRange));
+    assert_eq!(Refusal::Entries.sentence().split(' ').nth(2), Some("three"));
+    assert_eq!(MOST_ENTRIES, 3);
     assert_eq!(Refusal::numbered(LAST_REFUSAL + 1), None);
 }

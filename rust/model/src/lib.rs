@@ -13,7 +13,8 @@
 //!   [`commas`] where commas stand that may follow a last item.
 //! - [`callee`] says when a Call groups its callee, in the crate's order and in ours, and
 //!   where the rows of the two differ.
-//! - [`edit`] says what an edit of an open sheet gives.
+//! - [`edit`] says what an edit of an open sheet gives, and [`open`] what is told of a tree
+//!   with operators that are not chosen yet.
 //! - [`generate`] makes accepted trees, [`recorded`] reads recorded answers, and
 //!   [`lent`] makes buffers that show what was written to them.
 
@@ -28,6 +29,7 @@ pub mod edit;
 pub mod forms;
 pub mod generate;
 pub mod lent;
+pub mod open;
 pub mod precedence;
 pub mod recorded;
 pub mod rules;

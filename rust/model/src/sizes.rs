@@ -37,7 +37,16 @@ pub const LAST_CODE: u16 = 46;
 pub const LAST_CONTEXT: u16 = 3;
 
 /// The last refusal.
-pub const LAST_REFUSAL: u16 = 19;
+pub const LAST_REFUSAL: u16 = 22;
+
+/// The most operators that can be left open.
+pub const MOST_ENTRIES: usize = 3;
+
+/// Cells of an entry, which leaves an operator open: node, lowest, highest.
+pub const ENTRY_CELLS: usize = 3;
+
+/// The last operator of a Binary.
+pub const LAST_BINARY: u16 = 27;
 
 /// A reply of one number is the refusal times this, or without one what was done.
 pub const REFUSAL_UNIT: u32 = 65_536;

@@ -1,4 +1,5 @@
-//! Edits of open sheets, and sheets carried to our callee order.
+//! Edits of open sheets, sheets carried to our callee order, and operators that are not chosen
+//! yet.
 
 use super::library;
 
@@ -92,6 +93,35 @@ pub fn carry(sheet: Sheet, table: &[u16], rows: &mut [u16]) -> u32 {
             table.len(),
             rows.as_mut_ptr(),
             rows.len(),
+        )
+    }
+}
+
+/// Decides of each node whether it has an outer pair for no choice (0), for every choice (1) or
+/// for some (2) of the operators that entries leave open, of which there are `entered`,
+/// [`ENTRY_CELLS`](model::sizes::ENTRY_CELLS) cells each: a Binary's number, and the lowest and
+/// the highest operator. The operators in the table itself play no part there. The reply is 0
+/// or the refusal.
+pub fn decide_open(
+    sheet: Sheet,
+    table: &[u16],
+    entered: u16,
+    entries: &[u16],
+    answers: &mut [u16],
+) -> u16 {
+    // SAFETY: as above.
+    unsafe {
+        library::tezhukor_decide_open(
+            sheet.context,
+            sheet.count,
+            sheet.order,
+            table.as_ptr(),
+            table.len(),
+            entered,
+            entries.as_ptr(),
+            entries.len(),
+            answers.as_mut_ptr(),
+            answers.len(),
         )
     }
 }

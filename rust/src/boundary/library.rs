@@ -1,4 +1,4 @@
-//! The exports of the static libraries: of `answers` the first thirteen, of
+//! The exports of the static libraries: of `answers` the first fourteen, of
 //! `answers_asked` the others. They are declared here only.
 
 extern "C" {
@@ -119,6 +119,19 @@ extern "C" {
         table: *mut u16,
         table_length: usize,
     ) -> u32;
+
+    pub fn tezhukor_decide_open(
+        context: u16,
+        count: u16,
+        order: u16,
+        table: *const u16,
+        table_length: usize,
+        entered: u16,
+        entries: *const u16,
+        entries_length: usize,
+        answers: *mut u16,
+        answers_length: usize,
+    ) -> u16;
 
     pub fn tezhukor_decide_by_order(
         order: u16,

@@ -9,6 +9,7 @@
 //! TEZHUKOR_FUZZ says how many of each are made; 2,000 if it says nothing.
 
 mod edits;
+mod open;
 
 use model::callee::{apart, Apart};
 use model::chart::Chart;

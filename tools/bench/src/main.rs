@@ -7,6 +7,7 @@
 //!     cargo run --release -- files                what takes and gives files and tokens (files.rs)
 //!     cargo run --release -- files instructions   the same, with valgrind
 //!     cargo run --release -- edits                instructions of an edit, with valgrind (edits.rs)
+//!     cargo run --release -- open                 instructions of a draft, with valgrind (open.rs)
 //!     cargo run --release -- nests [FOLDER]       nests of 4 to 126 levels
 //!     cargo run --release -- slowest [FOLDER]     the slowest trees that a search finds
 //!     cargo run --release -- reads FILE..         reads of the table a node, with valgrind
@@ -49,6 +50,7 @@ mod clock;
 mod edits;
 mod files;
 mod nests;
+mod open;
 mod reads;
 mod sets;
 mod sides;
@@ -78,6 +80,8 @@ fn main() -> ExitCode {
         ["archive", folder] => archive::write(folder),
         ["edits"] => edits::count_edits(),
         ["edits", "run", size, side] => edits::run_edits(number(size), number(side)),
+        ["open"] => open::count_open(),
+        ["open", "run", size, side] => open::run_open(number(size), number(side)),
         ["nests"] => nests::time_nests(None),
         ["nests", folder] => nests::time_nests(Some(folder)),
         ["slowest"] => nests::search_slowest(None),
@@ -101,7 +105,7 @@ fn main() -> ExitCode {
 }
 
 fn usage() -> ExitCode {
-    eprintln!("usage: bench [turns | instructions | files [instructions] | edits | nests [FOLDER] | slowest [FOLDER] | reads FILE.. | archive FOLDER | run SET SIDE TIMES], sets and sides from 0 on");
+    eprintln!("usage: bench [turns | instructions | files [instructions] | edits | open | nests [FOLDER] | slowest [FOLDER] | reads FILE.. | archive FOLDER | run SET SIDE TIMES], sets and sides from 0 on");
     ExitCode::FAILURE
 }
 

@@ -7,6 +7,7 @@ mod digest;
 mod edits;
 mod in_context;
 mod nests;
+mod open;
 mod orders;
 mod record;
 mod rows;
@@ -200,11 +201,13 @@ fn compare(
 
 const USAGE: &str = "usage:
   compare [SEED]           all questions and rows, on random and on small trees
-  compare short            the same on each 23rd of these trees, and some calls and edits, for
-                           the gate
+  compare short            the same on each 23rd of these trees, and some calls, edits and
+                           drafts, for the gate
   compare edits EDITS [SEED]
                            so many edits of open sheets and as many previews, in runs too,
                            with every refusal
+  compare open CHOICES [SEED]
+                           trees with operators that are not chosen yet, over so many choices
   compare orders CALLS [SEED]
                            rows in both callee orders, on trees with so many calls
   compare spines [FORMS]   rows of right spines of one to five forms, or of so many
@@ -215,9 +218,11 @@ fn main() -> ExitCode {
     oracle::command::run(USAGE, |words| match *words {
         [] => Some(contexts::compare() + compare_trees(1, 1)),
         ["short"] => {
-            Some(compare_trees(1, 23) + orders::compare(100_000, 1) + edits::compare(10_000, 1))
+            let rows = compare_trees(1, 23) + orders::compare(100_000, 1);
+            Some(rows + edits::compare(10_000, 1) + open::compare(100_000, 1))
         }
         ["edits", ref words @ ..] => with_seed(words, edits::compare),
+        ["open", ref words @ ..] => with_seed(words, open::compare),
         ["orders", ref words @ ..] => with_seed(words, orders::compare),
         ["spines"] => Some((1..=spines::LONGEST).map(|forms| spines::compare(forms).0).sum()),
         ["spines", forms] => number(forms, spines::LONGEST).map(|forms| spines::compare(forms).0),

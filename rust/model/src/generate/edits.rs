@@ -280,7 +280,7 @@ pub fn faulty_sheet(faults: &[(usize, usize)], dice: &mut Dice) -> NodeTable {
 
 /// A call of a closure with a written output, a cast and a sign, on whose nodes each fault
 /// has a place of its own.
-fn sound(dice: &mut Dice) -> NodeTable {
+pub(super) fn sound(dice: &mut Dice) -> NodeTable {
     let nodes: [[u16; NODE_CELLS]; 13] = [
         [CALL, 0, 0, 2, 3, 0],
         [PATH, 0, 0, 0, 0, 1],
@@ -302,7 +302,7 @@ fn sound(dice: &mut Dice) -> NodeTable {
 }
 
 /// Makes one of a tree's faults, 3, 4 and 6 to 11, in one of its ways.
-fn wrong(table: &mut NodeTable, fault: usize, way: usize) {
+pub(super) fn wrong(table: &mut NodeTable, fault: usize, way: usize) {
     let mut set = |node: usize, cell: usize, number| {
         table.cells[NODE_CELLS * (node - 1) + cell] = number;
     };

@@ -11,6 +11,7 @@ pub mod edits;
 mod every_spine;
 pub mod named;
 mod nests;
+pub mod open;
 mod piece;
 mod random;
 mod small;

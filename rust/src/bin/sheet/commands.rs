@@ -3,7 +3,7 @@
 use crate::answer::{words, Answer};
 use crate::kind::Kind;
 use crate::names::Table;
-use crate::{blame, doubles, edits, lexer, locate, pack, show, why, USAGE};
+use crate::{blame, doubles, draft, edits, lexer, locate, pack, show, why, USAGE};
 use std::cmp::Ordering;
 use std::ffi::{OsStr, OsString};
 use std::fmt::Write;
@@ -27,6 +27,7 @@ pub fn run(arguments: &[OsString]) -> Result<Answer, Answer> {
         Some("read") => return read_by(rest),
         Some("pack") => return pack::rearranged(Kind::Tree, rest),
         Some("unpack") => return pack::rearranged(Kind::Columns, rest),
+        Some("draft") => return draft_by(rest),
         _ => {}
     }
     let (names, rest) = names_option(rest)?;
@@ -76,6 +77,19 @@ fn read_by(arguments: &[OsString]) -> Result<Answer, Answer> {
             }
             _ => return Err(Answer::usage()),
         };
+    }
+}
+
+/// A draft with the option of `draft`.
+fn draft_by(arguments: &[OsString]) -> Result<Answer, Answer> {
+    let (context, rest) = match arguments {
+        [option, rest @ ..] if option == "--condition" => (contexts::CONDITION, rest),
+        _ => (contexts::NONE, arguments),
+    };
+    match rest {
+        [] => draft::draft(context, &text_from(std::io::stdin())?),
+        [text] if text != "--condition" => draft::draft(context, &utf8(text.as_encoded_bytes())?),
+        _ => Err(Answer::usage()),
     }
 }
 

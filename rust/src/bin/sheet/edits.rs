@@ -72,7 +72,7 @@ fn seen(sight: &Sight, colour: bool) -> String {
 }
 
 /// Marks below the characters at those bytes of a text.
-fn marks(text: &str, places: &[usize], mark: char) -> String {
+pub fn marks(text: &str, places: &[usize], mark: char) -> String {
     let is_marked = |at: usize| places.binary_search(&at).is_ok();
     let line: String =
         text.char_indices().map(|(at, _)| if is_marked(at) { mark } else { ' ' }).collect();

@@ -5,6 +5,7 @@ mod blame;
 mod commands;
 mod count;
 mod doubles;
+mod draft;
 mod edits;
 mod kind;
 mod lexer;
@@ -48,6 +49,10 @@ sheet: where a printed Rust expression needs parentheses
   sheet preview [--names NAMES] FILE NODE TEXT
                                      the text before and after that edit, and the pairs
                                      that come and go
+  sheet draft [--condition] [TEXT]   an expression in which {+|-} or {+..%} stands for an
+                                     operator that is not chosen yet: its pairs, those
+                                     that depend on the choice marked, and for each of
+                                     these a choice with it and one without
   sheet doubles FILE..               the files that hold the same tree in the same
                                      context, a line each, with an empty line between
                                      trees; a folder stands for the files in it
