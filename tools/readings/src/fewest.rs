@@ -35,7 +35,8 @@ struct Tally {
     trees_fewer: u64,
     most_fewer: usize,
     different: u64,
-    /// The shortest list with fewer, beside what is written.
+    /// The shortest list of another way that reads as the tree, beside what is written: in
+    /// context 0 one with as many pairs, in context 3 one with fewer.
     shortest: Option<(usize, String)>,
 }
 
@@ -75,8 +76,9 @@ impl Tally {
                 }
                 least = least.min(total);
                 self.as_many += u64::from(total == most);
-                if total < most {
-                    self.fewer(tree.context, &way, &written);
+                self.different += u64::from(total < most && tree.context == NONE);
+                if total < most || tree.context == NONE {
+                    self.show(&way, &written);
                 }
             });
         }
@@ -85,9 +87,7 @@ impl Tally {
         self.most_fewer = self.most_fewer.max(most - least);
     }
 
-    /// A way with fewer pairs, which in context 0 there is not.
-    fn fewer(&mut self, context: u16, way: &Written, written: &Written) {
-        self.different += u64::from(context == NONE);
+    fn show(&mut self, way: &Written, written: &Written) {
         let length = way.tokens.len();
         if self.shortest.as_ref().is_none_or(|shortest| length < shortest.0) {
             let both = [way, written].map(|written| text(&written.tokens));
