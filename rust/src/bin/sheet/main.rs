@@ -12,7 +12,6 @@ mod lexer;
 mod locate;
 mod many;
 mod names;
-mod open;
 mod pack;
 mod prevents;
 mod show;
