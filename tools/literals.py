@@ -91,6 +91,7 @@ ALLOWED = [
     ('place', 'tree_one_pass/src/*', r'marks\[at \+ \d\]', 'a mark among four'),
     ('place', 'token_writer/src/* token_reader/src/*', r'tokens\[at \+ 1\]', 'a symbol, behind its code'),
     ('place', 'row_walk/src/* spines/src/digest.rt', r'rows\[at \+ \d\]', 'a cell of a row, beside its name'),
+    ('place', 'row_open/src/*', r'entries\[at \+ \d\]', 'a number of an entry, beside its name'),
     ('nodes', 'spines/src/*', '', 'a row as one number'),
     ('levels', 'tree_one_pass/*', r'row / 128 % 8', 'a part of a number that holds a row of the table of forms'),
     ('levels', 'row_pack/*', '', 'the weight of a flag'),
