@@ -76,6 +76,11 @@ fn body(kind: Kind, numbers: &[u16], malformed: usize) -> String {
     }
 }
 
+/// The nodes of a tree file, up to the first number that is malformed.
+pub fn listed(file: &[u8]) -> Vec<Node> {
+    nodes(numbers(file).0.get(2..).unwrap_or(&[]))
+}
+
 fn nodes(cells: &[u16]) -> Vec<Node> {
     cells.chunks_exact(NODE_CELLS).map(Node::of_cells).collect()
 }

@@ -3,7 +3,7 @@
 use crate::answer::{words, Answer};
 use crate::kind::Kind;
 use crate::names::Table;
-use crate::{blame, doubles, draft, edits, lexer, locate, pack, show, why, USAGE};
+use crate::{blame, doubles, draft, edits, lexer, locate, pack, page, show, why, USAGE};
 use std::cmp::Ordering;
 use std::ffi::{OsStr, OsString};
 use std::fmt::Write;
@@ -28,6 +28,7 @@ pub fn run(arguments: &[OsString]) -> Result<Answer, Answer> {
         Some("pack") => return pack::rearranged(Kind::Tree, rest),
         Some("unpack") => return pack::rearranged(Kind::Columns, rest),
         Some("draft") => return draft_by(rest),
+        Some("page") => return page::page(rest),
         _ => {}
     }
     let (names, rest) = names_option(rest)?;

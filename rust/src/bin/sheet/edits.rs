@@ -39,11 +39,30 @@ pub fn preview(
     text: &OsStr,
     names: Option<&OsStr>,
 ) -> Result<Answer, Answer> {
+    let edit = seen_by(file, node, text, names)?;
+    Ok(Answer::done(seen(&edit.sight, show::is_coloured())))
+}
+
+/// What an edit would give, with the names of both texts.
+pub struct Seen {
+    pub tree: Tree,
+    pub names: Names,
+    pub sight: Sight,
+}
+
+/// Looks at an edit.
+pub fn seen_by(
+    file: &OsStr,
+    node: &OsStr,
+    text: &OsStr,
+    names: Option<&OsStr>,
+) -> Result<Seen, Answer> {
     let asked = Asked::new(file, node, text, names)?;
     let preview = asked.sheet.preview(asked.node, &asked.second);
     let preview = preview.map_err(|refusal| asked.refused(refusal))?;
-    let sight = preview.sight(&Names::new(&asked.table.lines()));
-    Ok(Answer::done(seen(&sight, show::is_coloured())))
+    let names = Names::new(&asked.table.lines());
+    let sight = preview.sight(&names);
+    Ok(Seen { tree: preview.tree().clone(), names, sight })
 }
 
 /// An edit as it is seen. Without colour a line below each text marks the pairs.
@@ -63,12 +82,20 @@ fn seen(sight: &Sight, colour: bool) -> String {
             lines.push(format!("        {}", marks(text.as_str(), &places, mark)));
         }
     }
-    lines.extend(go.iter().map(|pair| told("goes", before, pair, "before")));
-    lines.extend(come.iter().map(|pair| told("comes", after, pair, "after")));
-    if go.is_empty() && come.is_empty() {
-        lines.push("no pair comes or goes".to_string());
-    }
+    lines.extend(told_all(sight));
     lines.join("\n") + "\n"
+}
+
+/// The pairs that come and go, in words.
+pub fn told_all(sight: &Sight) -> Vec<String> {
+    let Sight { before, after, come, go } = sight;
+    let goes = go.iter().map(|pair| told("goes", before, pair, "before"));
+    let comes = come.iter().map(|pair| told("comes", after, pair, "after"));
+    let all: Vec<String> = goes.chain(comes).collect();
+    match all.is_empty() {
+        true => vec!["no pair comes or goes".to_string()],
+        false => all,
+    }
 }
 
 /// Marks below the characters at those bytes of a text.

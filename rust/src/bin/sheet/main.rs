@@ -13,6 +13,7 @@ mod locate;
 mod many;
 mod names;
 mod pack;
+mod page;
 mod prevents;
 mod show;
 mod why;
@@ -34,6 +35,11 @@ sheet: where a printed Rust expression needs parentheses
   sheet why [--names NAMES] FILE     for each added pair what it prevents: the text
                                      without it and how that reads; and who asks for it;
                                      and how many there are, and whether fewer do
+  sheet page [--names NAMES] [--preview NODE TEXT] FILE
+                                     a page for a browser, one file on standard output:
+                                     the text with its pairs, for each what it prevents,
+                                     and the tree; with --preview before and after that
+                                     edit; for a refused file what is wrong
   sheet rows FILE                    the row of each expression: node, pair,
                                      precedence, previous and next operator, flags
   sheet tokens FILE                  the tokens of a plain tree: codes, symbols, words

@@ -58,21 +58,37 @@ const PARTS: [Part; 7] = [
     },
 ];
 
-/// What is said of each added pair, by node number: what it prevents, where the tree is
-/// plain, and who asks for it.
+/// What is said of an added pair.
+pub struct Told {
+    pub node: u16,
+    pub is_inner: bool,
+    /// What it prevents, where the tree is plain, and on a line behind it who asks for it.
+    pub said: String,
+}
+
+/// What is said of each added pair, by node number.
 pub fn lines(tree: &Tree, names: Names) -> Vec<String> {
+    told(tree, names).into_iter().map(|told| told.said).collect()
+}
+
+/// The same with the pairs.
+pub fn told(tree: &Tree, names: Names) -> Vec<Told> {
     let prevents = Prevents::new(tree, &names);
     let shown = show::shown(tree, names);
     let (rows, owners) = (tree.rows(), owners(tree));
-    let mut lines = Vec::new();
-    for (number, row) in (1..).zip(&rows) {
-        let operand = || Operand::new(tree, &rows, &owners, number);
-        lines.extend(
-            row.has_outer_pair().then(|| prevents.before(line(&operand(), &shown), number)),
-        );
-        lines.extend(row.has_inner_pair().then(|| inner_line(&operand(), &shown)));
+    let mut all = Vec::new();
+    for (node, row) in (1..).zip(&rows) {
+        let operand = || Operand::new(tree, &rows, &owners, node);
+        let outer = || Told {
+            node,
+            is_inner: false,
+            said: prevents.before(line(&operand(), &shown), node),
+        };
+        let inner = || Told { node, is_inner: true, said: inner_line(&operand(), &shown) };
+        all.extend(row.has_outer_pair().then(outer));
+        all.extend(row.has_inner_pair().then(inner));
     }
-    lines
+    all
 }
 
 /// Each node's owner and its place there, 0 or 1; none for the root.

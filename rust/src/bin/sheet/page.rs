@@ -1,0 +1,166 @@
+//! A sheet as a page to look at: one file that asks for nothing from elsewhere.
+
+mod drawing;
+mod markup;
+
+use crate::kind::Kind;
+use crate::answer::{words, Answer};
+use crate::commands::{names_text, tree_bytes};
+use crate::{blame, edits, why};
+use markup::{escaped, expression, Mark};
+use std::ffi::{OsStr, OsString};
+use tezhukor::text::{Names, Pair, Text};
+use tezhukor::{forms, Refusal, Sight, Tree};
+
+const STYLE: &str = include_str!("page/page.css");
+const SCRIPT: &str = include_str!("page/page.js");
+
+/// What is asked for.
+#[derive(Default)]
+struct Asked<'a> {
+    names: Option<&'a OsStr>,
+    /// A node, and the expression that is put in its place.
+    preview: Option<[&'a OsStr; 2]>,
+}
+
+/// The page of a file, or of an edit of it.
+pub fn page(arguments: &[OsString]) -> Result<Answer, Answer> {
+    let (mut asked, mut rest) = (Asked::default(), arguments);
+    loop {
+        rest = match (rest, &asked) {
+            ([option, names, rest @ ..], Asked { names: None, .. }) if option == "--names" => {
+                asked.names = Some(names);
+                rest
+            }
+            ([option, node, text, rest @ ..], Asked { preview: None, .. })
+                if option == "--preview" =>
+            {
+                asked.preview = Some([node, text]);
+                rest
+            }
+            ([file], _) if file != "--names" && file != "--preview" => return asked.page(file),
+            _ => return Err(Answer::usage()),
+        };
+    }
+}
+
+impl Asked<'_> {
+    fn page(&self, file: &OsStr) -> Result<Answer, Answer> {
+        if let Some([node, text]) = self.preview {
+            let edit = edits::seen_by(file, node, text, self.names)?;
+            return Ok(Answer::done(of_edit(&edit)));
+        }
+        let names = Names::new(&names_text(self.names)?);
+        let bytes = tree_bytes(file)?;
+        match Tree::load(&bytes) {
+            Ok(tree) => Ok(Answer::done(of_tree(&tree, &names))),
+            Err(refusal) => {
+                let said = words(refusal, &blame::place(Kind::Tree, refusal, &bytes));
+                let page = of_refusal(refusal, &said, &bytes);
+                Ok(Answer { output: page.into(), ..Answer::refused(said) })
+            }
+        }
+    }
+}
+
+/// A whole page of what stands in its body.
+fn whole(title: &str, body: &str) -> String {
+    let title = escaped(title);
+    format!(
+        "<!doctype html>\n<html lang=\"en\">\n<head>\n<meta charset=\"utf-8\">\n\
+         <meta name=\"viewport\" content=\"width=device-width, initial-scale=1\">\n\
+         <meta http-equiv=\"Content-Security-Policy\" content=\"default-src 'none'; \
+         style-src 'unsafe-inline'; script-src 'unsafe-inline'; img-src data:\">\n\
+         <link rel=\"icon\" href=\"data:,\">\n<title>{title}</title>\n<style>\n{STYLE}</style>\n\
+         </head>\n<body>\n<main>\n{body}</main>\n<script>\n{SCRIPT}</script>\n</body>\n</html>\n"
+    )
+}
+
+fn of_tree(tree: &Tree, names: &Names) -> String {
+    let text = Text::new(tree, &tree.rows(), names);
+    let added = |_: &Pair| Mark::Added;
+    let body = format!("<h1>A sheet of {}</h1>\n{}", size(tree), seen(tree, &text, names, added));
+    whole(text.as_str(), &body)
+}
+
+fn size(tree: &Tree) -> String {
+    let context = ["", ", at the start of a statement", ", in a match arm", ", as a condition"];
+    let context = context.get(usize::from(tree.context())).copied().unwrap_or("");
+    match tree.count() {
+        1 => format!("one node{context}"),
+        count => format!("{count} nodes{context}"),
+    }
+}
+
+/// The text with its pairs, what is said of each, and the tree.
+fn seen(tree: &Tree, text: &Text, names: &Names, mark: impl Fn(&Pair) -> Mark) -> String {
+    let hint = match text.pairs().len() {
+        0 => "No pair was added: none is needed.",
+        _ => "Each marked parenthesis was added. Choose one, by a click or with Tab and Enter, to see what it prevents.",
+    };
+    format!(
+        "<p class=\"expression\">{}</p>\n<p class=\"soft hint\">{hint}</p>\n\
+         <section id=\"reasons\" aria-live=\"polite\">\n{}</section>\n\
+         <h2>The tree</h2>\n<div class=\"drawing\" tabindex=\"0\">\n{}</div>\n",
+        expression(text, mark, true),
+        reasons(tree, text, names),
+        drawing::svg(tree, text),
+    )
+}
+
+/// What is said of each pair, in the order of the text.
+fn reasons(tree: &Tree, text: &Text, names: &Names) -> String {
+    let told = why::told(tree, names.clone());
+    let reason = |(at, pair): (usize, &Pair)| {
+        let is_it = |told: &&why::Told| (told.node, told.is_inner) == (pair.node, pair.is_inner);
+        let said = told.iter().find(is_it).map_or("", |told| &told.said);
+        let (first, behind) = said.split_once("\n  ").unwrap_or((said, ""));
+        format!(
+            "<div class=\"reason\" id=\"reason-{at}\" hidden>\n<p class=\"text\">{}</p>\n\
+             <p class=\"soft\">{}</p>\n</div>\n",
+            escaped(first),
+            escaped(behind)
+        )
+    };
+    text.pairs().iter().enumerate().map(reason).collect()
+}
+
+/// A sheet before and after an edit.
+fn of_edit(edit: &edits::Seen) -> String {
+    let edits::Seen { tree, names, sight } = edit;
+    let Sight { before, after, come, go } = sight;
+    let lines: String = edits::told_all(sight)
+        .iter()
+        .map(|line| format!("<p class=\"text\">{}</p>\n", escaped(line)))
+        .collect();
+    let goes = |pair: &Pair| if go.contains(pair) { Mark::Goes } else { Mark::Added };
+    let comes = |pair: &Pair| if come.contains(pair) { Mark::Comes } else { Mark::Added };
+    let body = format!(
+        "<h1>An edit, before and after</h1>\n<h2>Before</h2>\n<p class=\"expression\">{}</p>\n\
+         <h2>After</h2>\n{lines}{}",
+        expression(before, goes, false),
+        seen(tree, after, names, comes),
+    );
+    whole(after.as_str(), &body)
+}
+
+/// A refused file: the refusal, and the nodes as far as they can be told.
+fn of_refusal(refusal: Refusal, said: &str, file: &[u8]) -> String {
+    let nodes = blame::listed(file);
+    let blamed = blame::node(refusal, &nodes);
+    let row = |(number, node): (usize, &tezhukor::Node)| {
+        let class = if blamed == Some(number) { " class=\"marked\"" } else { "" };
+        let name = forms::name(node.form).unwrap_or("no form");
+        let cells: String = node.cells().iter().map(|cell| format!("<td>{cell}</td>")).collect();
+        format!("<tr{class}><td>{number}</td><td class=\"name\">{name}</td>{cells}</tr>\n")
+    };
+    let rows: String = (1..).zip(&nodes).map(row).collect();
+    let body = format!(
+        "<h1>No sheet</h1>\n<p class=\"expression\">{}</p>\n<h2>Its nodes, as far as they can be \
+         told</h2>\n<div class=\"wide\"><table>\n<tr><th>node</th><th class=\"name\">form</th>\
+         <th>form</th><th>attributes</th><th>detail</th><th>first</th><th>second</th>\
+         <th>symbol</th></tr>\n{rows}</table></div>\n",
+        escaped(said)
+    );
+    whole("A file that is no sheet", &body)
+}

@@ -1,0 +1,98 @@
+//! `sheet page`: what the page holds. `tools/page_test` looks at it in a browser.
+
+use std::io::Write;
+use std::process::{Command, Output, Stdio};
+use tezhukor::build::{binary, call, path, Context, Expr, Op};
+
+/// Runs `sheet` with arguments and bytes on its standard input.
+fn sheet(arguments: &[&str], input: &[u8]) -> Output {
+    let mut command = Command::new(env!("CARGO_BIN_EXE_sheet"));
+    command.args(arguments).stdin(Stdio::piped()).stdout(Stdio::piped()).stderr(Stdio::piped());
+    let mut child = command.spawn().expect("sheet runs");
+    let _ = child.stdin.take().expect("its input").write_all(input);
+    child.wait_with_output().expect("it ends")
+}
+
+fn page(arguments: &[&str], input: &[u8], status: i32) -> String {
+    let output = sheet(&[&["page"], arguments].concat(), input);
+    assert_eq!(output.status.code(), Some(status), "{arguments:?}");
+    let page = String::from_utf8(output.stdout).expect("text");
+    // Nothing is asked for from elsewhere.
+    let without_namespace = page.replace("xmlns=\"http://www.w3.org/2000/svg\"", "");
+    for word in ["http:", "https:", " src=", "url(", "@import", "<link rel=\"style", "fetch("] {
+        assert!(!without_namespace.contains(word), "{word}");
+    }
+    assert!(page.starts_with("<!doctype html>") && page.ends_with("</html>\n"));
+    page
+}
+
+fn file(expr: Expr, context: Context) -> Vec<u8> {
+    expr.tree(context).expect("a tree").to_file()
+}
+
+/// a - (b - (c - d))
+fn nested() -> Expr {
+    let [a, b, c, d] = [1, 2, 3, 4].map(path);
+    binary(Op::Sub, a, binary(Op::Sub, b, binary(Op::Sub, c, d)))
+}
+
+#[test]
+fn pairs_and_their_reasons() {
+    let page = page(&["-"], &file(nested(), Context::None), 0);
+    assert!(page.contains("<h1>A sheet of 7 nodes</h1>"));
+    assert!(page.contains("<title>a - (b - (c - d))</title>"));
+    assert_eq!(page.matches("<button type=\"button\" class=\"pair\"").count(), 2);
+    for (at, node, reads) in [(0, 3, "(a - b) - (c - d)"), (1, 5, "a - ((b - c) - d)")] {
+        assert!(page.contains(&format!("data-pair=\"{at}\" data-node=\"{node}\"")));
+        assert!(page.contains(&format!("<div class=\"reason\" id=\"reason-{at}\" hidden>")));
+        assert!(page.contains(&format!("which reads {reads}</p>")));
+        assert!(page.contains(&format!("<g id=\"node-{node}\" class=\"node paired\">")));
+    }
+    assert_eq!(page.matches("<g id=\"node-").count(), 7);
+    assert_eq!(page.matches("who asks").count(), 0);
+}
+
+#[test]
+fn no_pairs_and_no_tokens() {
+    let plain = page(&["-"], &file(call(path(1), [path(2)]), Context::None), 0);
+    assert!(plain.contains("No pair was added: none is needed."));
+    assert!(!plain.contains("<button"));
+    // A match that begins a statement, left of `+`.
+    let statement = file(binary(Op::Add, tezhukor::build::match_(), path(1)), Context::Statement);
+    let page = page(&["-"], &statement, 0);
+    assert!(page.contains("<h1>A sheet of 3 nodes, at the start of a statement</h1>"));
+    assert!(page.contains("parenthesize asks for it: part 1"));
+}
+
+#[test]
+fn edits_before_and_after() {
+    let sheet = file(nested(), Context::None);
+    let page = page(&["--preview", "c - d", "c * d", "-"], &sheet, 0);
+    assert!(page.contains("goes: the pair round node 5, `c - d`, at columns 10 and 16 before"));
+    assert_eq!(page.matches("class=\"pair goes\"").count(), 2);
+    assert!(page.contains("<title>a - (b - c * d)</title>"));
+    let message = sheet_message(&["page", "--preview", "9", "x", "-"], &sheet);
+    assert!(message.starts_with("sheet: refused (17) at node 9 of 7"), "{message}");
+}
+
+fn sheet_message(arguments: &[&str], input: &[u8]) -> String {
+    let output = sheet(arguments, input);
+    assert_ne!(output.status.code(), Some(0));
+    String::from_utf8(output.stderr).expect("text")
+}
+
+#[test]
+fn refused_files() {
+    // Node 2 owns itself.
+    let page = page(&["-"], &[0, 2, 33, 0, 0, 2, 0, 0, 33, 0, 0, 2, 0, 0], 1);
+    assert!(page.contains("refused (8) at node 2: An operand&#39;s number is not above"));
+    assert!(page.contains("<tr class=\"marked\"><td>2</td><td class=\"name\">Try</td>"));
+    assert_eq!(page.matches("class=\"marked\"").count(), 1);
+}
+
+#[test]
+fn usage() {
+    for wrong in [&["page"][..], &["page", "--names", "n"], &["page", "--preview", "1", "a"]] {
+        assert!(sheet_message(wrong, b"").starts_with("sheet: where"), "{wrong:?}");
+    }
+}
