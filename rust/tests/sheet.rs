@@ -259,6 +259,11 @@ fn prevented() {
                cast before `<` needs parentheses"],
         ),
         (
+            "within((depth as usize) < limit)",
+            &["(depth as usize): without it: within(depth as usize < limit), which has no \
+               reading: behind a type name `<` opens type arguments, and `<<` is no operator"],
+        ),
+        (
             "(ring.advance)(stroke) + 1",
             &["(ring.advance): without it: ring.advance(stroke) + 1, which calls the method \
                `advance`"],

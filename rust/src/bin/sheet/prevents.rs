@@ -2,6 +2,7 @@
 
 use crate::locate;
 use std::collections::HashMap;
+use tezhukor::forms::CAST;
 use tezhukor::text::{Names, Text};
 use tezhukor::{Prevented, Reading, Tree};
 
@@ -14,7 +15,8 @@ impl Prevents {
         let all = tree.prevented(names).unwrap_or_default();
         let line = |prevented: Prevented| {
             let own = text.of(prevented.node);
-            let reads = reads(tree.context(), &prevented, own);
+            let is_cast = tree.node(prevented.node).is_some_and(|node| node.form == CAST);
+            let reads = reads(tree.context(), &prevented, own, is_cast);
             let line = format!("({own}): without it: {}, {reads}", prevented.text);
             (prevented.node, line)
         };
@@ -30,13 +32,19 @@ impl Prevents {
     }
 }
 
-/// How tokens without the pair round a text read.
-fn reads(context: u16, prevented: &Prevented, own: &str) -> String {
+/// How the tokens without the pair round a text read.
+fn reads(context: u16, prevented: &Prevented, own: &str, is_cast: bool) -> String {
     match &prevented.reading {
         Reading::None => {
             let codes: Vec<u16> = prevented.tokens.iter().map(|token| token.code).collect();
+            let is_before_less = prevented.text.contains(&format!("{own} <"));
             match locate::reason(context, &codes) {
                 Some(reason) => format!("which has no reading: {reason}"),
+                None if is_cast && is_before_less => {
+                    "which has no reading: behind a type name `<` opens type arguments, and `<<` \
+                     is no operator"
+                        .to_string()
+                }
                 None => "which has no reading".to_string(),
             }
         }
