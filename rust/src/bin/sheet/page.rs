@@ -3,9 +3,9 @@
 mod drawing;
 mod markup;
 
-use crate::kind::Kind;
 use crate::answer::{words, Answer};
 use crate::commands::{names_text, tree_bytes};
+use crate::kind::Kind;
 use crate::{blame, edits, why};
 use markup::{escaped, expression, Mark};
 use std::ffi::{OsStr, OsString};
