@@ -17,7 +17,7 @@ use Rattle.tree.specs.Operands.{formIn}
 use Rattle.tree.proofs.Matches.{form-in, form-none}
 use Rattle.expr.specs.declared.order.CalleeOrder.{CalleeOrder}
 use Rattle.row_open.specs.declared.Entry.{Entry}
-use Rattle.row_open.specs.Open.{lastOperator, nodesOf, from, openAt, before, choices, withOperator, chosen, allOf, refusal21, refusal22}
+use Rattle.row_open.specs.Open.{lastBinary, nodesOf, from, openAt, before, choices, withOperator, chosen, allOf, refusal21, refusal22}
 use Rattle.row_open.specs.Steps.{previous, isNew, news, newAt, Within}
 use Rattle.row_open.specs.Steps as steps
 use Rattle.row_open.proofs.Near.{Near, NearAt, put-column, near-put, near-class}
@@ -86,7 +86,7 @@ module _ (test : ℕ → Bool) where
   all-from lo zero h = refl
   all-from lo (suc n) h = rw (h lo (omega arith) (omega arith)) (all-from (suc lo) n (λ k l m. h k (omega arith) (omega arith)))
 
-  module _ (lowest : ℕ) (respects : (o : ℕ) → o ≤ lastOperator → test (previous o) ≡ test o) where
+  module _ (lowest : ℕ) (respects : (o : ℕ) → o ≤ lastBinary → test (previous o) ≡ test o) where
     -- what has been passed
     abbrev passed : ℕ → Bool
     passed op = allOf (map test (from lowest (op - lowest)))
@@ -99,7 +99,7 @@ module _ (test : ℕ → Bool) where
         rw (e, from-more lowest (op - lowest), d) (all-append test (from lowest (op - lowest)) (op ∷ []) ∙ rw (and-true (test op)))
 
     -- an operator that is not new has been passed, in its class
-    absorbed : (op : ℕ) → lowest ≤ op → op ≤ lastOperator → isNew lowest op ≡ false → passed op && test op ≡ passed op
+    absorbed : (op : ℕ) → lowest ≤ op → op ≤ lastBinary → isNew lowest op ≡ false → passed op && test op ≡ passed op
     unfolding isNew
     absorbed op h l n = go (passed op) refl
       where
@@ -113,7 +113,7 @@ module _ (test : ℕ → Bool) where
             let ge = ltb-false (previous op) lowest (d .1) in
             sym (respects op l) ∙ from-all lowest (op - lowest) e (previous op) ge (omega arith)
 
-    news-passed : (n op : ℕ) → lowest ≤ op → op + n ≤ suc lastOperator → passed op && allOf (map test (news lowest op n)) ≡ passed op && allOf (map test (from op n))
+    news-passed : (n op : ℕ) → lowest ≤ op → op + n ≤ suc lastBinary → passed op && allOf (map test (news lowest op n)) ≡ passed op && allOf (map test (from op n))
     unfolding news from allOf pick
     news-passed zero op h l = refl
     news-passed (suc n) op h l = go (isNew lowest op) refl (news-passed n (suc op) (omega arith) (omega arith))
@@ -129,7 +129,7 @@ module _ (test : ℕ → Bool) where
             ∙ rw (passed-more op h) at r
             ∙ and-assoc (passed op) (test op) (allOf (map test (from (suc op) n)))
 
-    pub news-all : (highest : ℕ) → lowest ≤ highest → highest ≤ lastOperator → allOf (map test (news lowest lowest (suc highest - lowest))) ≡ allOf (map test (from lowest (suc highest - lowest)))
+    pub news-all : (highest : ℕ) → lowest ≤ highest → highest ≤ lastBinary → allOf (map test (news lowest lowest (suc highest - lowest))) ≡ allOf (map test (from lowest (suc highest - lowest)))
     unfolding from allOf
     news-all highest h l =
         let e : lowest - lowest ≡ 0 = omega arith in
@@ -142,7 +142,7 @@ pub record GoodEntry (count : ℕ) (cells : List ℕ) (e : Entry) : Type 0 where
   pub high : e .node ≤ count
   pub binary : formAt cells (e .node) ≡ ExprBinary
   pub ends : e .lowest ≤ e .highest
-  pub most : e .highest ≤ lastOperator
+  pub most : e .highest ≤ lastBinary
 
 pub data Good (count : ℕ) (cells : List ℕ) : List Entry → Type 0 where
   done : Good count cells []
@@ -166,8 +166,8 @@ checked cells count [] e f = done
 checked cells count (x ∷ es) e f =
     let a = or-false (not (eqb (formIn cells count (x .node)) ExprBinary)) (isOneOf (nodesOf es) (x .node) || refusal21 cells count es) e in
     let b = or-false (isOneOf (nodesOf es) (x .node)) (refusal21 cells count es) (a .1) in
-    let c = or-false (ltb (x .highest) (x .lowest) || ltb lastOperator (x .highest)) (refusal22 es) f in
-    let d = or-false (ltb (x .highest) (x .lowest)) (ltb lastOperator (x .highest)) (c .0) in
+    let c = or-false (ltb (x .highest) (x .lowest) || ltb lastBinary (x .highest)) (refusal22 es) f in
+    let d = or-false (ltb (x .highest) (x .lowest)) (ltb lastBinary (x .highest)) (c .0) in
     let i = form-there cells count (x .node) (eqb-true _ _ (not-false _ (a .0))) in
     more (record { low = i .0; high = i .1; binary = i .2; ends = ltb-false _ _ (d .0); most = ltb-false _ _ (d .1) }) (checked cells count es (b .1) (c .1))
 
@@ -205,7 +205,7 @@ module _ (count : ℕ) (test : List ℕ → Bool) (respects : (cells after : Lis
       all-same _ _ (λ o. new-open es (withOperator (x .node) o cells) (good-put count (x .node) o (g .low) cells es r) (rw (length-put (x .node) o cells) l)) (newAt x)
       ∙ news-all (λ o. allOpen test es (withOperator (x .node) o cells)) (x .lowest) class-same (x .highest) (g .ends) (g .most)
     where
-      class-same : (o : ℕ) → o ≤ lastOperator → allOpen test es (withOperator (x .node) (previous o) cells) ≡ allOpen test es (withOperator (x .node) o cells)
+      class-same : (o : ℕ) → o ≤ lastBinary → allOpen test es (withOperator (x .node) (previous o) cells) ≡ allOpen test es (withOperator (x .node) o cells)
       class-same o h =
           open-near es (withOperator (x .node) (previous o) cells) (withOperator (x .node) o cells)
           (good-put count (x .node) (previous o) (g .low) cells es r) (rw (length-put (x .node) (previous o) cells) l) (rw (length-put (x .node) o cells) l)

@@ -17,7 +17,7 @@ use Rattle.precedence.proofs.Levels.{same-lean}
 use Rattle.row_pack.specs.FromCells.{ofRank}
 use Rattle.row_pack.proofs.Cells.{of-rank}
 use Rattle.expr.specs.Expr.{canBeginExpr, canBeginGenerics}
-use Rattle.row_open.specs.Open.{lastOperator}
+use Rattle.row_open.specs.Open.{lastBinary}
 use Rattle.row_open.specs.Statement.{SameClass}
 use Rattle.row_open.specs.Steps.{previous, isNew, news}
 use Rattle.row_walk.proofs.Alike.{SameOperator}
@@ -52,16 +52,16 @@ from-test o p t =
     }
 
 -- an operator and the one before it in its class
-pub previous-same : (o : ℕ) → o ≤ lastOperator → SameOperator (previous o) o
+pub previous-same : (o : ℕ) → o ≤ lastBinary → SameOperator (previous o) o
 unfolding previous operators lookup pick canBeginExpr canBeginGenerics
 previous-same o h = from-test (previous o) o (all-at (λ k. sameLevel (previous k) k && (sameLean (previous k) k && sameBegin (previous k) k)) 28 tt o (omega arith))
 
-pub previous-most : (o : ℕ) → o ≤ lastOperator → previous o ≤ o
+pub previous-most : (o : ℕ) → o ≤ lastBinary → previous o ≤ o
 unfolding previous lookup pick
 previous-most o h = leb-true _ _ (true-of (all-at (λ k. leb (previous k) k) 28 tt o (omega arith)))
 
 -- operators of one level lean the same way
-one-lean : (o p : ℕ) → o ≤ lastOperator → p ≤ lastOperator → sameLevel o p ≡ true → T (sameLean o p)
+one-lean : (o p : ℕ) → o ≤ lastBinary → p ≤ lastBinary → sameLevel o p ≡ true → T (sameLean o p)
 unfolding operators lookup pick
 one-lean o p h k e =
     by (sameLevel o p) (sameLean o p) e (all-at (λ m. follows (sameLevel o m) (sameLean o m)) 28 (all-at (λ n. all (λ m. follows (sameLevel n m) (sameLean n m)) 28) 28 tt o (omega arith)) p (omega arith))
@@ -71,7 +71,7 @@ one-lean o p h k e =
     by false b f t = true-not-false (sym f)
 
 -- operators that agree in level, and in the two tests of their tokens
-pub class-operator : (o p : ℕ) → o ≤ lastOperator → p ≤ lastOperator → SameClass o p → SameOperator o p
+pub class-operator : (o p : ℕ) → o ≤ lastBinary → p ≤ lastBinary → SameClass o p → SameOperator o p
 unfolding ofBinop
 class-operator o p h k c =
     let l : sameLevel o p ≡ true = eq-eqb _ _ (ap rankOf (c .level)) in
@@ -82,7 +82,7 @@ class-operator o p h k c =
     }
 
 -- no range of operators meets more than 14 classes: at most 2,744 walks for three entries
-pub fourteen-classes : (lowest highest : ℕ) → lowest ≤ lastOperator → highest ≤ lastOperator → length (news lowest lowest (suc highest - lowest)) ≤ 14
+pub fourteen-classes : (lowest highest : ℕ) → lowest ≤ lastBinary → highest ≤ lastBinary → length (news lowest lowest (suc highest - lowest)) ≤ 14
 unfolding news isNew previous lookup pick
 fourteen-classes lowest highest h k =
     leb-true _ _ (true-of (all-at (λ m. leb (length (news lowest lowest (suc m - lowest))) 14) 28 (all-at (λ n. all (λ m. leb (length (news n n (suc m - n))) 14) 28) 28 tt lowest (omega arith)) highest (omega arith)))

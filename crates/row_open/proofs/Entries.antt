@@ -11,7 +11,7 @@ use Rattle.laws.specs.Choice.{isOneOf}
 use Rattle.laws.proofs.Choice.{or-here, or-next}
 use Rattle.row_open.specs.declared.Entry.{Entry}
 use Rattle.tree.specs.Sizes.{nodeCells}
-use Rattle.row_open.specs.Open.{entryAt, entriesIn, nodesOf, lastOperator, refusal22}
+use Rattle.row_open.specs.Open.{entryAt, entriesIn, nodesOf, lastBinary, refusal22}
 use Rattle.row_open.specs.Steps.{Within, Room}
 use Rattle.row_open.specs.Steps as steps
 
@@ -47,7 +47,7 @@ entered-none numbers n node h = rw (no-entry numbers n (omega arith))
 -- ---- what `vary` asks
 
 module _ {n : ℕ} where
-  pub within-first : {e : Entry} {es : List Entry} → Within n (e ∷ es) → (1 ≤ e .node) × (nodeCells * e .node ≤ n) × (e .highest ≤ lastOperator)
+  pub within-first : {e : Entry} {es : List Entry} → Within n (e ∷ es) → (1 ≤ e .node) × (nodeCells * e .node ≤ n) × (e .highest ≤ lastBinary)
   within-first (steps.entry a b c w) = (a, b, c)
 
   pub within-rest : {e : Entry} {es : List Entry} → Within n (e ∷ es) → Within n es
@@ -57,7 +57,7 @@ module _ {n : ℕ} (numbers : List ℕ) (entered : ℕ) (some : 0 < entered) (w 
   all-within : Within n (entryAt numbers (entered - 1) ∷ entriesIn (entered - 1) numbers)
   all-within = rw (last-entry numbers entered some) at w
 
-  pub last-within : (e : Entry) → e ≡ entryAt numbers (entered - 1) → (1 ≤ e .node) × (nodeCells * e .node ≤ n) × (e .highest ≤ lastOperator)
+  pub last-within : (e : Entry) → e ≡ entryAt numbers (entered - 1) → (1 ≤ e .node) × (nodeCells * e .node ≤ n) × (e .highest ≤ lastBinary)
   last-within e is = rw is (within-first all-within)
 
   pub others-within : (m : ℕ) → n ≡ m → Within m (entriesIn (entered - 1) numbers)

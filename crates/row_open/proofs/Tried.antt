@@ -15,14 +15,14 @@ use Rattle.expr.specs.declared.order.CalleeOrder.{CalleeOrder}
 use Rattle.row_open.specs.declared.Entry.{Entry}
 use Rattle.tree.specs.Sizes.{nodeCells}
 use Rattle.tree.specs.Table.{detailColumn}
-use Rattle.row_open.specs.Open.{lastOperator, entryAt, entriesIn, withOperator, hasOuter, allOf}
+use Rattle.row_open.specs.Open.{lastBinary, entryAt, entriesIn, withOperator, hasOuter, allOf}
 use Rattle.row_open.specs.Steps.{joined, joinedTo, previous, isNew, news, sweep, newAt, Next, varied}
 use Rattle.row_open.proofs.Entries.{last-entry, no-entry}
 
 -- ---- the operators of a range
 
 -- the lowest is the first of its class
-pub new-lowest : (o : ℕ) → o ≤ lastOperator → isNew o o ≡ true
+pub new-lowest : (o : ℕ) → o ≤ lastBinary → isNew o o ≡ true
 unfolding isNew previous lookup pick
 new-lowest o h = true-of (all-at (λ k. isNew k k) 28 tt o (omega arith))
 

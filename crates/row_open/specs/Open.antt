@@ -28,8 +28,8 @@ abbrev pub entryCells : ℕ
 entryCells = 3
 
 -- 22: "highest above 27"; document 01, 'Details': "Binary 0 to 27"
-abbrev pub lastOperator : ℕ
-lastOperator = 27
+abbrev pub lastBinary : ℕ
+lastBinary = 27
 
 -- "each a Binary node with a lowest and a highest operator number, ends included": the entry in the k-th three cells of a buffer, from 0
 abbrev pub entryAt : List ℕ → ℕ → Entry
@@ -128,7 +128,7 @@ refusal21 cells count (e ∷ es) =
 -- 22. "lowest above highest or highest above 27"
 unfoldable pub refusal22 : List Entry → Bool
 refusal22 [] = false
-refusal22 (e ∷ es) = (ltb (e .highest) (e .lowest) || ltb lastOperator (e .highest)) || refusal22 es
+refusal22 (e ∷ es) = (ltb (e .highest) (e .lowest) || ltb lastBinary (e .highest)) || refusal22 es
 
 -- the first of these that applies, or 0, where a table is accepted: "checked in that order after refusal 12"
 unfoldable pub entryRefusal : ℕ → List ℕ → ℕ → List ℕ → ℕ → ℕ

@@ -18,7 +18,7 @@ use Rattle.row_walk.specs.Walk.{treeRows, walkedAfter}
 use Rattle.row_open.specs.declared.Entry.{Entry}
 use Rattle.row_open.specs.declared.Answer.{Answer}
 use Rattle.row_open.specs.declared.Answer.the-variants.{Never, Always, Depends}
-use Rattle.row_open.specs.Open.{lastOperator, withOperator, outerIn, answerAt}
+use Rattle.row_open.specs.Open.{lastBinary, withOperator, outerIn, answerAt}
 
 -- "With no entries, always is the row's outer pair and never its absence": the row of an accepted table's walk, whatever was in the buffer before.
 abbrev pub NoEntries : Type 0
@@ -68,6 +68,6 @@ abbrev pub ClassRows : Type 0
 ClassRows =
     (order : CalleeOrder) (context count : ℕ) (cells : List ℕ) → Accepted context count cells
     → (node : ℕ) → 1 ≤ node → node ≤ count → formAt cells node ≡ ExprBinary
-    → (o p : ℕ) → o ≤ lastOperator → p ≤ lastOperator → SameClass o p → (rows : List ℕ)
+    → (o p : ℕ) → o ≤ lastBinary → p ≤ lastBinary → SameClass o p → (rows : List ℕ)
     → treeRows order context count (treeAt (withOperator node o cells) count 1) (withOperator node o cells) rows
     ≡ treeRows order context count (treeAt (withOperator node p cells) count 1) (withOperator node p cells) rows

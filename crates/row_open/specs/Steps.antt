@@ -10,7 +10,7 @@ use Rattle.laws.specs.Choice.{pick, line, lookup}
 use Rattle.tree.specs.Sizes.{nodeCells, rowCells, mostNodes}
 use Rattle.expr.specs.declared.order.CalleeOrder.{CalleeOrder}
 use Rattle.row_open.specs.declared.Entry.{Entry}
-use Rattle.row_open.specs.Open.{entryCells, entriesIn, lastOperator, withOperator, hasOuter, refusal21, refusal22}
+use Rattle.row_open.specs.Open.{entryCells, entriesIn, lastBinary, withOperator, hasOuter, refusal21, refusal22}
 
 -- ---- cells on the way
 
@@ -75,7 +75,7 @@ pub record Varies (order : CalleeOrder) (context count : ℕ) (es : List Entry) 
 -- each entry's node is in the table, and its operators are some
 pub data Within (cells : ℕ) : List Entry → Type 0 where
   none : Within cells []
-  entry : {e : Entry} {es : List Entry} → 1 ≤ e .node → nodeCells * e .node ≤ cells → e .highest ≤ lastOperator → Within cells es → Within cells (e ∷ es)
+  entry : {e : Entry} {es : List Entry} → 1 ≤ e .node → nodeCells * e .node ≤ cells → e .highest ≤ lastBinary → Within cells es → Within cells (e ∷ es)
 
 -- an entry's numbers are in the buffer; the tables of the walks, their rows and the answers have room
 pub record Room (entered count numbers table rows answers : ℕ) : Type 0 where

@@ -15,7 +15,7 @@ ghost use Rattle.laws.specs.Choice.{isOneOf};
 ghost use Rattle.laws.specs.Lists.{over};
 ghost use Rattle.tree.specs.Sizes.{nodeCells, rowCells};
 ghost use Rattle.tree.specs.Table.{detailColumn};
-ghost use Rattle.row_open.specs.Open.{entryCells, lastOperator, entryAt, entriesIn, outerIn, hasOuter, answerNumber, nodesOf, refusal21, refusal22, entryRefusal, draftOf, openRefusal, answersOf, answersAfter};
+ghost use Rattle.row_open.specs.Open.{entryCells, lastBinary, entryAt, entriesIn, outerIn, hasOuter, answerNumber, nodesOf, refusal21, refusal22, entryRefusal, draftOf, openRefusal, answersOf, answersAfter};
 ghost use Rattle.row_open.specs.Steps.{joined, joinedTo, previous, isNew, Next, Varies, Within, Room, Taken};
 
 // The numbers of an entry: its node, its lowest and its highest operator.
@@ -30,7 +30,7 @@ const HIGHEST: usize = 2;
 const MOST_ENTRIES: u16 = 3;
 
 // The last operator of a Binary.
-const LAST_OPERATOR: u16 = 27;
+const LAST_BINARY: u16 = 27;
 
 // The cell of a node of which no choice has been asked yet.
 const UNASKED: u16 = 3;
@@ -124,7 +124,7 @@ fn has_wrong_ends(entered: u16, entries: &[u16]) -> bool
         if entry.highest < entry.lowest {
             return true;
         }
-        if LAST_OPERATOR < entry.highest {
+        if LAST_BINARY < entry.highest {
             return true;
         }
     }
@@ -229,7 +229,7 @@ fn is_new(lowest: u16, op: u16) -> bool
 
 // The next operator of a range that is the first of its class, or the number behind the range.
 fn next_new(lowest: u16, highest: u16, op: u16) -> u16
-    requires { ⌜ (op ≤ highest) × (highest ≤ lastOperator) ⌝ }
+    requires { ⌜ (op ≤ highest) × (highest ≤ lastBinary) ⌝ }
     ensures { λ r. ⌜ Next lowest highest op r ⌝ }
 {
     let mut next = op + 1;

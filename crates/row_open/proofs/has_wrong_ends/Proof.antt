@@ -8,7 +8,7 @@ use lib.Dec.{ltb}
 use borrow.Author.Tests.{lt-ltb, le-ltb}
 use Rattle.laws.proofs.Choice.{or-here, or-next}
 use Rattle.row_open.specs.declared.Entry.{Entry}
-use Rattle.row_open.specs.Open.{entryAt, entriesIn, lastOperator, refusal22}
+use Rattle.row_open.specs.Open.{entryAt, entriesIn, lastBinary, refusal22}
 use Rattle.row_open.proofs.Entries.{last-entry, no-entry}
 use Rattle.row_open.proofs.has_wrong_ends.Statement.{statement}
 use Rattle.row_open.proofs.has_wrong_ends.Tie as tie
@@ -22,7 +22,7 @@ abbrev μ-loop : tie.MeasureT-loop
 module _ (numbers : List ℕ) (n : ℕ) (some : 0 < n) (e : Entry) (is : e ≡ entryAt numbers (n - 1)) where
   -- the last entry's ends
   abbrev wrong : Bool
-  wrong = ltb (e .highest) (e .lowest) || ltb lastOperator (e .highest)
+  wrong = ltb (e .highest) (e .lowest) || ltb lastBinary (e .highest)
 
   unfolds : refusal22 (entriesIn n numbers) ≡ wrong || refusal22 (entriesIn (n - 1) numbers)
   unfolding refusal22
@@ -31,10 +31,10 @@ module _ (numbers : List ℕ) (n : ℕ) (some : 0 < n) (e : Entry) (is : e ≡ e
   turned : e .highest < e .lowest → refusal22 (entriesIn n numbers) ≡ true
   turned h = unfolds ∙ or-here _ (or-here _ (lt-ltb _ _ h))
 
-  past : e .lowest ≤ e .highest → lastOperator < e .highest → refusal22 (entriesIn n numbers) ≡ true
+  past : e .lowest ≤ e .highest → lastBinary < e .highest → refusal22 (entriesIn n numbers) ≡ true
   past h k = unfolds ∙ or-here _ (or-next _ (le-ltb _ _ h) ∙ lt-ltb _ _ k)
 
-  next : e .lowest ≤ e .highest → e .highest ≤ lastOperator → refusal22 (entriesIn n numbers) ≡ refusal22 (entriesIn (n - 1) numbers)
+  next : e .lowest ≤ e .highest → e .highest ≤ lastBinary → refusal22 (entriesIn n numbers) ≡ refusal22 (entriesIn (n - 1) numbers)
   next h k = unfolds ∙ or-next _ (or-next _ (le-ltb _ _ h) ∙ le-ltb _ _ k)
 
 returns : tie.Need-returns Inv-loop μ-loop
