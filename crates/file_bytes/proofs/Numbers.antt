@@ -40,6 +40,22 @@ some-bytes n = go (decLe 128 n) (decLe 16384 n)
     go (yes h) (no d) = rw (two-of n h (omega arith)) (omega arith, omega arith)
     go (yes h) (yes d) = rw (three-of n d) (omega arith, omega arith)
 
+-- a smaller number takes no more bytes
+pub fewer-bytes : (n m : ℕ) → n ≤ m → length (bytesOf n) ≤ length (bytesOf m)
+fewer-bytes n m h = go (decLe 128 n) (decLe 16384 n)
+  where
+    more : 16384 ≤ n → length (bytesOf n) ≤ length (bytesOf m)
+    more l = rw (three-of n l, three-of m (omega arith)) (omega arith)
+
+    some : 128 ≤ n → n < 16384 → Dec (16384 ≤ m) → length (bytesOf n) ≤ length (bytesOf m)
+    some l k (yes d) = rw (two-of n l k, three-of m d) (omega arith)
+    some l k (no d) = rw (two-of n l k, two-of m (omega arith) (omega arith)) (omega arith)
+
+    go : Dec (128 ≤ n) → Dec (16384 ≤ n) → length (bytesOf n) ≤ length (bytesOf m)
+    go (no l) d = let s = some-bytes m in rw (one-of n (omega arith)) (s .0)
+    go (yes l) (no d) = some l (omega arith) (decLe 16384 m)
+    go (yes l) (yes d) = more d
+
 -- ---- they are read as the number
 
 -- a number that stands before the rest of a file

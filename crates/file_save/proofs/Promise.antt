@@ -16,12 +16,13 @@ use Rattle.tree_numbering.proofs.Holds.{length-numbered, numbered-tree}
 use Rattle.tree_numbering.proofs.Sizes.{size-accepted}
 use Rattle.tree_sound.proofs.Accepts.{numbered-accepted, accepted-sound, accepted-outputs, accepted-root}
 use Rattle.file_loader.specs.declared.Loaded.the-variants.{Accepted as Loads}
-use Rattle.file_loader.specs.Several.{numbers, numbersOf, valuesIn, bytesAfter}
-use Rattle.file_loader.specs.Files.{header, contextIn, countIn, body, cellsIn, loaded, loadedTable}
+use Rattle.file_loader.specs.Several.{numbers, numbersOf}
+use Rattle.file_loader.specs.Files.{header, contextIn, countIn, cellsIn, loaded, loadedTable}
 use Rattle.file_loader.proofs.Files.{begun, accepted-nodes, accepted-file}
 use Rattle.file_bytes.specs.Bytes.{allBytes}
 use Rattle.file_bytes.proofs.Below.{AllBelow, below-none, below-more}
-use Rattle.file_bytes.proofs.Several.{all-append, all-most, all-read}
+use Rattle.file_bytes.proofs.Several.{all-append, all-most}
+use Rattle.file_bytes.proofs.Whole.{header-read as whole-header, body-read as whole-body, is-context as whole-context, is-count as whole-count, are-cells as whole-cells}
 use Rattle.file_save.specs.Saves.{file, fileOf, saved, savedAfter}
 use Rattle.file_save.specs.Statement.{Promise, FilePromise}
 use Rattle.file_save.proofs.Replies.{saved-is, after-is}
@@ -55,10 +56,15 @@ module _ (context count : ℕ) (cells : List ℕ) (ok : Accepted context count c
       let c = context-most context count cells ok in
       below-more context (omega arith) (below-more count (omega arith) (below-none (omega arith)))
 
-  -- the header's bytes, and the nodes'
-  pub parts : fileOf context count cells ≡ allBytes head ++ allBytes (numbered tree)
+  long : length (numbered tree) ≡ nodeCells * count
+  long = length-numbered tree ∙ ap (λ (n : ℕ). nodeCells * n) is-size
+
+  is-whole : fileOf context count cells ≡ allBytes (context ∷ count ∷ numbered tree)
   unfolding file
-  parts = rw is-size (all-append head (numbered tree))
+  is-whole = rw is-size
+
+  parts : fileOf context count cells ≡ allBytes head ++ allBytes (numbered tree)
+  parts = is-whole ∙ all-append head (numbered tree)
 
   pub short-enough : length (fileOf context count cells) ≤ mostFileBytes
   unfolding numbered
@@ -71,26 +77,19 @@ module _ (context count : ℕ) (cells : List ℕ) (ok : Accepted context count c
       omega arith
 
   header-read : header (fileOf context count cells) ≡ numbers head (allBytes (numbered tree))
-  unfolding header
-  header-read = rw parts (all-read head (allBytes (numbered tree)) small-head)
+  header-read = rw is-whole (whole-header context count (numbered tree) small-head small-tree long)
 
   body-read : numbersOf (nodeCells * count) (allBytes (numbered tree)) ≡ numbers (numbered tree) []
-  body-read =
-      let l : length (numbered tree) ≡ nodeCells * count = length-numbered tree ∙ ap (λ (n : ℕ). nodeCells * n) is-size in
-      let r = rw append-nil at (all-read (numbered tree) [] small-tree) in
-      rw l at r
+  body-read = whole-body context count (numbered tree) small-head small-tree long
 
-  pub is-context : contextIn (fileOf context count cells) ≡ context
-  unfolding contextIn valuesIn
-  is-context = rw header-read
+  is-context : contextIn (fileOf context count cells) ≡ context
+  is-context = rw is-whole (whole-context context count (numbered tree) small-head small-tree long)
 
-  pub is-count : countIn (fileOf context count cells) ≡ count
-  unfolding countIn valuesIn
-  is-count = rw header-read
+  is-count : countIn (fileOf context count cells) ≡ count
+  is-count = rw is-whole (whole-count context count (numbered tree) small-head small-tree long)
 
-  pub are-cells : cellsIn (fileOf context count cells) ≡ numbered tree
-  unfolding cellsIn body valuesIn bytesAfter
-  are-cells = rw (is-count, header-read, body-read)
+  are-cells : cellsIn (fileOf context count cells) ≡ numbered tree
+  are-cells = rw is-whole (whole-cells context count (numbered tree) small-head small-tree long)
 
   -- ---- the tree, numbered, is an accepted table
 

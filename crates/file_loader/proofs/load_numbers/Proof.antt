@@ -1,17 +1,10 @@
 -- `file_loader::load_numbers` meets its contract. Assumes nothing.
-use mathlib.Core.Path.{_≡_, sym, _∙_}
-use mathlib.Core.Bool.{true, false}
-use mathlib.Core.List.{List, [], _∷_}
-use Prim.Native.Nat.{ℕ, _≤_}
+use mathlib.Core.Path.{sym, _∙_}
+use mathlib.Core.List.{[]}
 use native.Mathlib.Omega.{arith}
-use lib.ListN.{drop}
 use Rattle.laws.proofs.Calls.{free}
-use Rattle.tree.specs.Sizes.{mostFileBytes}
 use Rattle.tree_rules.proofs.Count.{count-fits}
-use Rattle.file_loader.specs.declared.Header.{Header}
-use Rattle.file_loader.specs.declared.Header.the-variants.{Read}
 use Rattle.file_loader.specs.Files.{numbersRefusal}
-use Rattle.file_loader.specs.Reads.{HeaderRead, Begun}
 use Rattle.file_loader.proofs.Files.{numbers-refused, too-long, bad-header, bad-context, bad-count, header-begun, after-numbers, formed-numbers, five-is, five-formed, numbers-stored}
 use borrow.Author.Needs.{needs}
 use Rattle.file_loader.proofs.load_numbers.Statement.{statement}

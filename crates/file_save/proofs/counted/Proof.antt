@@ -2,7 +2,6 @@
 use mathlib.Core.Path.{sym}
 use native.Mathlib.Omega.{arith}
 use Rattle.file_save.proofs.Putting.{few-counted, many-counted}
-use borrow.Author.Needs.{needs}
 use Rattle.file_save.proofs.counted.Statement.{statement}
 use Rattle.file_save.proofs.counted.Tie as tie
 
