@@ -1,8 +1,6 @@
 -- The numbers of an accepted table are small, and so are those that are held of them: what their bytes take. Assumes nothing.
-use mathlib.Core.Path.{_≡_, refl, sym, ap, _∙_}
-use mathlib.Core.Bool.{not, true, false}
-use mathlib.Core.List.{List, [], _∷_, _++_}
-use mathlib.Core.Logic.{_⊎_, inl, inr}
+use mathlib.Core.Path.{_≡_, refl, ap}
+use mathlib.Core.List.{List, [], _∷_}
 use Prim.Native.Nat.{ℕ, zero, suc, _+_, _*_, _-_, _≤_, _<_}
 use native.Mathlib.Omega.{arith}
 use native.Mathlib.Decide.{decLe}
@@ -13,12 +11,12 @@ use Rattle.tree.specs.Sizes.{nodeCells, mostNodes, mostFileBytes}
 use Rattle.tree.specs.Table.{cellAt, formAt, attributesAt, detailAt, firstAt, secondAt, symbolAt, attributesColumn, detailColumn, firstColumn, secondColumn, symbolColumn}
 use Rattle.tree.specs.Trees.{labelAt}
 use Rattle.tree_rules.specs.Refusals.{Accepted}
-use Rattle.tree_rules.proofs.Accepted.{Within, context-most, count-bounds, numbers-allowed, first-most, second-most}
+use Rattle.tree_rules.proofs.Accepted.{context-most, count-bounds, numbers-allowed, first-most, second-most}
 use Rattle.tree_sound.proofs.Sound.{badLabel}
 use Rattle.file_bytes.specs.Bytes.{bytesOf, allBytes}
 use Rattle.file_bytes.proofs.Numbers.{some-bytes}
 use Rattle.file_bytes.proofs.Several.{all-append}
-use Rattle.file_save.specs.Stores.{nodeBytes, headerBytes}
+use Rattle.file_save.specs.Stores.{nodeBytes}
 use Rattle.file_save.proofs.Putting.{whole-long}
 use Rattle.file_save.proofs.Small.{Small, small-label, bytes-one, bytes-two}
 use Rattle.file_columns.specs.Columns.{joined, heldDifference, heldOperand, heldAt, heldColumn, arranged, columnsOf}
@@ -53,7 +51,7 @@ bytes-joined w g (suc n) h =
     let l = h n (omega arith) in
     rw (all-append (joined g n) (g n)) (simp length-append (omega arith))
 
-one-number : (n : ℕ) → length (allBytes (n ∷ [])) ≡ length (bytesOf n)
+pub one-number : (n : ℕ) → length (allBytes (n ∷ [])) ≡ length (bytesOf n)
 unfolding allBytes
 one-number n = simp length-append (omega arith)
 

@@ -1,28 +1,27 @@
 -- The refusal of a rearranged file, and what is answered and stored. Assumes nothing.
-use mathlib.Core.Path.{_≡_, refl, sym, ap, _∙_}
-use mathlib.Core.Bool.{Bool, true, false, _||_}
+use mathlib.Core.Path.{_≡_, refl, sym, _∙_}
+use mathlib.Core.Bool.{Bool, true, false}
 use mathlib.Core.List.{List, [], _∷_, _++_}
-use Prim.Native.Nat.{ℕ, _+_, _*_, _≤_, _<_}
+use Prim.Native.Nat.{ℕ, _+_, _*_, _≤_}
 use native.Mathlib.Omega.{arith}
-use native.Mathlib.Decide.{decLe}
-use lib.Dec.{eqb, ltb}
+use lib.Dec.{eqb}
 use lib.ListN.{length, take}
 use lib.Seq.{take-at, length-take-le}
-use borrow.Author.Tests.{eq-eqb, ne-eqb, eqb-true, eqb-false, lt-ltb, le-ltb}
+use borrow.Author.Tests.{eq-eqb, ne-eqb, eqb-true, eqb-false}
 use Rattle.laws.specs.Choice.{pick}
 use Rattle.laws.specs.Lists.{over}
 use Rattle.laws.proofs.Choice.{pick-true, pick-false, true-not-false}
 use Rattle.laws.proofs.Lists.{length-over}
 use Rattle.tree.specs.Sizes.{nodeCells, mostNodes}
-use Rattle.tree_rules.specs.Refusals.{refusal4, Refusal, refuse, firstOf, nodeRefusals, refusal, Accepted as Table}
+use Rattle.tree_rules.specs.Refusals.{Refusal, refuse, firstOf, nodeRefusals, refusal, Accepted as Table}
 use Rattle.tree_rules.proofs.First.{stop, skip, passed}
 use Rattle.tree_rules.proofs.Count.{count-fits, fits-count}
 use Rattle.file_loader.specs.declared.Loaded.{Loaded}
 use Rattle.file_loader.specs.declared.Loaded.the-variants.{Refused as NotLoaded, Accepted}
-use Rattle.file_loader.specs.Files.{contextIn, countIn, cellsIn, numberRefusals, numbersRefusal, numbersLoaded, numbersTable, fileRefusal}
+use Rattle.file_loader.specs.Files.{contextIn, countIn, cellsIn, numberRefusals, numbersRefusal, numbersLoaded, numbersTable}
 use Rattle.file_loader.proofs.Files.{firstIn, nodes-refusal, Passes, passes, body-length}
 use Rattle.file_columns.specs.Columns.{restored, refusal19}
-use Rattle.file_columns.specs.Rearranged.{restoredIn, columnsRefusal, columnsLoaded, columnsTable}
+use Rattle.file_columns.specs.Rearranged.{restoredIn, columnsRefusal, columnsLoaded}
 use Rattle.file_columns.specs.Steps.{RestoredIn, Arrays}
 use Rattle.file_columns.proofs.Restoring.{restored-length}
 

@@ -1,10 +1,10 @@
 -- A list is its parts of one length, one after the other: a table is its nodes, and numbers held in columns are their columns. Assumes nothing.
-use mathlib.Core.Path.{_≡_, refl, sym, ap, _∙_}
-use mathlib.Core.List.{List, [], _∷_, _++_}
+use mathlib.Core.Path.{_≡_, refl, sym, _∙_}
+use mathlib.Core.List.{List, [], _∷_}
 use Prim.Native.Nat.{ℕ, zero, suc, _+_, _*_, _-_, _≤_, _<_}
 use native.Mathlib.Omega.{arith}
 use lib.ListN.{length, getD, take, drop, length-drop}
-use lib.Seq.{take-add, take-length, take-at, getD-drop}
+use lib.Seq.{take-add, take-length, getD-drop}
 use Rattle.tree.specs.Sizes.{nodeCells}
 use Rattle.tree.specs.Table.{cellAt, formAt, attributesAt, detailAt, firstAt, secondAt, symbolAt}
 use Rattle.file_columns.specs.Columns.{joined}

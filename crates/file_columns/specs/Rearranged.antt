@@ -1,5 +1,5 @@
 -- Document 02, Paper 11: rearranging a tree file, putting it back, and loading a rearranged one: what is answered, and what lent buffers hold afterwards.
-use mathlib.Core.List.{List, [], _∷_}
+use mathlib.Core.List.{List, _∷_}
 use Prim.Native.Nat.{ℕ}
 use lib.Dec.{eqb}
 use lib.ListN.{length}

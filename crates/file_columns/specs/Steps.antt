@@ -8,7 +8,7 @@ use Rattle.laws.specs.Lists.{over}
 use Rattle.tree.specs.Sizes.{nodeCells, mostNodes}
 use Rattle.tree.specs.Table.{formAt}
 use Rattle.file_loader.specs.Files.{countIn}
-use Rattle.file_columns.specs.Columns.{mostRestored, restored, refusal19}
+use Rattle.file_columns.specs.Columns.{restored, refusal19}
 use Rattle.file_columns.specs.Rearranged.{restoredIn, columnsRefusal}
 use Rattle.file_loader.specs.Files.{cellsIn}
 

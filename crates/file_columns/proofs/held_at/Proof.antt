@@ -1,9 +1,8 @@
 -- `file_columns::held_at` meets its contract. Assumes nothing.
-use mathlib.Core.Path.{_≡_, sym, _∙_}
-use Prim.Native.Nat.{_-_, _<_}
+use mathlib.Core.Path.{sym, _∙_}
+use Prim.Native.Nat.{_-_}
 use native.Mathlib.Omega.{arith}
 use Rattle.laws.proofs.Calls.{free}
-use Rattle.tree.specs.Table.{cellAt, formColumn}
 use Rattle.file_columns.proofs.Arranging.{in-forms, in-operands, in-seconds, in-others}
 use borrow.Author.Needs.{needs}
 use Rattle.file_columns.proofs.held_at.Statement.{statement}

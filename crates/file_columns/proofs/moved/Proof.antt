@@ -1,7 +1,6 @@
 -- `file_columns::moved` meets its contract. Assumes nothing.
 use native.Mathlib.Omega.{arith}
 use Rattle.file_columns.proofs.Held.{even-moves, odd-moves, stays-inside}
-use borrow.Author.Needs.{needs}
 use Rattle.file_columns.proofs.moved.Statement.{statement}
 use Rattle.file_columns.proofs.moved.Tie as tie
 

@@ -4,7 +4,6 @@ use native.Mathlib.Omega.{arith}
 use borrow.Author.Tests.{ltb-false}
 use Rattle.file_columns.specs.Columns.{restoredOperand, mostRestored}
 use Rattle.file_columns.proofs.Held.{restored-none, restored-some}
-use borrow.Author.Needs.{needs}
 use Rattle.file_columns.proofs.operand.Statement.{statement}
 use Rattle.file_columns.proofs.operand.Tie as tie
 

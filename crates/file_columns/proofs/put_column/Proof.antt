@@ -8,7 +8,6 @@ use Rattle.laws.proofs.Putting.{put-one}
 use Rattle.file_columns.specs.Columns.{joined, heldAt}
 use Rattle.file_columns.proofs.Joined.{join-put-none, join-put}
 use Rattle.file_columns.proofs.Arranging.{column-all}
-use borrow.Author.Needs.{needs}
 use Rattle.file_columns.proofs.put_column.Statement.{statement}
 use Rattle.file_columns.proofs.put_column.Tie as tie
 

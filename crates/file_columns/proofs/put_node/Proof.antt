@@ -1,10 +1,9 @@
 -- `file_columns::put_node` meets its contract. Assumes nothing.
-use mathlib.Core.Path.{_≡_, sym, _∙_}
+use mathlib.Core.Path.{_≡_, _∙_}
 use Prim.Native.Nat.{suc, _+_, _*_}
 use native.Mathlib.Omega.{arith}
 use lib.Dec.{ltb}
-use lib.ListN.{length, length-set}
-use Rattle.laws.proofs.Calls.{free}
+use lib.ListN.{length-set}
 use Rattle.laws.proofs.Choice.{or-false}
 use Rattle.tree.specs.Sizes.{nodeCells}
 use Rattle.tree.specs.Table.{firstColumn, secondColumn}

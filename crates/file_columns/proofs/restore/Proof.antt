@@ -1,5 +1,5 @@
 -- `file_columns::restore` meets its contract. Assumes nothing.
-use mathlib.Core.Path.{_≡_, refl, sym, _∙_}
+use mathlib.Core.Path.{_≡_, sym, _∙_}
 use mathlib.Core.Bool.{false}
 use Prim.Native.Nat.{suc, _+_, _*_, _-_, _≤_}
 use native.Mathlib.Omega.{arith}
@@ -9,7 +9,6 @@ use Rattle.laws.proofs.Calls.{free}
 use Rattle.tree.specs.Sizes.{nodeCells}
 use Rattle.file_columns.specs.Columns.{joined, restoredNode, outside}
 use Rattle.file_columns.proofs.Restoring.{Stands, stands-none, stands-next, out-form, out-operand, inside-more, nodes-none, nodes-more, nodes-all, none-outside, none-yet}
-use borrow.Author.Needs.{needs}
 use Rattle.file_columns.proofs.restore.Statement.{statement}
 use Rattle.file_columns.proofs.restore.Tie as tie
 

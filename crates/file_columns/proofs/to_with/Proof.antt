@@ -1,5 +1,4 @@
 -- `file_columns::to_with` meets its contract. Assumes nothing.
-use mathlib.Core.Path.{sym}
 use native.Mathlib.Omega.{arith}
 use Rattle.laws.proofs.Calls.{free}
 use Rattle.file_columns.proofs.Replies.{to-refused, loaded-table, loaded-room, to-stored}
