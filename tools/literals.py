@@ -87,7 +87,7 @@ ALLOWED = [
     ('levels', 'file_numbers/* file_bytes/* file_save/*', '', 'the base of the groups of seven bits'),
     ('place', 'file_numbers/* file_save/src/*', '', 'a byte of a number'),
     ('scratch', 'file_bytes/* file_save/*', '', 'the most bytes of a number'),
-    ('bytes', 'file_bytes/* file_save/proofs/*', r'AllBelow 65536|< 65536', 'all numbers of two bytes'),
+    ('bytes', 'file_bytes/* file_save/proofs/* file_columns_laws/proofs/*', r'AllBelow 65536|< 65536', 'all numbers of two bytes'),
     ('place', 'tree_one_pass/src/*', r'marks\[at \+ \d\]', 'a mark among four'),
     ('place', 'token_writer/src/* token_reader/src/*', r'tokens\[at \+ 1\]', 'a symbol, behind its code'),
     ('place', 'row_walk/src/* spines/src/digest.rt', r'rows\[at \+ \d\]', 'a cell of a row, beside its name'),

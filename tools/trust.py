@@ -29,6 +29,7 @@ ROOTS = [
     'sheet_carry/Statement',
     'file_save/Statement',
     'file_order/Statement',
+    'file_columns_laws/Statement',
     'file_loader/Files',
     'file_save/Saves',
     'file_order/Orders',
