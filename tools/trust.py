@@ -17,10 +17,12 @@ import re
 import sys
 from pathlib import Path
 
-# What is promised: demand 3, commas, both contexts, the two callee orders, open sheets, operators not chosen yet, one
-# file for one tree, the order on files, and the contracts of the functions of the boundary.
+# What is promised: demand 3, as few pairs as can be, commas, both contexts, the two callee orders, open sheets,
+# operators not chosen yet, one file for one tree, the order on files, columns, and the contracts of the functions of
+# the boundary.
 ROOTS = [
     'token_theorem/Statement',
+    'token_fewest_rows/Statement',
     'token_plain/Commas',
     'token_plain/Contexts',
     'row_orders/Statement',
