@@ -5,6 +5,7 @@ use precedence::Precedence;
 ghost use mathlib.Core.Path.{_≡_};
 ghost use Rattle.row_pack.specs.Cells.{flagsOf};
 ghost use Rattle.row_pack.specs.FromCells.{ofRank, contextOf};
+ghost use Rattle.row_pack.specs.Packs.{packedCells, unpackedOf};
 
 // The ten flags, bit 0 up in source order.
 pub fn flags(fixup: FixupContext) -> u16
@@ -66,4 +67,22 @@ pub fn context_of(previous: u16, next: u16, flags: u16) -> FixupContext
         next_operator_can_continue_expr: flags / 256 % 2 == 1,
         next_operator_can_begin_generics: flags / 512 % 2 == 1,
     }
+}
+
+// The three cells of a context in one number.
+pub fn packed(previous: u16, next: u16, flags: u16) -> u32
+    ensures { λ r. ⌜ r ≡ packedCells previous next flags ⌝ }
+{
+    (previous as u32) + 16 * (next as u32) + 256 * (flags as u32)
+}
+
+// The context that such a number holds.
+pub fn unpacked(number: u32) -> FixupContext
+    ensures { λ r. ⌜ r ≡ unpackedOf number ⌝ }
+{
+    context_of(
+        (number % 16) as u16,
+        (number / 16 % 16) as u16,
+        (number / 256 % 1024) as u16,
+    )
 }
