@@ -21,7 +21,7 @@ pub rows-placed : (context count : ℕ) (cells rows scratch after : List ℕ) �
 unfolding rowsIn
 rows-placed context count cells rows scratch after ok most zeros long e =
     let room : length rows ≡ rowCells * mostNodes = rw zeros (length-replicate {A = ℕ} (rowCells * mostNodes) 0) in
-    e ∙ sym (done Ours context count cells rows scratch ok (omega arith) (omega arith) _ refl _ refl .1 .0) ∙ walked Ours context count cells rows (omega arith) ∙ rw zeros
+    e ∙ sym (done Ours context count cells rows scratch ok (omega arith) (omega arith) _ refl _ refl .1 .0) ∙ walked Ours context count cells rows ok (omega arith) ∙ rw zeros
 
 -- ---- the answers of the loader
 

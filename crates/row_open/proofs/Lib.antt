@@ -3,6 +3,7 @@ pub mod Near
 pub mod Classes
 pub mod Tried
 pub mod Looked
+pub mod Shallow
 pub mod Choices
 pub mod Told
 pub mod Replies

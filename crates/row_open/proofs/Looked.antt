@@ -13,8 +13,9 @@ use Rattle.tree.specs.Trees.{treeAt}
 use Rattle.expr.specs.declared.order.CalleeOrder.{CalleeOrder}
 use Rattle.row_walk.specs.Walk.{treeRows, walkedAfter}
 use Rattle.row_walk.proofs.Placed.{length-placed}
-use Rattle.row_walk.proofs.Replies.{walked}
+use Rattle.row_walk.proofs.Replies.{reached}
 use Rattle.row_open.specs.Open.{outerIn, hasOuter}
+use Rattle.row_open.specs.Steps.{Shallow}
 use Rattle.row_open.proofs.Near.{Agree, agree-placed}
 
 -- the start of what is written over
@@ -22,13 +23,13 @@ pub over-start : (new old : List ℕ) (k : ℕ) → k < length new → getD (ove
 unfolding over
 over-start new old k h = List·getD-append new _ 0 k h
 
-module _ (order : CalleeOrder) (context count : ℕ) (cells rows cleared after : List ℕ) (long : rowCells * count ≤ length rows)
+module _ (order : CalleeOrder) (context count : ℕ) (cells rows cleared after : List ℕ) (long : rowCells * count ≤ length rows) (shallow : Shallow count cells)
     (f : cleared ≡ over (replicate (rowCells * count) 0) rows) (w : after ≡ walkedAfter order context count cells cleared) where
   length-cleared : length cleared ≡ length rows
   length-cleared = ap length f ∙ length-over (replicate (rowCells * count) 0) rows (simp length-replicate long)
 
   is-walked : after ≡ treeRows order context count (treeAt cells count 1) cells cleared
-  is-walked = w ∙ walked order context count cells cleared (rw length-cleared long)
+  is-walked = w ∙ reached order context count cells cleared shallow (rw length-cleared long)
 
   pub length-looked : length after ≡ length rows
   length-looked = ap length is-walked ∙ length-placed cells count 1 _ cleared ∙ length-cleared

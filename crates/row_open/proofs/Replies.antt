@@ -17,6 +17,7 @@ use Rattle.tree_rules.specs.Refusals.{refusal, refusalThen, Accepted}
 use Rattle.tree_rules.proofs.First.{passed, table-refused, table-passed}
 use Rattle.tree_rules.proofs.Accepted.{count-bounds}
 use Rattle.expr.specs.declared.order.CalleeOrder.{CalleeOrder}
+use Rattle.row_walk.proofs.Room.{entries-bound}
 use Rattle.row_open.specs.Open.{entryCells, entriesIn, openRefusal12, refusal20, refusal21, refusal22, entryRefusal, draftOf, openRefusal, answersOf, answersAfter}
 use Rattle.row_open.specs.Steps.{unasked, Within, Room, Taken}
 use Rattle.row_open.proofs.Choices.{Good, checked, good-within}
@@ -88,6 +89,7 @@ module _ (order : CalleeOrder) (context count : ℕ) (cells : List ℕ) (entered
           record {
             few = b .1;
             nodes = b .2;
+            shallow = entries-bound context count cells ok;
             entries = ltb-false (length numbers) (entryCells * entered) (or-false (ltb (length answers) count) (ltb (length numbers) (entryCells * entered)) (checks .0) .1);
             binaries = checks .1;
             ends = checks .2;

@@ -59,7 +59,7 @@ no-entries order context count cells rows ok room i h k =
     answer-is order context count [] cells i
     ∙ present (hasOuter order context count cells i)
     ∙ ap (λ (b : Bool). pick b Always Never) (outer-placed order context count cells rows ok room i h k)
-    ∙ ap (λ (l : List ℕ). pick (outerIn l i) Always Never) (sym (walked order context count cells rows room))
+    ∙ ap (λ (l : List ℕ). pick (outerIn l i) Always Never) (sym (walked order context count cells rows ok room))
 
 -- ---- one choice
 

@@ -19,9 +19,10 @@ use Rattle.row_open.specs.declared.Answer.the-variants.{Never, Always, D
 use Rattle.row_open.specs.declared.Entry.{Entry}
 use Rattle.row_open.specs.Open.{choices, chosen, answerNumber, allOf, answerBy, hasOuter, answerAt, told}
 use Rattle.row_open.specs.Steps.{unasked, varied}
-use Rattle.row_open.proofs.Near.{Near, near-cells, has-near}
+use Rattle.row_open.proofs.Near.{Near, has-near}
 use Rattle.row_open.proofs.Tried.{allNew, length-varied, tried, varied-at, varied-past, held, has, hasNot, tried-held}
 use Rattle.row_open.proofs.Looked.{over-start}
+use Rattle.row_open.proofs.Shallow.{near-copied}
 use Rattle.row_open.proofs.Choices.{all-map, allOpen, choices-all, Good, good-forms, open-near, new-open, good-ends, some-choice}
 
 -- ---- what lies in a buffer behind what is written over it
@@ -82,7 +83,7 @@ module _ (order : CalleeOrder) (context count : ℕ) (es : List Entry) (cells : 
     room′ = rw (c, length-over (take (nodeCells * count) cells) own (rw long room)) room
 
     near : Near count own′ cells
-    near = near-cells count own′ cells (λ k h. rw c (over-start (take (nodeCells * count) cells) own k (rw long h) ∙ getD-take (nodeCells * count) cells k 0 h))
+    near = near-copied count cells own own′ nodes c
 
     good′ : Good count own′ es
     good′ = good-forms count cells own′ (λ i h k. near i h k .form) es good

@@ -7,8 +7,10 @@ use lib.Dec.{eqb, ltb}
 use lib.ListN.{length, getD, set}
 use Rattle.bools.specs.Bits.{bitOf}
 use Rattle.laws.specs.Choice.{pick, line, lookup}
-use Rattle.tree.specs.Sizes.{nodeCells, rowCells, mostNodes}
+use Rattle.tree.specs.Sizes.{nodeCells, rowCells, mostNodes, mostLevels}
+use Rattle.tree.specs.Trees.{treeAt}
 use Rattle.expr.specs.declared.order.CalleeOrder.{CalleeOrder}
+use Rattle.row_walk.specs.Steps.{waiting}
 use Rattle.row_open.specs.declared.Entry.{Entry}
 use Rattle.row_open.specs.Open.{entryCells, entriesIn, lastBinary, withOperator, hasOuter, refusal21, refusal22}
 
@@ -84,10 +86,15 @@ pub record Room (entered count numbers table rows answers : ℕ) : Type 0 where
   pub wide : rowCells * count ≤ rows
   pub told : count ≤ answers
 
+-- the walk's entries are enough for a table's tree
+abbrev pub Shallow : ℕ → List ℕ → Type 0
+Shallow count cells = waiting (treeAt cells count 1) ≤ mostLevels
+
 -- a checked table with checked entries
 pub record Taken (count : ℕ) (cells : List ℕ) (entered : ℕ) (numbers : List ℕ) : Type 0 where
   pub few : count ≤ mostNodes
   pub nodes : nodeCells * count ≤ length cells
+  pub shallow : Shallow count cells
   pub entries : entryCells * entered ≤ length numbers
   pub binaries : refusal21 cells count (entriesIn entered numbers) ≡ false
   pub ends : refusal22 (entriesIn entered numbers) ≡ false

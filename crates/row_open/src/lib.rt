@@ -16,7 +16,7 @@ ghost use Rattle.laws.specs.Lists.{over};
 ghost use Rattle.tree.specs.Sizes.{nodeCells, rowCells};
 ghost use Rattle.tree.specs.Table.{detailColumn};
 ghost use Rattle.row_open.specs.Open.{entryCells, lastBinary, entryAt, entriesIn, outerIn, hasOuter, answerNumber, nodesOf, refusal21, refusal22, entryRefusal, draftOf, openRefusal, answersOf, answersAfter};
-ghost use Rattle.row_open.specs.Steps.{joined, joinedTo, previous, isNew, Next, Varies, Within, Room, Taken};
+ghost use Rattle.row_open.specs.Steps.{joined, joinedTo, previous, isNew, Next, Varies, Within, Room, Shallow, Taken};
 
 // The numbers of an entry: its node, its lowest and its highest operator.
 const ENTRY_CELLS: usize = 3;
@@ -196,7 +196,7 @@ fn look(
     rows: &mut [u16],
     answers: &mut [u16],
 )
-    requires { ⌜ (rowCells * count ≤ length (now rows)) × (count ≤ length (now answers)) ⌝ }
+    requires { ⌜ (rowCells * count ≤ length (now rows)) × (count ≤ length (now answers)) × Shallow count (now table) ⌝ }
     ensures rows { λ _. ⌜ length (now (rows .exit)) ≡ length (now (rows .entry)) ⌝ }
     ensures answers { λ _. ⌜ now (answers .exit) ≡ joinedTo count (hasOuter order context count (now (table .entry))) (now (answers .entry)) ⌝ }
 {
@@ -261,7 +261,7 @@ fn vary(
     entries: &[u16],
     answers: &mut [u16],
 )
-    requires { ⌜ Room entered count (length (now entries)) (length (now table)) (length (now rows)) (length (now answers)) × Within (length (now table)) (entriesIn entered (now entries)) ⌝ }
+    requires { ⌜ Room entered count (length (now entries)) (length (now table)) (length (now rows)) (length (now answers)) × Within (length (now table)) (entriesIn entered (now entries)) × Shallow count (now table) ⌝ }
     ensures { λ _. ⌜ Varies order context count (entriesIn entered (now (entries .entry))) (now (table .entry)) (now (rows .entry)) (now (answers .entry)) (now (table .exit)) (now (rows .exit)) (now (answers .exit)) ⌝ }
 {
     if entered == 0 {

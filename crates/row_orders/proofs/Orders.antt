@@ -190,6 +190,6 @@ orders-differ =
       there = λ context t q e. differs context t q (treeBy t q) refl e;
       callees = callee-of;
       stored = λ order context count cells rows ok room p there.
-          ap (λ (r : List ℕ). rowIn r (numberAt cells count 1 p)) (walked order context count cells rows room)
+          ap (λ (r : List ℕ). rowIn r (numberAt cells count 1 p)) (walked order context count cells rows ok room)
           ∙ row-at cells count context ok order 1 p (rootHanded context (treeAt cells count 1)) rows (omega arith) (count-bounds context count cells ok .0) room there;
     }

@@ -23,6 +23,7 @@ use Rattle.expr.specs.declared.Handed.{Handed}
 use Rattle.expr.specs.declared.order.CalleeOrder.{CalleeOrder}
 use Rattle.expr.specs.Handed.{ungrouped, neither}
 use Rattle.expr.specs.Expr.{firstLines, handsFirst, secondLines, handsSecond}
+use Rattle.row_pack.specs.Packs.{packedCells, packedOf}
 use Rattle.row.specs.Rows.{outerPair, expressionRow, zeros, isExpression, rowOf, ownContext, rowsOf}
 use Rattle.row.specs.Steps.{alone}
 use Rattle.row.proofs.Decisions.{no-outer}
@@ -50,6 +51,19 @@ own-other h t e = sym (pick-false _ _ e)
 pub own-alone : (t : Tree) → isExpression t ≡ true → NONE ≡ ownContext (alone t) t
 unfolding neither ungrouped
 own-alone t e = own-kept (alone t) t e (no-outer t)
+
+-- what no owner tests is printed in NONE
+pub own-lone : (t : Tree) → NONE ≡ ownContext (alone t) t
+own-lone t = go (isExpression t) refl
+  where
+    go : (b : Bool) → isExpression t ≡ b → NONE ≡ ownContext (alone t) t
+    go true e = own-alone t e
+    go false e = own-other (alone t) t e
+
+-- the row of an expression has its context's cells
+pub packed-row : (h : Handed) (t : Tree) → packedCells (expressionRow h t .previous) (expressionRow h t .next) (expressionRow h t .flags) ≡ packedOf (h .fixup)
+unfolding packedOf expressionRow
+packed-row h t = refl
 
 -- ---- types and links hand NONE to their operands
 
@@ -92,7 +106,7 @@ rows-other order h (node l a b) e =
     rw (← row-other h (node l a b) e, ← row-other (alone (node l a b)) (node l a b) e, ← own-other h (node l a b) e, ← own-other (alone (node l a b)) (node l a b) e)
 
 -- whether a node is an expression, by its number
-class-is : (cells : List ℕ) (count i : ℕ) → eqb (classOf (formIn cells count i)) anExpression ≡ isExpression (treeAt cells count i)
+pub class-is : (cells : List ℕ) (count i : ℕ) → eqb (classOf (formIn cells count i)) anExpression ≡ isExpression (treeAt cells count i)
 unfolding labelAt classOf pick
 class-is cells count i = go (decLe 1 i) (decLe i count)
   where

@@ -1,5 +1,8 @@
 pub mod Decisions
 pub mod Placed
+pub mod Reach
+pub mod Turns
+pub mod Room
 pub mod Replies
 pub mod Promises
 pub mod Local

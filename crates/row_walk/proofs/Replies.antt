@@ -10,12 +10,17 @@ use borrow.Author.Tests.{eq-eqb, ne-eqb, lt-ltb, le-ltb}
 use Rattle.laws.specs.Choice.{pick}
 use Rattle.laws.specs.Lists.{over}
 use Rattle.laws.proofs.Choice.{pick-true, pick-false, or-here, or-next}
-use Rattle.tree.specs.Sizes.{rowCells, scratchCells}
-use Rattle.tree.specs.Trees.{treeAt}
+use Rattle.tree.specs.Sizes.{rowCells, scratchCells, mostLevels}
+use Rattle.tree.specs.Trees.{none, treeAt}
+use Rattle.tree.proofs.Unfold.{tree-past}
 use Rattle.tree_rules.specs.Refusals.{refusal}
 use Rattle.expr.specs.declared.Handed.{Handed}
 use Rattle.expr.specs.declared.order.CalleeOrder.{CalleeOrder}
 use Rattle.row.specs.Rows.{rowsOf}
+use Rattle.row_walk.specs.Stack.{within}
+use Rattle.row_walk.specs.Steps.{waiting}
+use Rattle.row_walk.proofs.Reach.{all-reached}
+use Rattle.row_walk.proofs.Room.{entries-bound}
 use Rattle.row_walk.specs.Walk.{rootHanded, placed, treeRows, walkedAfter, decideRefusal12, decided, rowsAfter, scratchAfter}
 
 -- ---- `walk`
@@ -25,14 +30,26 @@ module _ (order : CalleeOrder) (context count : ℕ) (cells rows : List ℕ) whe
   unfolding walkedAfter
   stays h = sym (pick-true _ _ (lt-ltb _ _ h))
 
-  pub walked : rowCells * count ≤ length rows → walkedAfter order context count cells rows ≡ treeRows order context count (treeAt cells count 1) cells rows
-  unfolding walkedAfter
-  walked h = pick-false _ _ (le-ltb _ _ h)
+  pub no-nodes : count ≡ 0 → rows ≡ walkedAfter order context count cells rows
+  unfolding walkedAfter rowsOf within placed pick
+  no-nodes z =
+      let none : treeAt cells count 1 ≡ none = tree-past cells count 1 (omega arith) in
+      rw (le-ltb (length rows) (rowCells * count) (omega arith), none)
 
   pub walks : rowCells * count ≤ length rows → (h : Handed) → h ≡ rootHanded context (treeAt cells count 1)
-      → (after : List ℕ) → after ≡ placed cells count 1 (rowsOf order h (treeAt cells count 1)) rows
+      → (after : List ℕ) → after ≡ placed cells count 1 (within mostLevels (rowsOf order h (treeAt cells count 1))) rows
       → after ≡ walkedAfter order context count cells rows
-  walks k h eh after e = e ∙ rw eh (sym (walked k))
+  unfolding walkedAfter
+  walks k h eh after e = e ∙ rw eh (sym (pick-false _ _ (le-ltb _ _ k)))
+
+  -- of a tree for which the entries are enough
+  pub reached : waiting (treeAt cells count 1) ≤ mostLevels → rowCells * count ≤ length rows → walkedAfter order context count cells rows ≡ treeRows order context count (treeAt cells count 1) cells rows
+  unfolding walkedAfter
+  reached w k = pick-false _ _ (le-ltb _ _ k) ∙ rw (all-reached order mostLevels (rootHanded context (treeAt cells count 1)) (treeAt cells count 1) w)
+
+  -- document 02, Paper 13: "Rows are equal to those of the old walk on every accepted tree"
+  pub walked : refusal context count cells ≡ 0 → rowCells * count ≤ length rows → walkedAfter order context count cells rows ≡ treeRows order context count (treeAt cells count 1) cells rows
+  walked ok k = reached (entries-bound context count cells ok) k
 
 -- ---- `decide`
 
@@ -78,4 +95,4 @@ module _ (order : CalleeOrder) (context count : ℕ) (cells rows scratch : List 
       unfolding decideRefusal12 rowsAfter scratchAfter
       done k rows′ er scratch′ es =
           let e : decided context count cells (length rows) (length scratch) ≡ 0 = after ∙ pick-false 12 0 (or-next _ (le-ltb _ _ fits) ∙ le-ltb _ _ k) in
-          (sym e, (er ∙ walked order context count cells rows fits ∙ sym (pick-true _ _ (eq-eqb _ 0 e)), es ∙ sym (pick-true _ _ (eq-eqb _ 0 e))))
+          (sym e, (er ∙ walked order context count cells rows accepted fits ∙ sym (pick-true _ _ (eq-eqb _ 0 e)), es ∙ sym (pick-true _ _ (eq-eqb _ 0 e))))

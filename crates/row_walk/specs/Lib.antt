@@ -1,3 +1,4 @@
+pub mod Stack
 pub mod Walk
 pub mod Steps
 pub mod Cases

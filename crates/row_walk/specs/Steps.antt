@@ -1,26 +1,40 @@
--- What the steps of the walk give: the rows of a node and of its operands in their cells. Nothing here is to be believed.
+-- What waits on the walk's stack. Nothing here is to be believed.
 use mathlib.Core.List.{List}
-use Prim.Native.Nat.{ℕ}
-use Rattle.tree.specs.Table.{firstColumn, secondColumn}
-use Rattle.tree.specs.Trees.{operandAt, treeAt}
-use Rattle.fixup.specs.declared.context.FixupContext.{FixupContext}
+use Prim.Native.Nat.{ℕ, zero, suc, _+_, _-_, max}
+use lib.ListN.{getD}
+use Rattle.tree.specs.Sizes.{mostLevels}
+use Rattle.tree.specs.Table.{secondColumn}
+use Rattle.tree.specs.Trees.{Tree, none, node, operandAt, treeAt}
+use Rattle.expr.specs.declared.Handed.{Handed}
 use Rattle.expr.specs.declared.order.CalleeOrder.{CalleeOrder}
-use Rattle.expr.specs.Expr.{handsFirst, handsSecond}
+use Rattle.expr.specs.Expr.{handsSecond}
+use Rattle.row_pack.specs.Packs.{unpackedOf}
 use Rattle.row.specs.Rows.{rowsOf}
-use Rattle.row.specs.Steps.{alone}
+use Rattle.row_walk.specs.Stack.{within}
 use Rattle.row_walk.specs.Walk.{placed}
 
-abbrev pub placedAlone : CalleeOrder → List ℕ → ℕ → ℕ → List ℕ → List ℕ
-placedAlone order cells count i rows = placed cells count i (rowsOf order (alone (treeAt cells count i)) (treeAt cells count i)) rows
+-- the rows of node i and of what is below it that n entries reach
+abbrev pub placedWithin : CalleeOrder → List ℕ → ℕ → ℕ → ℕ → Handed → List ℕ → List ℕ
+placedWithin order cells count n i h rows = placed cells count i (within n (rowsOf order h (treeAt cells count i))) rows
 
--- the operands of a node that is printed in a context
-abbrev pub placedFirst : CalleeOrder → FixupContext → List ℕ → ℕ → ℕ → List ℕ → List ℕ
-placedFirst order own cells count i rows =
-    placed cells count (operandAt cells count i firstColumn) (rowsOf order (handsFirst order own (treeAt cells count i)) (treeAt cells count (operandAt cells count i firstColumn))) rows
+-- the rows once all that waits is done: the second operands of the owners on the stack, from the top
+unfoldable pub finish : CalleeOrder → List ℕ → ℕ → ℕ → List ℕ → List ℕ → List ℕ → List ℕ
+finish order cells count zero nodes contexts rows = rows
+finish order cells count (suc d) nodes contexts rows =
+    let owner = getD nodes d 0 in
+    finish order cells count d nodes contexts
+    (placedWithin order cells count (mostLevels - d) (operandAt cells count owner secondColumn) (handsSecond (unpackedOf (getD contexts d 0)) (treeAt cells count owner)) rows)
 
-abbrev pub placedSecond : CalleeOrder → FixupContext → List ℕ → ℕ → ℕ → List ℕ → List ℕ
-placedSecond order own cells count i rows =
-    placed cells count (operandAt cells count i secondColumn) (rowsOf order (handsSecond own (treeAt cells count i)) (treeAt cells count (operandAt cells count i secondColumn))) rows
+-- how many nodes a tree has, and how many wait
+unfoldable pub nodesIn : Tree → ℕ
+nodesIn none = 0
+nodesIn (node l a b) = suc (nodesIn a + nodesIn b)
 
-abbrev pub placedBelow : CalleeOrder → FixupContext → List ℕ → ℕ → ℕ → List ℕ → List ℕ
-placedBelow order own cells count i rows = placedSecond order own cells count i (placedFirst order own cells count i rows)
+unfoldable pub toDo : List ℕ → ℕ → ℕ → List ℕ → ℕ
+toDo cells count zero nodes = 0
+toDo cells count (suc d) nodes = nodesIn (treeAt cells count (operandAt cells count (getD nodes d 0) secondColumn)) + toDo cells count d nodes
+
+-- entries that reach all of a tree: one for each step to a first operand on a path, and one at its end
+unfoldable pub waiting : Tree → ℕ
+waiting none = 0
+waiting (node l a b) = max (suc (waiting a)) (waiting b)

@@ -6,7 +6,7 @@ use lib.Dec.{eqb, ltb}
 use lib.ListN.{length, set, replicate}
 use Rattle.laws.specs.Choice.{pick, Line, line, lookup}
 use Rattle.laws.specs.Lists.{over}
-use Rattle.tree.specs.Sizes.{rowCells, scratchCells}
+use Rattle.tree.specs.Sizes.{rowCells, scratchCells, mostLevels}
 use Rattle.tree.specs.Table.{firstColumn, secondColumn}
 use Rattle.tree.specs.Trees.{Tree, operandAt, treeAt}
 use Rattle.tree_rules.specs.Refusals.{refusal}
@@ -17,6 +17,7 @@ use Rattle.expr.specs.declared.order.CalleeOrder.{CalleeOrder}
 use Rattle.expr.specs.Handed.{neither}
 use Rattle.row.specs.declared.Row.{Row}
 use Rattle.row.specs.Rows.{Rows, absent, present, rowsOf}
+use Rattle.row_walk.specs.Stack.{within}
 
 -- document 01, 'Tree file': "Context: 0 NONE, 1 new_stmt, 2 new_match_arm, 3 new_condition."
 unfoldable pub contexts : List (Line FixupContext)
@@ -45,10 +46,11 @@ placed cells count i (present r a b) rows =
 abbrev pub treeRows : CalleeOrder → ℕ → ℕ → Tree → List ℕ → List ℕ → List ℕ
 treeRows order context count t cells rows = placed cells count 1 (rowsOf order (rootHanded context t) t) rows
 
--- those of the table's own tree. "Cells past the answer keep theirs"; rows that are too short are kept whole
+-- those of the table's own tree, as far as the stack reaches. "Cells past the answer keep theirs"; rows that are too short are kept whole
 unfoldable pub walkedAfter : CalleeOrder → ℕ → ℕ → List ℕ → List ℕ → List ℕ
 walkedAfter order context count cells rows =
-    pick (ltb (length rows) (rowCells * count)) rows (treeRows order context count (treeAt cells count 1) cells rows)
+    let t = treeAt cells count 1 in
+    pick (ltb (length rows) (rowCells * count)) rows (placed cells count 1 (within mostLevels (rowsOf order (rootHanded context t) t)) rows)
 
 -- 12. "A lent buffer is too short: five cells a node for rows, three for the walk's scratch"
 unfoldable pub decideRefusal12 : ℕ → ℕ → ℕ → Bool

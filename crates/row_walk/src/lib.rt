@@ -1,4 +1,5 @@
 // The rows of all nodes of an accepted tree.
+use bools::both;
 use expr::Handed;
 use expr::first_operand;
 use expr::order::CalleeOrder;
@@ -7,24 +8,30 @@ use fixup::context::FixupContext;
 use row::Row;
 use row::decision_of;
 use row::lone_row;
+use row_pack::packed;
+use row_pack::unpacked;
 use tree::columns;
 use tree::sizes;
-use tree::table::Operand;
 use tree::table::form_at;
-use tree::table::operand_at;
 use tree::table::operand_number;
 use tree_labels::form::class_of;
 use tree_one_pass::check;
 ghost use mathlib.Core.Path.{_≡_};
+ghost use mathlib.Core.Bool.{not};
 ghost use Prim.Native.Nat.{_*_, _≤_};
 ghost use lib.ListN.{length, replicate};
 ghost use Rattle.laws.specs.Lists.{over};
-ghost use Rattle.tree.specs.Sizes.{rowCells};
+ghost use Rattle.tree.specs.Sizes.{rowCells, mostLevels};
 ghost use Rattle.tree.specs.Trees.{treeAt};
 ghost use Rattle.expr.specs.declared.order.CalleeOrder.the-variants.{Ours};
-ghost use Rattle.row.specs.Rows.{zeros, rowsOf};
-ghost use Rattle.row_walk.specs.Steps.{placedFirst, placedBelow, placedAlone};
+ghost use Rattle.row_pack.specs.Packs.{packedOf};
+ghost use Rattle.row.specs.Rows.{zeros, isExpression, rowOf, ownContext, rowsOf};
+ghost use Rattle.row.specs.Steps.{alone};
+ghost use Rattle.row_walk.specs.Stack.{within};
 ghost use Rattle.row_walk.specs.Walk.{contextNumbered, rootHanded, rowStored, placed, walkedAfter, decided, rowsAfter, scratchAfter};
+
+// The entries of the walk's stack.
+const ENTRIES: usize = sizes::MOST_LEVELS as usize;
 
 // The row of a type or a link.
 fn no_row() -> Row
@@ -52,108 +59,99 @@ fn store(rows: &mut [u16], node: u16, row: Row)
     rows[at + 4] = row.flags;
 }
 
-// The rows of a node and of all below it.
-fn walk_from(
-    order: CalleeOrder,
-    handed: Handed,
-    table: &[u16],
-    count: u16,
-    node: u16,
-    rows: &mut [u16],
-)
-    requires { ⌜ rowCells * count ≤ length (now rows) ⌝ }
-    ensures { λ _. ⌜ now (rows .exit) ≡ placed (now (table .entry)) count node (rowsOf order handed (treeAt (now (table .entry)) count node)) (now (rows .entry)) ⌝ }
+// Whether a node is a type or a link, or no node at all.
+fn is_other(table: &[u16], count: u16, node: u16) -> bool
+    ensures { λ r. ⌜ r ≡ not (isExpression (treeAt (now (table .entry)) count node)) ⌝ }
 {
-    if class_of(form_at(table, count, node)) != 1 {
-        walk_alone(order, table, count, node, rows);
+    class_of(form_at(table, count, node)) != 1
+}
+
+// The row of a node that no owner tests, in NONE, into its cells.
+fn enter_alone(table: &[u16], count: u16, node: u16, rows: &mut [u16])
+    requires { ⌜ (1 ≤ node) × (node ≤ count) × (rowCells * count ≤ length (now rows)) ⌝ }
+    ensures { λ _. ⌜ now (rows .exit) ≡ rowStored node (rowOf (alone (treeAt (now (table .entry)) count node)) (treeAt (now (table .entry)) count node)) (now (rows .entry)) ⌝ }
+{
+    if is_other(table, count, node) {
+        store(rows, node, no_row());
         return;
+    }
+    store(rows, node, lone_row(table, count, node));
+}
+
+// The row of a node into its cells: its own context, packed; NONE is 0.
+fn enter(handed: Handed, table: &[u16], count: u16, node: u16, rows: &mut [u16]) -> u32
+    requires { ⌜ (1 ≤ node) × (node ≤ count) × (rowCells * count ≤ length (now rows)) ⌝ }
+    ensures own { λ r. ⌜ r ≡ packedOf (ownContext handed (treeAt (now (table .entry)) count node)) ⌝ }
+    ensures rows { λ r. ⌜ now (rows .exit) ≡ rowStored node (rowOf handed (treeAt (now (table .entry)) count node)) (now (rows .entry)) ⌝ }
+{
+    if is_other(table, count, node) {
+        store(rows, node, no_row());
+        return 0;
     }
     let decision = decision_of(handed, table, count, node);
     let row = decision.row;
     store(rows, node, row);
     if decision.outer {
-        walk_operands(order, FixupContext::none(), table, count, node, rows);
-        return;
+        return 0;
     }
-    let own = handed.fixup;
-    walk_operands(order, own, table, count, node, rows);
+    packed(row.previous, row.next, row.flags)
 }
 
-// The rows below a node that is there, printed in a context of its own. "An absent operand ends the question before anything else".
-fn walk_operands(
-    order: CalleeOrder,
-    own: FixupContext,
-    table: &[u16],
-    count: u16,
-    node: u16,
-    rows: &mut [u16],
-)
-    requires { ⌜ (1 ≤ node) × (node ≤ count) × (rowCells * count ≤ length (now rows)) ⌝ }
-    ensures { λ _. ⌜ now (rows .exit) ≡ placedBelow order own (now (table .entry)) count node (now (rows .entry)) ⌝ }
+// The rows of the root and of all below it. An entry is an owner whose second operand waits while what is below its first is walked, with the owner's own context. Where `lone` holds no owner tests the node, and `handed` is not looked at.
+fn walk_from(order: CalleeOrder, root: Handed, table: &[u16], count: u16, rows: &mut [u16])
+    requires { ⌜ (1 ≤ count) × (rowCells * count ≤ length (now rows)) ⌝ }
+    ensures { λ _. ⌜ now (rows .exit) ≡ placed (now (table .entry)) count 1 (within mostLevels (rowsOf order root (treeAt (now (table .entry)) count 1))) (now (rows .entry)) ⌝ }
 {
-    walk_first(order, own, table, count, node, rows);
-    let Operand::Present(operand) = operand_at(table, count, node, columns::SECOND) else {
-        return;
-    };
-    walk_from(
-        order,
-        second_operand(own, table, count, node),
-        table,
-        count,
-        operand,
-        rows,
-    );
-}
-
-// The rows of its first operand and below. What an absent operand would get is not worked out.
-fn walk_first(
-    order: CalleeOrder,
-    own: FixupContext,
-    table: &[u16],
-    count: u16,
-    node: u16,
-    rows: &mut [u16],
-)
-    requires { ⌜ (1 ≤ node) × (node ≤ count) × (rowCells * count ≤ length (now rows)) ⌝ }
-    ensures { λ _. ⌜ now (rows .exit) ≡ placedFirst order own (now (table .entry)) count node (now (rows .entry)) ⌝ }
-{
-    let Operand::Present(operand) = operand_at(table, count, node, columns::FIRST) else {
-        return;
-    };
-    walk_from(
-        order,
-        first_operand(order, own, table, count, node),
-        table,
-        count,
-        operand,
-        rows,
-    );
-}
-
-// The same as `walk_from` for what no owner tests, in NONE: items, types and links, a list in a loop. Number 0 stands for an operand that is absent.
-fn walk_alone(order: CalleeOrder, table: &[u16], count: u16, node: u16, rows: &mut [u16])
-    requires { ⌜ rowCells * count ≤ length (now rows) ⌝ }
-    ensures { λ _. ⌜ now (rows .exit) ≡ placedAlone order (now (table .entry)) count node (now (rows .entry)) ⌝ }
-{
-    let mut at = node;
-    while 0 < at {
-        if count < at {
+    let mut nodes = [0u16; ENTRIES];
+    let mut contexts = [0u32; ENTRIES];
+    let mut depth: usize = 0;
+    let mut handed = root;
+    let mut lone = false;
+    let mut at: u16 = 1;
+    loop {
+        let mut own: u32 = 0;
+        if lone {
+            enter_alone(table, count, at, rows);
+        } else {
+            own = enter(handed, table, count, at, rows);
+        }
+        let first = operand_number(table, count, at, columns::FIRST);
+        let second = operand_number(table, count, at, columns::SECOND);
+        if first != 0 {
+            if both(second != 0, depth < ENTRIES) {
+                nodes[depth] = at;
+                contexts[depth] = own;
+                depth += 1;
+            }
+            if is_other(table, count, at) {
+                lone = true;
+                at = first;
+                continue;
+            }
+            lone = false;
+            handed = first_operand(order, unpacked(own), table, count, at);
+            at = first;
+            continue;
+        }
+        if second != 0 {
+            lone = false;
+            handed = second_operand(unpacked(own), table, count, at);
+            at = second;
+            continue;
+        }
+        if depth == 0 {
             return;
         }
-        if class_of(form_at(table, count, at)) == 1 {
-            store(rows, at, lone_row(table, count, at));
-            walk_operands(order, FixupContext::none(), table, count, at, rows);
-            return;
+        depth -= 1;
+        let owner = nodes[depth];
+        at = operand_number(table, count, owner, columns::SECOND);
+        if is_other(table, count, at) {
+            lone = true;
+            continue;
         }
-        store(rows, at, no_row());
-        walk_alone(
-            order,
-            table,
-            count,
-            operand_number(table, count, at, columns::FIRST),
-            rows,
-        );
-        at = operand_number(table, count, at, columns::SECOND);
+        let kept = contexts[depth];
+        lone = false;
+        handed = second_operand(unpacked(kept), table, count, owner);
     }
 }
 
@@ -181,15 +179,18 @@ fn root_handed(context: u16, table: &[u16], count: u16) -> Handed
     }
 }
 
-// The rows of all nodes of a table whose rules nobody checks here; where `rows` is too short for them, it stays. A node with several owners, which no accepted table has, is walked once for each path to it.
+// The rows of all nodes of a table whose rules nobody checks here; where `rows` is too short for them, it stays. A node with several owners is walked once for each path to it, and a second operand for which no entry is left is not walked: no accepted table has either.
 pub fn walk(order: CalleeOrder, context: u16, count: u16, table: &[u16], rows: &mut [u16])
     ensures { λ _. ⌜ now (rows .exit) ≡ walkedAfter order context count (now (table .entry)) (now (rows .entry)) ⌝ }
 {
     if rows.len() < sizes::ROW_CELLS * (count as usize) {
         return;
     }
+    if count == 0 {
+        return;
+    }
     let handed = root_handed(context, table, count);
-    walk_from(order, handed, table, count, 1, rows);
+    walk_from(order, handed, table, count, rows);
 }
 
 // Zeros over the start of a buffer.

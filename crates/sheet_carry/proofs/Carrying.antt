@@ -10,10 +10,11 @@ use borrow.Author.Tests.{eq-eqb, ne-eqb, eqb-true, eqb-false}
 use Rattle.laws.specs.Choice.{pick}
 use Rattle.laws.specs.Lists.{over}
 use Rattle.tree.specs.Sizes.{rowCells, scratchCells}
+use Rattle.tree.specs.Trees.{treeAt}
 use Rattle.tree_rules.specs.Refusals.{Accepted}
 use Rattle.expr.specs.declared.order.CalleeOrder.{CalleeOrder}
 use Rattle.expr.specs.declared.order.CalleeOrder.the-variants.{Crates, Ours}
-use Rattle.row_walk.specs.Walk.{walkedAfter}
+use Rattle.row_walk.specs.Walk.{treeRows}
 use Rattle.row_walk.proofs.Replies as replies
 use Rattle.sheet_edit.specs.Runs.{Sheet, Change, changed, ran, Right}
 use Rattle.sheet_edit.proofs.Runs.{ran-right, opened-right}
@@ -47,7 +48,7 @@ module _ (s : Sheet) where
       go false z = rw z
 
   module _ (z : refusalOf s ≡ 0) (e : s .order ≡ Crates) where
-    walks : carried s ≡ With Ours (walkedAfter Ours (s .context) (s .count) (s .table) (s .rows))
+    walks : carried s ≡ With Ours (treeRows Ours (s .context) (s .count) (treeAt (s .table) (s .count) 1) (s .table) (s .rows))
     unfolding carriedOver
     walks = carried-done z ∙ rw e
 
@@ -55,8 +56,8 @@ module _ (s : Sheet) where
     fits = taken (s .context) (s .count) (s .table) (s .rows) z
 
     module _ (scratch : List ℕ) (room : scratchCells * s .count ≤ length scratch) where
-      decides : replies.Decides Ours (s .context) (s .count) (s .table) (s .rows) scratch 0 (walkedAfter Ours (s .context) (s .count) (s .table) (s .rows)) (over (replicate (scratchCells * s .count) 0) scratch)
-      decides = replies.done Ours (s .context) (s .count) (s .table) (s .rows) scratch (fits .0) (fits .1) room _ refl _ refl
+      decides : replies.Decides Ours (s .context) (s .count) (s .table) (s .rows) scratch 0 (treeRows Ours (s .context) (s .count) (treeAt (s .table) (s .count) 1) (s .table) (s .rows)) (over (replicate (scratchCells * s .count) 0) scratch)
+      decides = replies.done Ours (s .context) (s .count) (s .table) (s .rows) scratch (fits .0) (fits .1) room _ (sym (replies.walked Ours (s .context) (s .count) (s .table) (s .rows) (fits .0) (fits .1))) _ refl
 
       as-opened : carried s ≡ reopened s scratch
       as-opened = walks ∙ ap (With Ours) (decides .1 .0)

@@ -12,6 +12,7 @@ use Rattle.tree_rules.proofs.First.{stop, skip, no-more, passed, table-refused,
 use Rattle.expr.specs.declared.order.CalleeOrder.{CalleeOrder}
 use Rattle.expr.specs.declared.order.CalleeOrder.the-variants.{Crates, Ours}
 use Rattle.row_walk.specs.Walk.{walkedAfter}
+use Rattle.row_walk.proofs.Replies.{walked}
 use Rattle.sheet_carry.specs.declared.Carried.{Carried}
 use Rattle.sheet_carry.specs.declared.Carried.the-variants.{Refused, Done}
 use Rattle.sheet_carry.specs.Carries.{carryRefusal12, carryRefusal, carryReply, carriedOver, carriedRows}
@@ -64,6 +65,6 @@ module _ (context count : ℕ) (cells rows : List ℕ) where
   unfolding carriedOver
   ours = refl
 
-  pub crates : (after : List ℕ) → after ≡ walkedAfter Ours context count cells rows → after ≡ carriedOver context count Crates cells rows
+  pub crates : Accepted context count cells → rowCells * count ≤ length rows → (after : List ℕ) → after ≡ walkedAfter Ours context count cells rows → after ≡ carriedOver context count Crates cells rows
   unfolding carriedOver
-  crates after e = e
+  crates ok room after e = e ∙ walked Ours context count cells rows ok room

@@ -6,10 +6,11 @@ use lib.Dec.{eqb, ltb}
 use lib.ListN.{length}
 use Rattle.laws.specs.Choice.{pick}
 use Rattle.tree.specs.Sizes.{rowCells}
+use Rattle.tree.specs.Trees.{treeAt}
 use Rattle.tree_rules.specs.Refusals.{refuse, firstOf, refusalThen}
 use Rattle.expr.specs.declared.order.CalleeOrder.{CalleeOrder}
 use Rattle.expr.specs.declared.order.CalleeOrder.the-variants.{Crates, Ours}
-use Rattle.row_walk.specs.Walk.{walkedAfter}
+use Rattle.row_walk.specs.Walk.{treeRows}
 use Rattle.sheet_carry.specs.declared.Carried.{Carried}
 use Rattle.sheet_carry.specs.declared.Carried.the-variants.{Refused, Done}
 
@@ -26,7 +27,7 @@ carryReply context count cells rows = pick (eqb (carryRefusal context count cell
 
 -- "the rows become those of a fresh walk under the new order"; "a sheet that holds our order it then leaves as it is"
 unfoldable pub carriedOver : ℕ → ℕ → CalleeOrder → List ℕ → List ℕ → List ℕ
-carriedOver context count Crates cells rows = walkedAfter Ours context count cells rows
+carriedOver context count Crates cells rows = treeRows Ours context count (treeAt cells count 1) cells rows
 carriedOver context count Ours cells rows = rows
 
 -- the rows afterwards; the table is only read

@@ -4,7 +4,10 @@ use row_walk::walk;
 use tree::sizes;
 use tree_one_pass::check;
 ghost use mathlib.Core.Path.{_≡_};
+ghost use Prim.Native.Nat.{_*_, _≤_};
 ghost use lib.ListN.{length};
+ghost use Rattle.tree.specs.Sizes.{rowCells};
+ghost use Rattle.tree_rules.specs.Refusals.{Accepted};
 ghost use Rattle.sheet_carry.specs.Carries.{carryReply, carriedOver, carriedRows};
 
 // What carrying answers.
@@ -17,6 +20,7 @@ pub enum Carried {
 
 // The rows of a checked sheet: a fresh walk's where it holds the crate's order, otherwise as they are.
 fn carry_over(context: u16, count: u16, order: CalleeOrder, table: &[u16], rows: &mut [u16])
+    requires { ⌜ Accepted context count (now table) × (rowCells * count ≤ length (now rows)) ⌝ }
     ensures { λ _. ⌜ now (rows .exit) ≡ carriedOver context count order (now (table .entry)) (now (rows .entry)) ⌝ }
 {
     let CalleeOrder::Crates = order else {

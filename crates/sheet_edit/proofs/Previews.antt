@@ -9,7 +9,6 @@ use Rattle.laws.specs.Lists.{over}
 use Rattle.laws.proofs.Choice.{pick-true, or-next}
 use Rattle.tree.specs.Sizes.{nodeCells, rowCells}
 use Rattle.tree.specs.Trees.{treeAt}
-use Rattle.tree_rules.specs.Refusals.{Accepted}
 use Rattle.tree_rules.proofs.First.{skip, no-more}
 use Rattle.tree_numbering.specs.Numbered.{size, numbered}
 use Rattle.tree_numbering.proofs.Holds.{over-numbered}
@@ -19,7 +18,6 @@ use Rattle.row_walk.proofs.Paths.{renumbered}
 use Rattle.sheet_edit.specs.Edits.{editRefusal12, Edit, result, editRefusal, freshRows, resultTable, resultRows, tableAfter, editedRows}
 use Rattle.sheet_edit.specs.Previews.{long, previewTable, previewRows}
 use Rattle.sheet_edit.specs.Statement.{SameReply, Previewed}
-use Rattle.sheet_edit.proofs.Replaced.{over-accepted}
 use Rattle.sheet_edit.proofs.Replies.{both-accepted, start, Allowed, allowed}
 
 -- in buffers that are as long as the sheet's own, or longer, it answers what the edit answers
@@ -68,13 +66,10 @@ module _ (e : Edit) (rows table lent : List ℕ) (taken : editRefusal e (long e 
   same-rows : (order : CalleeOrder) (q : List Branch) → 1 ≤ numberAt (previewTable e (length rows) table (length lent)) (size (result e)) 1 q → 1 ≤ numberAt (tableAfter e (length rows)) (size (result e)) 1 q
       → rowIn (previewRows order e (length rows) table lent) (numberAt (previewTable e (length rows) table (length lent)) (size (result e)) 1 q)
       ≡ rowIn (editedRows order e rows) (numberAt (tableAfter e (length rows)) (size (result e)) 1 q)
-  same-rows order q = rw (shown, shown-rows order, given, given-rows order) (λ there there′. rw (whole table, whole (e .cells)) at (renumbered order (e .context) (size (result e)) (size (result e)) (over (numbered (result e)) table) (over (numbered (result e)) (e .cells)) (accepted table) (accepted (e .cells)) (whole table ∙ sym (whole (e .cells))) lent rows (let r = may .rows-room in omega arith) (let r = may .rows-room in omega arith) q there there′))
+  same-rows order q = rw (shown, shown-rows order, given, given-rows order) (λ there there′. rw (whole table, whole (e .cells)) at (renumbered order (e .context) (size (result e)) (size (result e)) (over (numbered (result e)) table) (over (numbered (result e)) (e .cells)) (may .accepted table) (may .accepted (e .cells)) (whole table ∙ sym (whole (e .cells))) lent rows (let r = may .rows-room in omega arith) (let r = may .rows-room in omega arith) q there there′))
     where
       whole : (cells : List ℕ) → treeAt (over (numbered (result e)) cells) (size (result e)) 1 ≡ result e
       whole cells = over-numbered (result e) cells (let f = may .few in omega arith)
-
-      accepted : (cells : List ℕ) → Accepted (e .context) (size (result e)) (over (numbered (result e)) cells)
-      accepted cells = over-accepted e (may .sheet) (may .other) (may .named) (may .fits) cells
 
 pub previewed : Previewed
 previewed order e rows table lent z = record { taken = edit-taken e rows table lent z; same-table = same-table e rows table lent z; same-rows = λ q. same-rows e rows table lent z order q }

@@ -30,7 +30,7 @@ use Rattle.sheet_edit.specs.Edits.{refusal17, refusal18, editRefusal12, 
 use Rattle.sheet_edit.specs.Steps.{ownsOutput, Replaces}
 use Rattle.tree_sound.proofs.Tables.{plain-block}
 use Rattle.tree_sound.proofs.Accepts.{numbered-10, numbered-11, accepted-ordered, accepted-outputs}
-use Rattle.sheet_edit.proofs.Replaced.{named-here}
+use Rattle.sheet_edit.proofs.Replaced.{named-here, over-accepted}
 use Rattle.sheet_edit.proofs.Outputs.{edited-output}
 use Rattle.sheet_edit.proofs.Sizes.{part-size, edited-size}
 
@@ -143,21 +143,21 @@ start t cells = take-at (numbered t) _ (nodeCells * size t) (length-numbered t)
 
 module _ (t : Tree) (cells rows : List ℕ) (context : ℕ) (order : CalleeOrder) where
   -- a table that holds the result, and the rows that the walk writes from it
-  pub shows : size t ≤ mostNodes → rowCells * size t ≤ length rows → (n : ℕ) → n ≡ size t
+  pub shows : ((cells : List ℕ) → Accepted context (size t) (over (numbered t) cells)) → size t ≤ mostNodes → rowCells * size t ≤ length rows → (n : ℕ) → n ≡ size t
       → (table : List ℕ) → table ≡ over (numbered t) cells
       → (after : List ℕ) → after ≡ walkedAfter order context n table rows
       → Replaces t cells rows context order n table after
-  shows few wide n m table u after e =
-      (m, (u, e ∙ rw (m, u) (walked order context (size t) (over (numbered t) cells) rows wide ∙ rw (over-numbered t cells (omega arith)))))
+  shows ok few wide n m table u after e =
+      (m, (u, e ∙ rw (m, u) (walked order context (size t) (over (numbered t) cells) rows (ok cells) wide ∙ rw (over-numbered t cells (omega arith)))))
 
   -- the result is numbered into an array of its own, which is copied
-  pub replaces : size t ≤ mostNodes → rowCells * size t ≤ length rows → (n : ℕ) → n ≡ size t
+  pub replaces : ((cells : List ℕ) → Accepted context (size t) (over (numbered t) cells)) → size t ≤ mostNodes → rowCells * size t ≤ length rows → (n : ℕ) → n ≡ size t
       → (base own : List ℕ) → own ≡ over (numbered t) base
       → (table : List ℕ) → table ≡ over (take (nodeCells * n) own) cells
       → (after : List ℕ) → after ≡ walkedAfter order context n table rows
       → Replaces t cells rows context order n table after
-  replaces few wide n m base own eo table et after e =
-      shows few wide n m table (et ∙ rw (m, eo, start t base)) after e
+  replaces ok few wide n m base own eo table et after e =
+      shows ok few wide n m table (et ∙ rw (m, eo, start t base)) after e
 
 -- ---- a refused edit, and an edit that is done
 
@@ -177,6 +177,7 @@ module _ (e : Edit) (long wide : ℕ) where
     pub other : Accepted (e .second-context) (e .second-count) (e .second)
     pub named : refusal17 (e .cells) (e .count) (e .place) ≡ false
     pub fits : refusal18 (result e) ≡ false
+    pub accepted : (cells : List ℕ) → Accepted (e .context) (size (result e)) (over (numbered (result e)) cells)
     pub few : size (result e) ≤ mostNodes
     pub most : size (result e) ≤ e .count + e .second-count
     pub table-room : nodeCells * size (result e) ≤ long
@@ -196,6 +197,7 @@ module _ (e : Edit) (long wide : ℕ) where
         other = q .0;
         named = r17 .0;
         fits = r18 .0;
+        accepted = over-accepted e (p .0) (q .0) (r17 .0) (r18 .0);
         few = ltb-false _ _ (or-false _ _ (r18 .0) .0);
         most = most (p .0) (q .0) (r17 .0);
         table-room = ltb-false _ _ (d .0);

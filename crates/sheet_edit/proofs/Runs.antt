@@ -26,7 +26,6 @@ use Rattle.sheet_edit.specs.Edits.{result, editRefusal, freshRows, resul
 use Rattle.sheet_edit.specs.Shelters.{sheltered}
 use Rattle.sheet_edit.specs.Runs.{Sheet, opened, Change, editOn, changed, ran, Right}
 use Rattle.sheet_edit.specs.Statement.{Stays, EditLocal, AnyEdits}
-use Rattle.sheet_edit.proofs.Replaced.{over-accepted}
 use Rattle.sheet_edit.proofs.Shelters.{Same, stays, stands}
 use Rattle.sheet_edit.proofs.Replies.{Allowed, allowed}
 
@@ -45,7 +44,7 @@ module _ (s : Sheet) (c : Change) where
   done-right : editRefusal (editOn s c) (length (s .table)) (length (s .rows)) ≡ 0 → Right Done
   done-right z =
       let w = allowed (editOn s c) (length (s .table)) (length (s .rows)) z in
-      let a : Accepted (s .context) (size (result (editOn s c))) (over (numbered (result (editOn s c))) (s .table)) = over-accepted (editOn s c) (w .sheet) (w .other) (w .named) (w .fits) (s .table) in
+      let a : Accepted (s .context) (size (result (editOn s c))) (over (numbered (result (editOn s c))) (s .table)) = w .accepted (s .table) in
       let k = count-bounds (s .context) (size (result (editOn s c))) (over (numbered (result (editOn s c))) (s .table)) a in
       let m = k .1 in
       let t = over-numbered (result (editOn s c)) (s .table) (omega arith) in

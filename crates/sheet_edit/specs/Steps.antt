@@ -9,6 +9,7 @@ use Rattle.tree.specs.Sizes.{nodeCells, rowCells, mostNodes}
 use Rattle.tree.specs.Forms.{ExprClosure}
 use Rattle.tree.specs.Table.{formAt, detailAt, firstAt}
 use Rattle.tree.specs.Trees.{Tree, treeAt}
+use Rattle.tree_rules.specs.Refusals.{Accepted}
 use Rattle.tree_numbering.specs.Numbered.{size, numbered}
 use Rattle.expr.specs.declared.order.CalleeOrder.{CalleeOrder}
 use Rattle.sheet_edit.specs.Edits.{edited, freshRows}
@@ -25,8 +26,9 @@ ownsOutput cells j i = eqb (formAt cells i) ExprClosure && (eqb (detailAt cells 
 abbrev pub Replaces : Tree → List ℕ → List ℕ → ℕ → CalleeOrder → ℕ → List ℕ → List ℕ → Type 0
 Replaces t cells rows context order n table after = (n ≡ size t) × ((table ≡ over (numbered t) cells) × (after ≡ freshRows order context t (over (numbered t) cells) rows))
 
--- what the result t asks of the second tree's count and of the lengths of the array that it is numbered into, of the table and of the rows
-pub record Fits (t : Tree) (nodes own table rows : ℕ) : Type 0 where
+-- what the result t asks of the sheet's context, of the second tree's count and of the lengths of the array that it is numbered into, of the table and of the rows
+pub record Fits (t : Tree) (context nodes own table rows : ℕ) : Type 0 where
+  pub accepted : (cells : List ℕ) → Accepted context (size t) (over (numbered t) cells)
   pub there : 1 ≤ nodes
   pub few : size t ≤ mostNodes
   pub own-room : nodeCells * size t ≤ own

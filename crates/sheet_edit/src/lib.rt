@@ -190,7 +190,7 @@ fn replace(
     second: &[u16],
     own: &mut [u16],
 ) -> u16
-    requires { ⌜ Fits (joined (now table) count place (now second) nodes) nodes (length (now own)) (length (now table)) (length (now rows)) ⌝ }
+    requires { ⌜ Fits (joined (now table) count place (now second) nodes) context nodes (length (now own)) (length (now table)) (length (now rows)) ⌝ }
     ensures { λ r. ⌜ Replaces (joined (now (table .entry)) count place (now (second .entry)) nodes) (now (table .entry)) (now (rows .entry)) context order r (now (table .exit)) (now (rows .exit)) ⌝ }
 {
     let done = number(table, count, place, second, nodes, own);
@@ -210,7 +210,7 @@ fn replace_small(
     nodes: u16,
     second: &[u16],
 ) -> u16
-    requires { ⌜ Fits (joined (now table) count place (now second) nodes) nodes (nodeCells * 64) (length (now table)) (length (now rows)) ⌝ }
+    requires { ⌜ Fits (joined (now table) count place (now second) nodes) context nodes (nodeCells * 64) (length (now table)) (length (now rows)) ⌝ }
     ensures { λ r. ⌜ Replaces (joined (now (table .entry)) count place (now (second .entry)) nodes) (now (table .entry)) (now (rows .entry)) context order r (now (table .exit)) (now (rows .exit)) ⌝ }
 {
     let mut own = [0u16; sizes::NODE_CELLS * 64];
@@ -238,7 +238,7 @@ fn replace_medium(
     nodes: u16,
     second: &[u16],
 ) -> u16
-    requires { ⌜ Fits (joined (now table) count place (now second) nodes) nodes (nodeCells * 512) (length (now table)) (length (now rows)) ⌝ }
+    requires { ⌜ Fits (joined (now table) count place (now second) nodes) context nodes (nodeCells * 512) (length (now table)) (length (now rows)) ⌝ }
     ensures { λ r. ⌜ Replaces (joined (now (table .entry)) count place (now (second .entry)) nodes) (now (table .entry)) (now (rows .entry)) context order r (now (table .exit)) (now (rows .exit)) ⌝ }
 {
     let mut own = [0u16; sizes::NODE_CELLS * 512];
@@ -266,7 +266,7 @@ fn replace_large(
     nodes: u16,
     second: &[u16],
 ) -> u16
-    requires { ⌜ Fits (joined (now table) count place (now second) nodes) nodes (nodeCells * mostNodes) (length (now table)) (length (now rows)) ⌝ }
+    requires { ⌜ Fits (joined (now table) count place (now second) nodes) context nodes (nodeCells * mostNodes) (length (now table)) (length (now rows)) ⌝ }
     ensures { λ r. ⌜ Replaces (joined (now (table .entry)) count place (now (second .entry)) nodes) (now (table .entry)) (now (rows .entry)) context order r (now (table .exit)) (now (rows .exit)) ⌝ }
 {
     let mut own = [0u16; sizes::NODE_CELLS * (sizes::MOST_NODES as usize)];
@@ -370,7 +370,7 @@ fn show(
     out: &mut [u16],
     rows: &mut [u16],
 ) -> u16
-    requires { ⌜ Fits (joined (now table) count place (now second) nodes) nodes (length (now out)) (length (now out)) (length (now rows)) ⌝ }
+    requires { ⌜ Fits (joined (now table) count place (now second) nodes) context nodes (length (now out)) (length (now out)) (length (now rows)) ⌝ }
     ensures { λ r. ⌜ Replaces (joined (now (table .entry)) count place (now (second .entry)) nodes) (now (out .entry)) (now (rows .entry)) context order r (now (out .exit)) (now (rows .exit)) ⌝ }
 {
     let done = number(table, count, place, second, nodes, out);

@@ -105,7 +105,7 @@ module _ (k : Context) (count : ℕ) (cells : List ℕ) (ok : Accepted (contextN
 
   pub rows-are : rowsFor context count cells ≡ rows
   unfolding rowsFor
-  rows-are = sym (done Ours context count cells blank (replicate (scratchCells * count) 0) ok room (rw (length-replicate {A = ℕ} (scratchCells * count) 0) (omega arith)) _ refl _ refl .1 .0) ∙ walked Ours context count cells blank room
+  rows-are = sym (done Ours context count cells blank (replicate (scratchCells * count) 0) ok room (rw (length-replicate {A = ℕ} (scratchCells * count) 0) (omega arith)) _ refl _ refl .1 .0) ∙ walked Ours context count cells blank ok room
 
   -- by any parse tree of the table's tree
   pub written-by : (e : Expr one) → treeOf e ≡ root → written context count cells ≡ write (withoutCommas (addAll k e)) []

@@ -12,6 +12,7 @@ use Rattle.laws.proofs.Calls.{free, given-at, given-below}
 use Rattle.row_open.specs.Open.{entriesIn}
 use Rattle.row_open.specs.Steps.{isNew, news, sweep, varied}
 use Rattle.row_open.proofs.Entries.{last-within, others-within, less-room}
+use Rattle.row_open.proofs.Shallow.{shallow-put}
 use Rattle.row_open.proofs.Tried.{new-lowest, length-joined, length-varied, varied-none, varied-more, varied-end, varied-last}
 use Rattle.row_open.proofs.vary.Reads as vary
 use Rattle.row_open.proofs.vary.Kinds as vary-kinds
@@ -45,7 +46,7 @@ abbrev μ-loop : vary-lts.MeasureT-loop
 μ-loop order context count table₀ rows₀ entered entries answers₀ others lowest highest place own op₀ table rows answers op = suc highest - op
 
 look-requires : (t : ℕ) → vary-lts.Need-look-requires (claims t) (given-at 4 vary-kinds.ps μ-vary vary.Pre t) vary.Post Inv-loop μ-loop
-look-requires t c κs = let r = c .before .before .before .before .before .before .before .before .pre .1 .0 in (r .wide, r .told)
+look-requires t c κs = let p = c .before .before .before .before .before .before .before .before .pre .1 in (p .0 .wide, p .0 .told, p .2)
 
 same-length : (t : ℕ) → vary-lts.Need-same-length (claims t) (given-at 4 vary-kinds.ps μ-vary vary.Pre t) vary.Post Inv-loop μ-loop
 same-length t c = search needs
@@ -138,7 +139,7 @@ vary-requires t c κs =
     let w = last-within (a .entries .now) (a .entered) n (s .pre .1 .1) _ e in
     let l = c .before .before .before .before .loop in
     let t′ = sym (length-set (l .table) (c .before .before .before .before .before .before .operator-place .result) (l .op) ∙ l .inv .2) in
-    (omega (arith, s .pre .0, c .before .before .before .before .before .before .before .before .if1 .left), (less-room (s .pre .1 .0) t′ (sym (l .inv .3)) (sym (l .inv .4)), others-within (a .entries .now) (a .entered) n (s .pre .1 .1) _ t′))
+    (omega (arith, s .pre .0, c .before .before .before .before .before .before .before .before .if1 .left), (less-room (s .pre .1 .0) t′ (sym (l .inv .3)) (sym (l .inv .4)), others-within (a .entries .now) (a .entered) n (s .pre .1 .1) _ t′, shallow-put (a .count) _ (w .0) (a .table .now) (s .pre .1 .2) _ (c .before .before .before .before .before .before .operator-place .ensures) (l .table) _ (l .op) (l .inv .5)))
 
 next-new-requires : (t : ℕ) → vary-lts.Need-next-new-requires (claims t) (given-at 4 vary-kinds.ps μ-vary vary.Pre t) vary.Post Inv-loop μ-loop
 next-new-requires t c κs =

@@ -9,6 +9,7 @@ use Rattle.tree.specs.Sizes.{nodeCells}
 use Rattle.row_open.specs.Open.{entriesIn}
 use Rattle.row_open.specs.Steps.{unasked}
 use Rattle.row_open.proofs.Replies.{taken-good, taken-within, moved-room, length-copied, length-asked}
+use Rattle.row_open.proofs.Shallow.{shallow-copied}
 use Rattle.row_open.proofs.Told.{tells}
 use Rattle.row_open.proofs.tell.Statement.{statement}
 use Rattle.row_open.proofs.tell.Tie as tie
@@ -18,7 +19,7 @@ vary-requires c κs =
     let s = c .before .before .before .before .before .before .before .before .before .before .before .before .before .before .before .before in
     let a = s .args in
     let t = length-copied (a .count) (a .table .now) (a .own .now) _ (s .pre .1 .nodes) (s .pre .0 .nodes) (c .before .before .before .before .before .before .before .before .before .copy .ensures) in
-    (moved-room (s .pre .0) (sym t) refl (sym (length-asked (a .count) (a .answers .now) _ (s .pre .0 .told) (c .before .before .before .before .before .fill .ensures))), taken-within (s .pre .1) _ (rw t (s .pre .0 .nodes)))
+    (moved-room (s .pre .0) (sym t) refl (sym (length-asked (a .count) (a .answers .now) _ (s .pre .0 .told) (c .before .before .before .before .before .fill .ensures))), taken-within (s .pre .1) _ (rw t (s .pre .0 .nodes)), shallow-copied (a .count) (a .table .now) (a .own .now) _ (s .pre .1 .nodes) (c .before .before .before .before .before .before .before .before .before .copy .ensures) (s .pre .1 .shallow))
 
 returns : tie.Need-returns
 returns c =

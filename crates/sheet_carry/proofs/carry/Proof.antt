@@ -17,6 +17,11 @@ returns-2 c =
     let a = c .before .before .before .before .before .args in
     short-rows (a .context) (a .count) (a .table .now) (a .rows .now) (a .order) (sym (c .before .before .check .ensures) ∙ c .before .if1 .left) (omega arith)
 
+carry-over-requires : tie.Need-carry-over-requires
+carry-over-requires c κs =
+    let u = c .before .if2 .left in
+    (sym (c .before .before .before .check .ensures) ∙ c .before .before .if1 .left, omega arith)
+
 returns-3 : tie.Need-returns-3
 returns-3 c =
     let a = c .before .before .before .before .before .before .before .before .before .args in
@@ -25,4 +30,4 @@ returns-3 c =
 
 pub carry-spec : {M : Type 1} → statement M
 carry-spec =
-    tie.close (tie.spec free returns (λ c. search needs) returns-2 free (λ c. search needs) returns-3)
+    tie.close (tie.spec free returns (λ c. search needs) returns-2 carry-over-requires (λ c. search needs) returns-3)

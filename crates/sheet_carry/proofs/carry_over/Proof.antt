@@ -13,7 +13,8 @@ returns c =
 returns-2 : tie.Need-returns-2
 returns-2 c =
     let a = c .before .before .before .before .before .before .before .before .args in
-    rw (c .before .before .before .before .enum-told .given .1) (crates (a .context) (a .count) (a .table .now) (a .rows .now) _ (c .before .before .walk .ensures))
+    let p = c .before .before .before .before .before .before .before .before .pre in
+    rw (c .before .before .before .before .enum-told .given .1) (crates (a .context) (a .count) (a .table .now) (a .rows .now) (p .0) (p .1) _ (c .before .before .walk .ensures))
 
 pub carry-over-spec : {M : Type 1} → statement M
 carry-over-spec =

@@ -30,7 +30,7 @@ replace-small-requires c κs =
     let m = w .most in
     let f = w .few in
     let h = c .before .before .if2 .taken in
-    record { there = count-bounds _ _ _ (w .other) .0; few = f; own-room = omega arith; table-room = w .table-room; rows-room = w .rows-room }
+    record { accepted = w .accepted; there = count-bounds _ _ _ (w .other) .0; few = f; own-room = omega arith; table-room = w .table-room; rows-room = w .rows-room }
 
 returns-2 : tie.Need-returns-2
 returns-2 c =
@@ -44,7 +44,7 @@ replace-medium-requires c κs =
     let m = w .most in
     let f = w .few in
     let h = c .before .before .if3 .taken in
-    record { there = count-bounds _ _ _ (w .other) .0; few = f; own-room = omega arith; table-room = w .table-room; rows-room = w .rows-room }
+    record { accepted = w .accepted; there = count-bounds _ _ _ (w .other) .0; few = f; own-room = omega arith; table-room = w .table-room; rows-room = w .rows-room }
 
 returns-3 : tie.Need-returns-3
 returns-3 c =
@@ -57,7 +57,7 @@ replace-large-requires c κs =
     let w = allowed (editOf (a .context) (a .count) (a .table .now) (a .node) (a .second-context) (a .second-count) (a .second .now)) (length (a .table .now)) (length (a .rows .now)) (sym (c .before .before .before .before .before .first-refusal .ensures) ∙ c .before .before .before .before .if1 .left) in
     let m = w .most in
     let f = w .few in
-    record { there = count-bounds _ _ _ (w .other) .0; few = f; own-room = omega arith; table-room = w .table-room; rows-room = w .rows-room }
+    record { accepted = w .accepted; there = count-bounds _ _ _ (w .other) .0; few = f; own-room = omega arith; table-room = w .table-room; rows-room = w .rows-room }
 
 returns-4 : tie.Need-returns-4
 returns-4 c =

@@ -24,7 +24,7 @@ show-requires c κs =
     let w = allowed (editOf (a .context) (a .count) (a .table .now) (a .node) (a .second-context) (a .second-count) (a .second .now)) (min (length (a .table .now)) (length (a .result-table .now))) (min (length (a .rows .now)) (length (a .result-rows .now))) (sym q ∙ c .before .before .if1 .left) in
     let t = w .table-room in
     let r = w .rows-room in
-    record { there = count-bounds _ _ _ (w .other) .0; few = w .few; own-room = omega arith; table-room = omega arith; rows-room = omega arith }
+    record { accepted = w .accepted; there = count-bounds _ _ _ (w .other) .0; few = w .few; own-room = omega arith; table-room = omega arith; rows-room = omega arith }
 
 returns-2 : tie.Need-returns-2
 returns-2 c =

@@ -24,7 +24,7 @@ returns c =
     let a = c .before .before .before .before .before .before .before .before .before .before .before .before .before .before .before .before .before .before .before .args in
     let p = c .before .before .before .before .before .before .before .before .before .before .before .before .before .before .before .before .before .before .before .pre in
     let w = all-numbered (a .nodes) (joined (a .table .now) (a .count) (a .place) (a .second .now) (a .nodes)) (a .own .now) (p .there) (p .few) (p .own-room) _ _ (c .before .before .before .before .before .before .before .before .before .before .before .before .number .ensures) in
-    replaces (joined (a .table .now) (a .count) (a .place) (a .second .now) (a .nodes)) (a .table .now) (a .rows .now) (a .context) (a .order) (p .few) (p .rows-room) _ (w .0) (a .own .now) _ (w .1) _ (c .before .before .before .before .before .before .before .copy .ensures) _ (c .before .before .walk .ensures)
+    replaces (joined (a .table .now) (a .count) (a .place) (a .second .now) (a .nodes)) (a .table .now) (a .rows .now) (a .context) (a .order) (p .accepted) (p .few) (p .rows-room) _ (w .0) (a .own .now) _ (w .1) _ (c .before .before .before .before .before .before .before .copy .ensures) _ (c .before .before .walk .ensures)
 
 pub replace-spec : {M : Type 1} → statement M
 replace-spec =
