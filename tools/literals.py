@@ -48,7 +48,6 @@ TOKENS = 'token_writer/* token_reader/* token_follow/*'
 # The kind, what its digits stand for, in which crates, and how they are found.
 KINDS = [
     ('cells', 'cells of a row', ANYWHERE, of(5)),
-    ('scratch', 'cells of scratch for a node', ANYWHERE, f'{number(3)} \\*|\\btimes {number(3)}'),
     ('a node', 'cells of a node, tokens that are written for one', ANYWHERE, of(6)),
     ('nodes', 'the most nodes of a table', ANYWHERE, number(4096, 4097)),
     ('tokens', 'the most tokens of a list, cells of the largest table, and of the nodes that tokens make', ANYWHERE, number(24576, 24577, 147456)),
@@ -74,7 +73,7 @@ KINDS = [
 # The kind, the files, the text that the digits stand in (the whole line if none is given), and why they stay.
 ALLOWED = [
     ('*', '*', r'^\s*(pub )?const \w+: \w+ = [\d_]+;', 'the definition of the name, in the code'),
-    ('*', '*/specs/*', r'^(nodeCells|rowCells|scratchCells|tokenCells|tokensPerNode|most\w+|lastCode|\w*[eE]nd\w*|\w+Column) = \d+', 'the definition of the name, in the specs'),
+    ('*', '*/specs/*', r'^(nodeCells|rowCells|tokenCells|tokensPerNode|most\w+|lastCode|\w*[eE]nd\w*|\w+Column) = \d+', 'the definition of the name, in the specs'),
     ('*', '*/specs/Cases.antt', '', 'an example'),
     ('last', '*/specs/Forms.antt', r'^Type\w+ = \d+', 'the table of forms'),
     ('last', '*/specs/Tokens.antt', r'^code \w+ = \d+', 'the table of codes'),
@@ -86,7 +85,6 @@ ALLOWED = [
     ('code', '*/src/*', r'1 \| 3 => true', 'the pairs of a row, which are no codes'),
     ('levels', 'file_numbers/* file_bytes/* file_save/*', '', 'the base of the groups of seven bits'),
     ('place', 'file_numbers/* file_save/src/*', '', 'a byte of a number'),
-    ('scratch', 'file_bytes/* file_save/*', '', 'the most bytes of a number'),
     ('bytes', 'file_bytes/* file_save/proofs/* file_columns_laws/proofs/*', r'AllBelow 65536|< 65536', 'all numbers of two bytes'),
     ('place', 'tree_one_pass/src/*', r'marks\[at \+ \d\]', 'a mark among four'),
     ('place', 'token_writer/src/* token_reader/src/*', r'tokens\[at \+ 1\]', 'a symbol, behind its code'),

@@ -3,7 +3,7 @@ use expr::order::CalleeOrder;
 ghost use mathlib.Core.Path.{_≡_};
 ghost use lib.ListN.{length};
 ghost use Rattle.expr.specs.Orders.{orderNumbered};
-ghost use Rattle.row_walk.specs.Walk.{decided, rowsAfter, scratchAfter};
+ghost use Rattle.row_walk.specs.Walk.{decided, rowsAfter};
 
 // row_walk::decide_by, with the order by its number: 0 the crate's, every other ours.
 #[no_mangle]
@@ -13,12 +13,10 @@ pub extern "C" fn tezhukor_decide_by_order(
     count: u16,
     table: &[u16],
     rows: &mut [u16],
-    scratch: &mut [u16],
 ) -> u16
-    ensures reply { λ r. ⌜ r ≡ decided context count (now (table .entry)) (length (now (rows .entry))) (length (now (scratch .entry))) ⌝ }
-    ensures rows { λ r. ⌜ now (rows .exit) ≡ rowsAfter (orderNumbered order) context count (now (table .entry)) (now (rows .entry)) (now (scratch .entry)) ⌝ }
-    ensures scratch { λ r. ⌜ now (scratch .exit) ≡ scratchAfter context count (now (table .entry)) (now (rows .entry)) (now (scratch .entry)) ⌝ }
+    ensures reply { λ r. ⌜ r ≡ decided context count (now (table .entry)) (length (now (rows .entry))) ⌝ }
+    ensures rows { λ _. ⌜ now (rows .exit) ≡ rowsAfter (orderNumbered order) context count (now (table .entry)) (now (rows .entry)) ⌝ }
 {
     let by = CalleeOrder::numbered(order);
-    row_walk::decide_by(by, context, count, table, rows, scratch)
+    row_walk::decide_by(by, context, count, table, rows)
 }

@@ -1,27 +1,27 @@
 -- What loading and walking leave for printing. Assumes nothing.
-use mathlib.Core.Path.{_≡_, refl, sym, _∙_}
+use mathlib.Core.Path.{_≡_, _∙_}
 use mathlib.Core.List.{List}
 use Prim.Native.Nat.{ℕ, _*_, _≤_}
 use native.Mathlib.Omega.{arith}
 use lib.ListN.{length, take, replicate, length-replicate}
-use Rattle.tree.specs.Sizes.{nodeCells, rowCells, scratchCells, mostNodes}
+use Rattle.tree.specs.Sizes.{nodeCells, rowCells, mostNodes}
 use Rattle.tree_rules.specs.Refusals.{refusal}
 use Rattle.file_loader.specs.declared.Loaded.the-variants.{Refused, Accepted}
 use Rattle.file_loader.specs.Files.{loaded, loadedTable}
 use Rattle.file_loader.proofs.Loading.{count-most, stored-room, stored-cells, not-refused}
 use Rattle.expr.specs.declared.order.CalleeOrder.the-variants.{Ours}
 use Rattle.row_walk.specs.Walk.{rowsAfter}
-use Rattle.row_walk.proofs.Replies.{walked, done}
+use Rattle.row_walk.proofs.Replies.{rows-are}
 use Rattle.text.specs.Numbers.{noLine}
 use Rattle.parens.specs.Text.{rowsIn, acceptedText, answered, printed}
 
 -- ---- the walk of an accepted table
 
-pub rows-placed : (context count : ℕ) (cells rows scratch after : List ℕ) → refusal context count cells ≡ 0 → count ≤ mostNodes → rows ≡ replicate (rowCells * mostNodes) 0 → length scratch ≡ scratchCells * mostNodes → after ≡ rowsAfter Ours context count cells rows scratch → after ≡ rowsIn context count cells
+pub rows-placed : (context count : ℕ) (cells rows after : List ℕ) → refusal context count cells ≡ 0 → count ≤ mostNodes → rows ≡ replicate (rowCells * mostNodes) 0 → after ≡ rowsAfter Ours context count cells rows → after ≡ rowsIn context count cells
 unfolding rowsIn
-rows-placed context count cells rows scratch after ok most zeros long e =
+rows-placed context count cells rows after ok most zeros e =
     let room : length rows ≡ rowCells * mostNodes = rw zeros (length-replicate {A = ℕ} (rowCells * mostNodes) 0) in
-    e ∙ sym (done Ours context count cells rows scratch ok (omega arith) (omega arith) _ refl _ refl .1 .0) ∙ walked Ours context count cells rows ok (omega arith) ∙ rw zeros
+    e ∙ rows-are Ours context count cells rows ok (omega arith) ∙ rw zeros
 
 -- ---- the answers of the loader
 

@@ -21,12 +21,10 @@ ghost use Rattle.parens.specs.Text.{nodeText, linesOf, allLines, accepte
 // One byte more than the longest file, so that a longer one shows.
 const FILE: usize = sizes::MOST_FILE_BYTES + 1;
 
-// The cells of the most nodes: in the table, in the rows, and in the walk's scratch.
+// The cells of the most nodes: in the table, and in the rows.
 const CELLS: usize = sizes::NODE_CELLS * (sizes::MOST_NODES as usize);
 
 const ROWS: usize = sizes::ROW_CELLS * (sizes::MOST_NODES as usize);
-
-const SCRATCH: usize = sizes::SCRATCH_CELLS * (sizes::MOST_NODES as usize);
 
 // The cells of a row, behind the node's number in a line.
 const WIDTH: u16 = sizes::ROW_CELLS as u16;
@@ -75,8 +73,7 @@ fn put_rows(out: &mut [u8], context: u16, count: u16, table: &[u16]) -> usize
     ensures { λ r. ⌜ Added (now (out .entry)) 0 (acceptedText context count (now (table .entry))) (now (out .exit)) r ⌝ }
 {
     let mut rows = [0u16; ROWS];
-    let mut scratch = [0u16; SCRATCH];
-    row_walk::decide(context, count, table, &mut rows, &mut scratch);
+    row_walk::decide(context, count, table, &mut rows);
     put_all(out, count, table, &rows)
 }
 

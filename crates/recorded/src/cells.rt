@@ -28,7 +28,7 @@ pub(crate) fn fill(table: &mut [u16; TABLE]) {
 }
 
 // Whether all cells from `from` on keep the pattern.
-pub(crate) fn keeps(table: &[u16; TABLE], from: usize) -> bool {
+fn keeps(table: &[u16; TABLE], from: usize) -> bool {
     let mut i = from;
     while i < TABLE {
         if table[i] != pattern(i) {
@@ -71,20 +71,6 @@ pub(crate) fn saved(file: &[u8; TABLE], bytes: &[u8; BYTES], n: usize) -> bool
     while i < TABLE {
         let meant = if i < n { bytes[i] } else { BYTE };
         if file[i] != meant {
-            return false;
-        }
-        i += 1;
-    }
-    true
-}
-
-// Whether the first `n` cells are zeros.
-pub(crate) fn zeros(table: &[u16; TABLE], n: usize) -> bool
-    requires { ⌜ n ≤ tokenCells * mostTokens ⌝ }
-{
-    let mut i = 0;
-    while i < n {
-        if table[i] != 0 {
             return false;
         }
         i += 1;

@@ -10,7 +10,6 @@ use crate::record::Sizes;
 use expr::order::CalleeOrder;
 use file_loader::Loaded;
 use token_writer::Written;
-use tree::sizes;
 ghost use Prim.Native.Nat.{_*_, _≤_};
 ghost use lib.ListN.{length};
 ghost use Rattle.tree.specs.Sizes.{tokenCells, mostTokens};
@@ -59,34 +58,24 @@ fn decide_loaded(
     loaded: Loaded,
     table: &[u16; TABLE],
     rows: &mut [u16],
-    scratch: &mut [u16],
     lent: usize,
 ) -> u16
     requires { ⌜ lent ≤ length (now rows) ⌝ }
-    requires { ⌜ lent ≤ length (now scratch) ⌝ }
 {
     match loaded {
         Loaded::Refused(why) => why,
         Loaded::Accepted(context, count) => {
-            row_walk::decide_by(
-                order,
-                context,
-                count,
-                table,
-                &mut rows[0..lent],
-                &mut scratch[0..lent],
-            )
+            row_walk::decide_by(order, context, count, table, &mut rows[0..lent])
         }
     }
 }
 
-// The reply to deciding the rows of a file in a callee order, with `lent` cells of rows and scratch lent.
+// The reply to deciding the rows of a file in a callee order, with `lent` cells of rows lent.
 fn decide(
     order: CalleeOrder,
     file: &[u8; FILE],
     size: usize,
     rows: &mut [u16; TABLE],
-    scratch: &mut [u16; TABLE],
     lent: usize,
 ) -> u16
     requires { ⌜ size ≤ 100_000 ⌝ }
@@ -94,10 +83,10 @@ fn decide(
 {
     let mut table = [0u16; TABLE];
     let loaded = load(file, size, &mut table, TABLE);
-    decide_loaded(order, loaded, &table, rows, scratch, lent)
+    decide_loaded(order, loaded, &table, rows, lent)
 }
 
-// Whether the rows of a file are as recorded, the scratch of as many nodes being cleared.
+// Whether the rows of a file are as recorded.
 pub(crate) fn decides(
     order: CalleeOrder,
     file: &[u8; FILE],
@@ -109,16 +98,8 @@ pub(crate) fn decides(
 {
     let mut rows = [0u16; TABLE];
     cells::fill(&mut rows);
-    let mut scratch = [0u16; TABLE];
-    cells::fill(&mut scratch);
-    if decide(order, file, s.file, &mut rows, &mut scratch, s.lent) != reply {
-        return false;
-    }
-    let written = s.written / 2;
-    let cleared = sizes::SCRATCH_CELLS * (written / sizes::ROW_CELLS);
-    cells::written(&rows, cells, written)
-        && cells::zeros(&scratch, cleared)
-        && cells::keeps(&scratch, cleared)
+    decide(order, file, s.file, &mut rows, s.lent) == reply
+        && cells::written(&rows, cells, s.written / 2)
 }
 
 // ---- tokens

@@ -4,7 +4,7 @@ use mathlib.Core.List.{List, [], _∷_}
 use Prim.Native.Nat.{ℕ, _*_, _/_}
 use lib.Dec.{eqb}
 use lib.ListN.{length, replicate}
-use Rattle.tree.specs.Sizes.{nodeCells, rowCells, scratchCells}
+use Rattle.tree.specs.Sizes.{nodeCells, rowCells}
 use Rattle.tree.specs.Forms.{ExprCall, ExprField, ExprGroup, ExprPath, ExprStruct}
 use Rattle.expr.specs.declared.order.CalleeOrder.{CalleeOrder}
 use Rattle.expr.specs.declared.order.CalleeOrder.the-variants.{Crates, Ours}
@@ -20,13 +20,13 @@ pub record Case : Type 0 where
 abbrev case : ℕ → List ℕ → List ℕ → List ℕ → Case
 case context cells crates ours = record { context = context; cells = cells; crates = crates; ours = ours }
 
--- ---- whether a case holds, in buffers of just the length needed that hold no row before
+-- ---- whether a case holds, in a buffer of just the length needed that holds no row before
 
 abbrev blank : ℕ → List ℕ
 blank n = replicate n 99
 
 abbrev rowsIn : CalleeOrder → Case → ℕ → List ℕ
-rowsIn order k count = rowsAfter order (k .context) count (k .cells) (blank (rowCells * count)) (blank (scratchCells * count))
+rowsIn order k count = rowsAfter order (k .context) count (k .cells) (blank (rowCells * count))
 
 abbrev same : List ℕ → List ℕ → Bool
 same [] [] = true
@@ -36,7 +36,7 @@ same (m ∷ ms) (n ∷ ns) = eqb m n && same ms ns
 
 abbrev holdsFor : Case → ℕ → Bool
 holdsFor k count =
-    eqb (decided (k .context) count (k .cells) (rowCells * count) (scratchCells * count)) 0
+    eqb (decided (k .context) count (k .cells) (rowCells * count)) 0
     && (same (rowsIn Crates k count) (k .crates) && same (rowsIn Ours k count) (k .ours))
 
 abbrev pub allHold : List Case → Bool

@@ -1,13 +1,13 @@
 -- The row and the context of a node, by its class. Assumes nothing.
 use mathlib.Core.Path.{_≡_, refl, sym, ap, _∙_}
-use mathlib.Core.Bool.{Bool, true, false, _||_}
+use mathlib.Core.Bool.{Bool, true, false}
 use mathlib.Core.List.{List, [], _∷_}
 use mathlib.Core.Logic.{_⊎_, inl, inr}
 use Prim.Native.Nat.{ℕ, _≤_}
 use native.Mathlib.Omega.{arith}
 use native.Mathlib.Decide.{decLe}
-use lib.Dec.{T, eqb, ltb}
-use borrow.Author.Tests.{eq-eqb, ne-eqb, le-leb, le-ltb}
+use lib.Dec.{T, eqb}
+use borrow.Author.Tests.{eq-eqb, ne-eqb, le-leb}
 use Rattle.laws.specs.Choice.{Line, pick, lookup}
 use Rattle.laws.proofs.Choice.{pick-true, pick-false, true-not-false}
 use Rattle.laws.proofs.Keys.{apartFrom, not-found, linesBelow, past-rows}

@@ -1,21 +1,17 @@
 -- The rows of a tree in the cells of its nodes, a node at a time. Assumes nothing.
-use mathlib.Core.Path.{_≡_, refl, sym, ap, _∙_}
+use mathlib.Core.Path.{_≡_, refl, _∙_}
 use mathlib.Core.List.{List}
 use Prim.Native.Nat.{ℕ, _≤_}
 use lib.ListN.{length, length-set}
-use mathlib.Core.Bool.{false}
 use Rattle.tree.specs.Table.{firstColumn, secondColumn}
-use Rattle.tree.specs.Trees.{none, labelAt, operandAt, treeAt}
+use Rattle.tree.specs.Trees.{none, operandAt, treeAt}
 use Rattle.tree.proofs.Unfold.{unfolds, tree-zero}
-use Rattle.fixup.specs.declared.context.FixupContext.{FixupContext}
-use Rattle.fixup.specs.Contexts.{NONE}
 use Rattle.expr.specs.declared.Handed.{Handed}
 use Rattle.expr.specs.declared.order.CalleeOrder.{CalleeOrder}
 use Rattle.expr.specs.Expr.{handsFirst, handsSecond}
 use Rattle.row.specs.declared.Row.{Row}
-use Rattle.row.specs.Rows.{Rows, zeros, isExpression, rowOf, ownContext, rowsOf}
+use Rattle.row.specs.Rows.{Rows, rowOf, ownContext, rowsOf}
 use Rattle.row.specs.Rows as rows
-use Rattle.row.specs.Steps.{alone}
 use Rattle.row_walk.specs.Walk.{rowStored, placed}
 
 -- ---- lengths

@@ -1,16 +1,15 @@
--- What `walk` leaves in the rows; the replies of `decide`, and what they leave in the buffers. Assumes nothing.
+-- What `walk` leaves in the rows; the replies of `decide`, and what they leave in the rows. Assumes nothing.
 use mathlib.Core.Path.{_≡_, sym, _∙_}
-use mathlib.Core.Bool.{true, false}
+use mathlib.Core.Bool.{false}
 use mathlib.Core.List.{List}
 use Prim.Native.Nat.{ℕ, _*_, _≤_, _<_}
 use native.Mathlib.Omega.{arith}
 use lib.Dec.{eqb}
-use lib.ListN.{length, replicate}
+use lib.ListN.{length}
 use borrow.Author.Tests.{eq-eqb, ne-eqb, lt-ltb, le-ltb}
 use Rattle.laws.specs.Choice.{pick}
-use Rattle.laws.specs.Lists.{over}
-use Rattle.laws.proofs.Choice.{pick-true, pick-false, or-here, or-next}
-use Rattle.tree.specs.Sizes.{rowCells, scratchCells, mostLevels}
+use Rattle.laws.proofs.Choice.{pick-true, pick-false}
+use Rattle.tree.specs.Sizes.{rowCells, mostLevels}
 use Rattle.tree.specs.Trees.{none, treeAt}
 use Rattle.tree.proofs.Unfold.{tree-past}
 use Rattle.tree_rules.specs.Refusals.{refusal}
@@ -21,7 +20,7 @@ use Rattle.row_walk.specs.Stack.{within}
 use Rattle.row_walk.specs.Steps.{waiting}
 use Rattle.row_walk.proofs.Reach.{all-reached}
 use Rattle.row_walk.proofs.Room.{entries-bound}
-use Rattle.row_walk.specs.Walk.{rootHanded, placed, treeRows, walkedAfter, decideRefusal12, decided, rowsAfter, scratchAfter}
+use Rattle.row_walk.specs.Walk.{rootHanded, placed, treeRows, walkedAfter, decideRefusal12, decided, rowsAfter}
 
 -- ---- `walk`
 
@@ -53,46 +52,39 @@ module _ (order : CalleeOrder) (context count : ℕ) (cells rows : List ℕ) whe
 
 -- ---- `decide`
 
-module _ (order : CalleeOrder) (context count : ℕ) (cells rows scratch : List ℕ) where
-  -- what the three clauses of the contract say of a reply and of the buffers afterwards
-  abbrev pub Decides : ℕ → List ℕ → List ℕ → Type 0
-  Decides r rows′ scratch′ =
-      (r ≡ decided context count cells (length rows) (length scratch))
-      × ((rows′ ≡ rowsAfter order context count cells rows scratch)
-      × (scratch′ ≡ scratchAfter context count cells rows scratch))
+module _ (order : CalleeOrder) (context count : ℕ) (cells rows : List ℕ) where
+  -- what the two clauses of the contract say of a reply and of the rows afterwards
+  abbrev pub Decides : ℕ → List ℕ → Type 0
+  Decides r after = (r ≡ decided context count cells (length rows)) × (after ≡ rowsAfter order context count cells rows)
 
-  -- a reply that is not 0 leaves the buffers as they were
-  refuses : (r : ℕ) → r ≡ decided context count cells (length rows) (length scratch) → (r ≡ 0 → ⊥) → Decides r rows scratch
-  unfolding rowsAfter scratchAfter
+  -- a reply that is not 0 leaves the rows as they were
+  refuses : (r : ℕ) → r ≡ decided context count cells (length rows) → (r ≡ 0 → ⊥) → Decides r rows
+  unfolding rowsAfter
   refuses r e n =
-      let f : eqb (decided context count cells (length rows) (length scratch)) 0 ≡ false = rw (← e) (ne-eqb r 0 n) in
-      (e, (sym (pick-false _ _ f), sym (pick-false _ _ f)))
+      let f : eqb (decided context count cells (length rows)) 0 ≡ false = rw (← e) (ne-eqb r 0 n) in
+      (e, sym (pick-false _ _ f))
 
-  pub refused : (r : ℕ) → r ≡ refusal context count cells → (r ≡ 0 → ⊥) → Decides r rows scratch
+  pub refused : (r : ℕ) → r ≡ refusal context count cells → (r ≡ 0 → ⊥) → Decides r rows
   unfolding decided
   refused r e n = refuses r (e ∙ sym (pick-false _ _ (rw (← e) (ne-eqb r 0 n)))) n
 
   module _ (accepted : refusal context count cells ≡ 0) where
-    after : decided context count cells (length rows) (length scratch) ≡ pick (decideRefusal12 count (length rows) (length scratch)) 12 0
+    checked : decided context count cells (length rows) ≡ pick (decideRefusal12 count (length rows)) 12 0
     unfolding decided
-    after = pick-true _ _ (eq-eqb _ 0 accepted)
+    checked = pick-true _ _ (eq-eqb _ 0 accepted)
 
-    short : decideRefusal12 count (length rows) (length scratch) ≡ true → Decides 12 rows scratch
-    short e = refuses 12 (sym (after ∙ pick-true 12 0 e)) (λ z. omega arith)
-
-    pub short-rows : length rows < rowCells * count → Decides 12 rows scratch
+    pub short-rows : length rows < rowCells * count → Decides 12 rows
     unfolding decideRefusal12
-    short-rows h = short (or-here _ (lt-ltb _ _ h))
+    short-rows h = refuses 12 (sym (checked ∙ pick-true 12 0 (lt-ltb _ _ h))) (λ z. omega arith)
 
     module _ (fits : rowCells * count ≤ length rows) where
-      pub short-scratch : length scratch < scratchCells * count → Decides 12 rows scratch
+      pub not-refused : decided context count cells (length rows) ≡ 0
       unfolding decideRefusal12
-      short-scratch h = short (or-next _ (le-ltb _ _ fits) ∙ lt-ltb _ _ h)
+      not-refused = checked ∙ pick-false 12 0 (le-ltb _ _ fits)
 
-      pub done : scratchCells * count ≤ length scratch → (rows′ : List ℕ) → rows′ ≡ walkedAfter order context count cells rows
-          → (scratch′ : List ℕ) → scratch′ ≡ over (replicate (scratchCells * count) 0) scratch
-          → Decides 0 rows′ scratch′
-      unfolding decideRefusal12 rowsAfter scratchAfter
-      done k rows′ er scratch′ es =
-          let e : decided context count cells (length rows) (length scratch) ≡ 0 = after ∙ pick-false 12 0 (or-next _ (le-ltb _ _ fits) ∙ le-ltb _ _ k) in
-          (sym e, (er ∙ walked order context count cells rows accepted fits ∙ sym (pick-true _ _ (eq-eqb _ 0 e)), es ∙ sym (pick-true _ _ (eq-eqb _ 0 e))))
+      pub rows-are : rowsAfter order context count cells rows ≡ treeRows order context count (treeAt cells count 1) cells rows
+      unfolding rowsAfter
+      rows-are = pick-true _ _ (eq-eqb _ 0 not-refused)
+
+      pub done : (after : List ℕ) → after ≡ walkedAfter order context count cells rows → Decides 0 after
+      done after e = (sym not-refused, e ∙ walked order context count cells rows accepted fits ∙ sym rows-are)

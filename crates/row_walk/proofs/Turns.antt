@@ -14,14 +14,14 @@ use Rattle.laws.proofs.Choice.{and-true, true-not-false}
 use Rattle.tree.specs.Sizes.{mostLevels}
 use Rattle.tree.specs.Table.{cellAt, firstColumn, secondColumn}
 use Rattle.tree.specs.Trees.{operandAt, treeAt}
-use Rattle.tree.proofs.Unfold.{unfolds, tree-zero, operand-range}
+use Rattle.tree.proofs.Unfold.{unfolds, operand-range}
 use Rattle.fixup.specs.declared.context.FixupContext.{FixupContext}
 use Rattle.expr.specs.declared.Handed.{Handed}
 use Rattle.expr.specs.declared.order.CalleeOrder.{CalleeOrder}
 use Rattle.expr.specs.Expr.{handsFirst, handsSecond}
 use Rattle.row_pack.specs.Packs.{packedOf, unpackedOf}
 use Rattle.row_pack.proofs.Packs.{unpacks}
-use Rattle.row.specs.Rows.{isExpression, rowOf, ownContext, rowsOf}
+use Rattle.row.specs.Rows.{isExpression, rowOf, ownContext}
 use Rattle.row.specs.Steps.{alone}
 use Rattle.row_walk.specs.Walk.{rowStored}
 use Rattle.row_walk.specs.Steps.{placedWithin, finish, nodesIn, toDo}

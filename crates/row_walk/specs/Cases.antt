@@ -4,7 +4,7 @@ use mathlib.Core.List.{List, [], _∷_}
 use Prim.Native.Nat.{ℕ, _*_, _-_, _/_}
 use lib.Dec.{eqb}
 use lib.ListN.{length, take, drop, replicate}
-use Rattle.tree.specs.Sizes.{nodeCells, rowCells, scratchCells}
+use Rattle.tree.specs.Sizes.{nodeCells, rowCells}
 use Rattle.tree.specs.Forms.{ExprBinary, ExprBreak, ExprCall, ExprCast, ExprField, ExprGroup, ExprLoop, ExprMatch, ExprPath, ExprReturn, ExprStruct, TypePath, Link}
 use Rattle.expr.specs.declared.order.CalleeOrder.the-variants.{Ours}
 use Rattle.row_walk.specs.Walk.{decided, rowsAfter}
@@ -23,17 +23,17 @@ pub record Case : Type 0 where
 abbrev case : ℕ → List ℕ → ℕ → Expected → Case
 case context cells node expected = record { context = context; cells = cells; node = node; expected = expected }
 
--- ---- whether a case holds: the reply is 0, and the node's cells are as expected, in buffers of just the length needed
+-- ---- whether a case holds: the reply is 0, and the node's cells are as expected, in a buffer of just the length needed
 
 abbrev pub count : Case → ℕ
 count k = length (k .cells) / nodeCells
 
--- buffers that hold no row before
+-- a buffer that holds no row before
 abbrev blank : ℕ → List ℕ
 blank n = replicate n 99
 
 abbrev pub rowAt : Case → List ℕ
-rowAt k = take rowCells (drop (rowCells * (k .node - 1)) (rowsAfter Ours (k .context) (count k) (k .cells) (blank (rowCells * count k)) (blank (scratchCells * count k))))
+rowAt k = take rowCells (drop (rowCells * (k .node - 1)) (rowsAfter Ours (k .context) (count k) (k .cells) (blank (rowCells * count k))))
 
 abbrev same : List ℕ → List ℕ → Bool
 same [] [] = true
@@ -46,7 +46,7 @@ meets cells (row expected) = same cells expected
 meets cells (pair expected) = same (take 1 cells) (expected ∷ [])
 
 abbrev pub holds : Case → Bool
-holds k = eqb (decided (k .context) (count k) (k .cells) (rowCells * count k) (scratchCells * count k)) 0 && meets (rowAt k) (k .expected)
+holds k = eqb (decided (k .context) (count k) (k .cells) (rowCells * count k)) 0 && meets (rowAt k) (k .expected)
 
 abbrev pub allHold : List Case → Bool
 allHold [] = true

@@ -1,12 +1,11 @@
--- The reply of `decide_by`, and what the lent buffers hold afterwards; `decide` is the same in our callee order.
-use mathlib.Core.Bool.{Bool, _||_}
+-- The reply of `decide_by`, and what the lent rows hold afterwards; `decide` is the same in our callee order.
+use mathlib.Core.Bool.{Bool}
 use mathlib.Core.List.{List, [], _∷_}
 use Prim.Native.Nat.{ℕ, _+_, _*_, _-_}
 use lib.Dec.{eqb, ltb}
-use lib.ListN.{length, set, replicate}
+use lib.ListN.{length, set}
 use Rattle.laws.specs.Choice.{pick, Line, line, lookup}
-use Rattle.laws.specs.Lists.{over}
-use Rattle.tree.specs.Sizes.{rowCells, scratchCells, mostLevels}
+use Rattle.tree.specs.Sizes.{rowCells, mostLevels}
 use Rattle.tree.specs.Table.{firstColumn, secondColumn}
 use Rattle.tree.specs.Trees.{Tree, operandAt, treeAt}
 use Rattle.tree_rules.specs.Refusals.{refusal}
@@ -52,24 +51,19 @@ walkedAfter order context count cells rows =
     let t = treeAt cells count 1 in
     pick (ltb (length rows) (rowCells * count)) rows (placed cells count 1 (within mostLevels (rowsOf order (rootHanded context t) t)) rows)
 
--- 12. "A lent buffer is too short: five cells a node for rows, three for the walk's scratch"
-unfoldable pub decideRefusal12 : ℕ → ℕ → ℕ → Bool
-decideRefusal12 count rows scratch = ltb rows (rowCells * count) || ltb scratch (scratchCells * count)
+-- 12. "A lent buffer is too short: five cells a node for rows"; document 02, Paper 13: "For the walk, refusal 12 then depends only on the buffers for rows"
+unfoldable pub decideRefusal12 : ℕ → ℕ → Bool
+decideRefusal12 count rows = ltb rows (rowCells * count)
 
 -- the reply: the table's refusal, then 12, or 0
-unfoldable pub decided : ℕ → ℕ → List ℕ → ℕ → ℕ → ℕ
-decided context count cells rows scratch =
-    pick (eqb (refusal context count cells) 0) (pick (decideRefusal12 count rows scratch) 12 0) (refusal context count cells)
+unfoldable pub decided : ℕ → ℕ → List ℕ → ℕ → ℕ
+decided context count cells rows =
+    pick (eqb (refusal context count cells) 0) (pick (decideRefusal12 count rows) 12 0) (refusal context count cells)
 
 -- the rows afterwards. "Otherwise .. every lent buffer keeps its contents. On 0, cells past the answer keep theirs."
-unfoldable pub rowsAfter : CalleeOrder → ℕ → ℕ → List ℕ → List ℕ → List ℕ → List ℕ
-rowsAfter order context count cells rows scratch =
+unfoldable pub rowsAfter : CalleeOrder → ℕ → ℕ → List ℕ → List ℕ → List ℕ
+rowsAfter order context count cells rows =
     pick
-    (eqb (decided context count cells (length rows) (length scratch)) 0)
+    (eqb (decided context count cells (length rows)) 0)
     (treeRows order context count (treeAt cells count 1) cells rows)
     rows
-
--- the scratch afterwards. "On 0 the walk's scratch holds zeros in the three cells of each node."
-unfoldable pub scratchAfter : ℕ → ℕ → List ℕ → List ℕ → List ℕ → List ℕ
-scratchAfter context count cells rows scratch =
-    pick (eqb (decided context count cells (length rows) (length scratch)) 0) (over (replicate (scratchCells * count) 0) scratch) scratch

@@ -19,8 +19,7 @@ use tree_one_pass::check;
 ghost use mathlib.Core.Path.{_≡_};
 ghost use mathlib.Core.Bool.{not};
 ghost use Prim.Native.Nat.{_*_, _≤_};
-ghost use lib.ListN.{length, replicate};
-ghost use Rattle.laws.specs.Lists.{over};
+ghost use lib.ListN.{length};
 ghost use Rattle.tree.specs.Sizes.{rowCells, mostLevels};
 ghost use Rattle.tree.specs.Trees.{treeAt};
 ghost use Rattle.expr.specs.declared.order.CalleeOrder.the-variants.{Ours};
@@ -28,7 +27,7 @@ ghost use Rattle.row_pack.specs.Packs.{packedOf};
 ghost use Rattle.row.specs.Rows.{zeros, isExpression, rowOf, ownContext, rowsOf};
 ghost use Rattle.row.specs.Steps.{alone};
 ghost use Rattle.row_walk.specs.Stack.{within};
-ghost use Rattle.row_walk.specs.Walk.{contextNumbered, rootHanded, rowStored, placed, walkedAfter, decided, rowsAfter, scratchAfter};
+ghost use Rattle.row_walk.specs.Walk.{contextNumbered, rootHanded, rowStored, placed, walkedAfter, decided, rowsAfter};
 
 // The entries of the walk's stack.
 const ENTRIES: usize = sizes::MOST_LEVELS as usize;
@@ -193,18 +192,6 @@ pub fn walk(order: CalleeOrder, context: u16, count: u16, table: &[u16], rows: &
     walk_from(order, handed, table, count, rows);
 }
 
-// Zeros over the start of a buffer.
-fn clear(buffer: &mut [u16], cells: usize)
-    requires { ⌜ cells ≤ length (now buffer) ⌝ }
-    ensures { λ _. ⌜ now (buffer .exit) ≡ over (replicate cells 0) (now (buffer .entry)) ⌝ }
-{
-    let mut done = 0;
-    while done < cells {
-        buffer[done] = 0;
-        done += 1;
-    }
-}
-
 // The rows of all nodes of a table into `rows`, in a callee order: 0, or the first refusal that applies.
 pub fn decide_by(
     order: CalleeOrder,
@@ -212,11 +199,9 @@ pub fn decide_by(
     count: u16,
     table: &[u16],
     rows: &mut [u16],
-    scratch: &mut [u16],
 ) -> u16
-    ensures reply { λ r. ⌜ r ≡ decided context count (now (table .entry)) (length (now (rows .entry))) (length (now (scratch .entry))) ⌝ }
-    ensures rows { λ r. ⌜ now (rows .exit) ≡ rowsAfter order context count (now (table .entry)) (now (rows .entry)) (now (scratch .entry)) ⌝ }
-    ensures scratch { λ r. ⌜ now (scratch .exit) ≡ scratchAfter context count (now (table .entry)) (now (rows .entry)) (now (scratch .entry)) ⌝ }
+    ensures reply { λ r. ⌜ r ≡ decided context count (now (table .entry)) (length (now (rows .entry))) ⌝ }
+    ensures rows { λ _. ⌜ now (rows .exit) ≡ rowsAfter order context count (now (table .entry)) (now (rows .entry)) ⌝ }
 {
     let refused = check(context, count, table);
     if refused != 0 {
@@ -226,19 +211,14 @@ pub fn decide_by(
     if rows.len() < sizes::ROW_CELLS * nodes {
         return 12;
     }
-    if scratch.len() < sizes::SCRATCH_CELLS * nodes {
-        return 12;
-    }
     walk(order, context, count, table, rows);
-    clear(scratch, sizes::SCRATCH_CELLS * nodes);
     0
 }
 
 // The same in our order.
-pub fn decide(context: u16, count: u16, table: &[u16], rows: &mut [u16], scratch: &mut [u16]) -> u16
-    ensures reply { λ r. ⌜ r ≡ decided context count (now (table .entry)) (length (now (rows .entry))) (length (now (scratch .entry))) ⌝ }
-    ensures rows { λ r. ⌜ now (rows .exit) ≡ rowsAfter Ours context count (now (table .entry)) (now (rows .entry)) (now (scratch .entry)) ⌝ }
-    ensures scratch { λ r. ⌜ now (scratch .exit) ≡ scratchAfter context count (now (table .entry)) (now (rows .entry)) (now (scratch .entry)) ⌝ }
+pub fn decide(context: u16, count: u16, table: &[u16], rows: &mut [u16]) -> u16
+    ensures reply { λ r. ⌜ r ≡ decided context count (now (table .entry)) (length (now (rows .entry))) ⌝ }
+    ensures rows { λ _. ⌜ now (rows .exit) ≡ rowsAfter Ours context count (now (table .entry)) (now (rows .entry)) ⌝ }
 {
-    decide_by(CalleeOrder::Ours, context, count, table, rows, scratch)
+    decide_by(CalleeOrder::Ours, context, count, table, rows)
 }

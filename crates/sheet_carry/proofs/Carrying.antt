@@ -3,19 +3,17 @@ use mathlib.Core.Path.{_≡_, refl, sym, ap, _∙_}
 use mathlib.Core.Bool.{Bool, true, false}
 use mathlib.Core.List.{List, [], _∷_}
 use Prim.Native.Nat.{ℕ, _*_, _≤_}
-use native.Mathlib.Omega.{arith}
 use lib.Dec.{eqb}
-use lib.ListN.{length, replicate, length-replicate}
+use lib.ListN.{length}
 use borrow.Author.Tests.{eq-eqb, ne-eqb, eqb-true, eqb-false}
 use Rattle.laws.specs.Choice.{pick}
-use Rattle.laws.specs.Lists.{over}
-use Rattle.tree.specs.Sizes.{rowCells, scratchCells}
+use Rattle.tree.specs.Sizes.{rowCells}
 use Rattle.tree.specs.Trees.{treeAt}
 use Rattle.tree_rules.specs.Refusals.{Accepted}
 use Rattle.expr.specs.declared.order.CalleeOrder.{CalleeOrder}
 use Rattle.expr.specs.declared.order.CalleeOrder.the-variants.{Crates, Ours}
 use Rattle.row_walk.specs.Walk.{treeRows}
-use Rattle.row_walk.proofs.Replies as replies
+use Rattle.row_walk.proofs.Replies.{not-refused, rows-are}
 use Rattle.sheet_edit.specs.Runs.{Sheet, Change, changed, ran, Right}
 use Rattle.sheet_edit.proofs.Runs.{ran-right, opened-right}
 use Rattle.sheet_carry.specs.Carries.{carriedOver, carriedRows}
@@ -55,18 +53,11 @@ module _ (s : Sheet) where
     fits : Accepted (s .context) (s .count) (s .table) × (rowCells * s .count ≤ length (s .rows))
     fits = taken (s .context) (s .count) (s .table) (s .rows) z
 
-    module _ (scratch : List ℕ) (room : scratchCells * s .count ≤ length scratch) where
-      decides : replies.Decides Ours (s .context) (s .count) (s .table) (s .rows) scratch 0 (treeRows Ours (s .context) (s .count) (treeAt (s .table) (s .count) 1) (s .table) (s .rows)) (over (replicate (scratchCells * s .count) 0) scratch)
-      decides = replies.done Ours (s .context) (s .count) (s .table) (s .rows) scratch (fits .0) (fits .1) room _ (sym (replies.walked Ours (s .context) (s .count) (s .table) (s .rows) (fits .0) (fits .1))) _ refl
-
-      as-opened : carried s ≡ reopened s scratch
-      as-opened = walks ∙ ap (With Ours) (decides .1 .0)
-
-      right-opened : Right (carried s)
-      right-opened = rw as-opened (opened-right Ours (s .context) (s .count) (s .table) (s .rows) scratch (sym (decides .0)))
+    as-opened : carried s ≡ reopened s
+    as-opened = walks ∙ ap (With Ours) (sym (rows-are Ours (s .context) (s .count) (s .table) (s .rows) (fits .0) (fits .1)))
 
     right-carried : Right (carried s)
-    right-carried = right-opened (replicate (scratchCells * s .count) 0) (simp length-replicate (omega arith))
+    right-carried = rw as-opened (opened-right Ours (s .context) (s .count) (s .table) (s .rows) (not-refused Ours (s .context) (s .count) (s .table) (s .rows) (fits .0) (fits .1)))
 
 pub is-carried : IsCarried
 is-carried s z = record { as-opened = λ e. as-opened s z e; in-ours = in-ours s z; right = λ e. right-carried s z e }
@@ -79,7 +70,7 @@ carried-again s = record { ours-stays = ours-stays s; refused-stays = carried-re
     go false z = ap carried (carried-refused s (eqb-false _ _ z))
 
 pub carried-then-edited : CarriedThenEdited
-carried-then-edited s z e scratch room cs = ap (λ (t : Sheet). ran t cs) (as-opened s z e scratch room)
+carried-then-edited s z e cs = ap (λ (t : Sheet). ran t cs) (as-opened s z e)
 
 pub carried-right : RightCarried
 carried-right s right = (fine, by-order (s .order) refl)

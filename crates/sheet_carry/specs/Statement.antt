@@ -1,11 +1,10 @@
 -- Document 02, Paper 10: what is promised of carrying open sheets across the rule change.
 use mathlib.Core.List.{List}
 use mathlib.Core.Path.{_≡_}
-use Prim.Native.Nat.{ℕ, _*_, _≤_}
+use Prim.Native.Nat.{ℕ}
 use lib.Dec.{eqb}
 use lib.ListN.{length}
 use Rattle.laws.specs.Choice.{pick}
-use Rattle.tree.specs.Sizes.{scratchCells}
 use Rattle.expr.specs.declared.order.CalleeOrder.the-variants.{Crates, Ours}
 use Rattle.sheet_edit.specs.Runs.{Sheet, opened, Change, ran, Right}
 use Rattle.sheet_carry.specs.Carries.{carryRefusal, carriedRows}
@@ -27,15 +26,15 @@ carried s =
     }
 
 -- the same sheet opened in our order, in the same buffers
-abbrev pub reopened : Sheet → List ℕ → Sheet
-reopened s scratch = opened Ours (s .context) (s .count) (s .table) (s .rows) scratch
+abbrev pub reopened : Sheet → Sheet
+reopened s = opened Ours (s .context) (s .count) (s .table) (s .rows)
 
 -- ---- what holds of it
 
 -- "Carry an open sheet from the crate's callee order to ours: the tree stays, and the rows become those of a fresh walk under the new order." Nothing of the sheet differs from
 -- one that is opened in our order, whatever its rows were; and its rows are right.
 pub record CarriedOver (s : Sheet) : Type 0 where
-  pub as-opened : s .order ≡ Crates → (scratch : List ℕ) → scratchCells * s .count ≤ length scratch → carried s ≡ reopened s scratch
+  pub as-opened : s .order ≡ Crates → carried s ≡ reopened s
   pub in-ours : carried s .order ≡ Ours
   pub right : s .order ≡ Crates → Right (carried s)
 
@@ -54,8 +53,7 @@ StaysCarried = (s : Sheet) → CarriedAgain s
 -- "A later edit gives what it would on a sheet opened under the new order": after any run of edits, refused ones among them, the same sheet.
 abbrev pub CarriedThenEdited : Type 0
 CarriedThenEdited =
-    (s : Sheet) → refusalOf s ≡ 0 → s .order ≡ Crates → (scratch : List ℕ) → scratchCells * s .count ≤ length scratch
-    → (cs : List Change) → ran (carried s) cs ≡ ran (reopened s scratch) cs
+    (s : Sheet) → refusalOf s ≡ 0 → s .order ≡ Crates → (cs : List Change) → ran (carried s) cs ≡ ran (reopened s) cs
 
 -- a right sheet is never refused, and stays right
 abbrev pub RightCarried : Type 0

@@ -9,7 +9,7 @@ use lib.ListN.{length}
 use borrow.Author.Tests.{eq-eqb, eqb-true, ltb-false}
 use Rattle.laws.specs.Choice.{pick}
 use Rattle.laws.specs.Lists.{over}
-use Rattle.laws.proofs.Choice.{pick-true, pick-zero, or-false}
+use Rattle.laws.proofs.Choice.{pick-true, pick-zero}
 use Rattle.tree.specs.Trees.{Tree, treeAt}
 use Rattle.tree_rules.specs.Refusals.{refusalThen, Accepted}
 use Rattle.tree_rules.proofs.First.{none-applied}
@@ -106,12 +106,12 @@ ran-right s [] right = right
 ran-right s (c ∷ cs) right = ran-right (changed s c) cs (changed-right s c right)
 
 -- a sheet that is not refused is right once it is opened, in the order in which it is
-pub opened-right : (order : CalleeOrder) (context count : ℕ) (cells rows scratch : List ℕ) → decided context count cells (length rows) (length scratch) ≡ 0
-    → Right (opened order context count cells rows scratch)
+pub opened-right : (order : CalleeOrder) (context count : ℕ) (cells rows : List ℕ) → decided context count cells (length rows) ≡ 0
+    → Right (opened order context count cells rows)
 unfolding decided decideRefusal12 refusalThen rowsAfter
-opened-right order context count cells rows scratch taken =
-    let p = none-applied context count cells (pick (decideRefusal12 count (length rows) (length scratch)) 12 0) taken in
-    let room = ltb-false _ _ (or-false _ _ (pick-zero _ 12 0 (omega arith) (p .1) .0) .0) in
+opened-right order context count cells rows taken =
+    let p = none-applied context count cells (pick (decideRefusal12 count (length rows)) 12 0) taken in
+    let room = ltb-false _ _ (pick-zero _ 12 0 (omega arith) (p .1) .0) in
     rw (pick-true (placed cells count 1 (rowsOf order (rootHanded context (treeAt cells count 1)) (treeAt cells count 1)) rows) rows (eq-eqb _ 0 taken))
     (record {
       accepted = p .0;
@@ -121,4 +121,4 @@ opened-right order context count cells rows scratch taken =
 
 -- an opened sheet after any list of edits, refused ones among them
 pub edits : AnyEdits
-edits order context count cells rows scratch taken cs = ran-right (opened order context count cells rows scratch) cs (opened-right order context count cells rows scratch taken)
+edits order context count cells rows taken cs = ran-right (opened order context count cells rows) cs (opened-right order context count cells rows taken)

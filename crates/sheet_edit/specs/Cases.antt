@@ -64,7 +64,7 @@ abbrev noise : List ℕ
 noise = replicate 25 99
 
 abbrev before : List ℕ
-before = rowsAfter Ours 1 4 half noise (replicate 12 0)
+before = rowsAfter Ours 1 4 half noise
 
 abbrev after : List ℕ
 after = editedRows Ours (editOf 1 4 half 4 0 2 upTo) noise

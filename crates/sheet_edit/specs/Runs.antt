@@ -24,9 +24,9 @@ pub record Sheet : Type 0 where
   pub rows : List ℕ
 
 -- a sheet opened in a callee order: a table, and the rows that deciding in it gives
-abbrev pub opened : CalleeOrder → ℕ → ℕ → List ℕ → List ℕ → List ℕ → Sheet
-opened order context count cells rows scratch =
-    record { context = context; count = count; order = order; table = cells; rows = rowsAfter order context count cells rows scratch }
+abbrev pub opened : CalleeOrder → ℕ → ℕ → List ℕ → List ℕ → Sheet
+opened order context count cells rows =
+    record { context = context; count = count; order = order; table = cells; rows = rowsAfter order context count cells rows }
 
 -- a node, and the second tree's context, count and table
 pub record Change : Type 0 where

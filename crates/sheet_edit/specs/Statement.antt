@@ -41,8 +41,8 @@ EditLocal =
 -- "After any run of edits", refused ones among them, an opened sheet is accepted, and its rows are those worked out afresh in the order in which it was opened.
 abbrev pub AnyEdits : Type 0
 AnyEdits =
-    (order : CalleeOrder) (context count : ℕ) (cells rows scratch : List ℕ) → decided context count cells (length rows) (length scratch) ≡ 0
-    → (cs : List Change) → Right (ran (opened order context count cells rows scratch) cs)
+    (order : CalleeOrder) (context count : ℕ) (cells rows : List ℕ) → decided context count cells (length rows) ≡ 0
+    → (cs : List Change) → Right (ran (opened order context count cells rows) cs)
 
 -- "Replacing node 1 is allowed.": the result is the second tree, and nothing but 12 is left to refuse it.
 abbrev pub EditRoot : Type 0

@@ -6,7 +6,6 @@ use crate::stems::CELLS;
 use crate::stems::ENDS;
 use crate::stems::NEXTS;
 use crate::stems::ROWS;
-use crate::stems::SCRATCH;
 use expr::order::CalleeOrder;
 ghost use Prim.Native.Nat.{_<_, _≤_};
 
@@ -26,15 +25,7 @@ fn with_tree(digest: u64, cells: &[u16; CELLS], count: usize) -> u64
     ensures { λ r. ⌜ r < 70_368_744_177_643 ⌝ }
 {
     let mut rows = [0u16; ROWS];
-    let mut scratch = [0u16; SCRATCH];
-    let reply = row_walk::decide_by(
-        CalleeOrder::Crates,
-        0,
-        count as u16,
-        cells,
-        &mut rows,
-        &mut scratch,
-    );
+    let reply = row_walk::decide_by(CalleeOrder::Crates, 0, count as u16, cells, &mut rows);
     if reply != 0 {
         return digest::add(digest, 1_000);
     }

@@ -22,14 +22,12 @@ pub const BYTES: usize = STEM * (NEXTS + ENDS + FORMS + KINDS);
 // The operand whose place the next stem takes.
 const BELOW: usize = 255;
 
-// The most nodes of a table of five stems, and their cells in the table, in the rows and in the walk's scratch.
+// The most nodes of a table of five stems, and their cells in the table and in the rows.
 const NODES: usize = 20;
 
 pub const CELLS: usize = sizes::NODE_CELLS * NODES;
 
 pub const ROWS: usize = sizes::ROW_CELLS * NODES;
-
-pub const SCRATCH: usize = sizes::SCRATCH_CELLS * NODES;
 
 // A byte as a number to count with.
 fn wide(b: u8) -> usize

@@ -6,5 +6,5 @@ use Rattle.token_theorem.specs.Statement.{PlainOrders}
 
 pub plain-orders : PlainOrders
 unfolding rowsAfter
-plain-orders context count cells rows scratch plain =
+plain-orders context count cells rows plain =
     rw (plain-rows (treeAt cells count 1) (rootHanded context (treeAt cells count 1)) (table-plain count cells plain 1))

@@ -9,7 +9,7 @@ use borrow.Author.Tests.{le-ltb, eq-eqb}
 use Rattle.laws.specs.Choice.{pick}
 use Rattle.laws.specs.Lists.{over}
 use Rattle.laws.proofs.Choice.{pick-true, pick-false, true-of, or-next}
-use Rattle.tree.specs.Sizes.{nodeCells, rowCells, scratchCells, tokenCells, tokensPerNode, mostNodes, mostTokens}
+use Rattle.tree.specs.Sizes.{nodeCells, rowCells, tokenCells, tokensPerNode, mostNodes, mostTokens}
 use Rattle.tree.specs.Trees.{Tree, treeAt}
 use Rattle.tree.specs.Erase.{erase}
 use Rattle.tree.specs.Walks.{isThere}
@@ -22,7 +22,7 @@ use Rattle.row.specs.Rows.{rowsOf}
 use Rattle.row_walk.specs.Walk.{rootHanded, placed}
 use Rattle.row_walk.specs.Paths.{Branch, numberAt, treeBy}
 use Rattle.row_walk.proofs.Paths.{tree-at, there-at, one-path, reached}
-use Rattle.row_walk.proofs.Replies.{walked, done}
+use Rattle.row_walk.proofs.Replies as replies
 use Rattle.token_grammar.specs.Tokens.{Token, cellsOf}
 use Rattle.token_grammar.specs.Codes.{areTokens}
 use Rattle.token_grammar.specs.Types.{one}
@@ -105,7 +105,7 @@ module _ (k : Context) (count : ℕ) (cells : List ℕ) (ok : Accepted (contextN
 
   pub rows-are : rowsFor context count cells ≡ rows
   unfolding rowsFor
-  rows-are = sym (done Ours context count cells blank (replicate (scratchCells * count) 0) ok room (rw (length-replicate {A = ℕ} (scratchCells * count) 0) (omega arith)) _ refl _ refl .1 .0) ∙ walked Ours context count cells blank ok room
+  rows-are = replies.rows-are Ours context count cells blank ok room
 
   -- by any parse tree of the table's tree
   pub written-by : (e : Expr one) → treeOf e ≡ root → written context count cells ≡ write (withoutCommas (addAll k e)) []

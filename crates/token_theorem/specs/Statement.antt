@@ -93,5 +93,5 @@ SameTokens =
 -- Document 02, Paper 9: "Plain trees have neither, so their tokens do not move." The rows of a plain table are the same in both callee orders, in any context.
 abbrev pub PlainOrders : Type 0
 PlainOrders =
-    (context count : ℕ) (cells rows scratch : List ℕ) → plainTable count cells ≡ true
-    → rowsAfter Crates context count cells rows scratch ≡ rowsAfter Ours context count cells rows scratch
+    (context count : ℕ) (cells rows : List ℕ) → plainTable count cells ≡ true
+    → rowsAfter Crates context count cells rows ≡ rowsAfter Ours context count cells rows

@@ -12,7 +12,7 @@ use Rattle.laws.specs.Lists.{over}
 use Rattle.laws.specs.Puts.{Put}
 use Rattle.laws.proofs.Choice.{pick-true, pick-false, or-here, or-next}
 use Rattle.laws.proofs.Putting.{put-over}
-use Rattle.tree.specs.Sizes.{rowCells, scratchCells, tokenCells, tokensPerNode}
+use Rattle.tree.specs.Sizes.{rowCells, tokenCells, tokensPerNode}
 use Rattle.tree_rules.specs.Refusals.{firstOf, refusal}
 use Rattle.expr.specs.declared.order.CalleeOrder.the-variants.{Ours}
 use Rattle.row_walk.specs.Walk.{rowsAfter}
@@ -28,10 +28,10 @@ use Rattle.token_writer.proofs.Tokens.{length-cells}
 -- ---- the rows
 
 -- in a buffer of just the length that they need
-pub rows-made : (context count : ℕ) (cells rows scratch after : List ℕ) → rows ≡ replicate (rowCells * count) 0 → scratch ≡ replicate (scratchCells * count) 0
-    → after ≡ rowsAfter Ours context count cells rows scratch → after ≡ rowsFor context count cells
+pub rows-made : (context count : ℕ) (cells rows after : List ℕ) → rows ≡ replicate (rowCells * count) 0
+    → after ≡ rowsAfter Ours context count cells rows → after ≡ rowsFor context count cells
 unfolding rowsFor
-rows-made context count cells rows scratch after r s e = rw (e, r, s)
+rows-made context count cells rows after r e = rw (e, r)
 
 -- the tokens with them, and the pairs
 module _ (context count : ℕ) (cells rows : List ℕ) (made : rows ≡ rowsFor context count cells) where

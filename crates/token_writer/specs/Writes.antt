@@ -7,7 +7,7 @@ use lib.ListN.{length, getD, replicate}
 use Rattle.bools.specs.Bits.{bitOf}
 use Rattle.laws.specs.Choice.{pick, isOneOf}
 use Rattle.laws.specs.Lists.{over}
-use Rattle.tree.specs.Sizes.{rowCells, scratchCells, tokenCells, tokensPerNode}
+use Rattle.tree.specs.Sizes.{rowCells, tokenCells, tokensPerNode}
 use Rattle.tree.specs.Trees.{treeAt}
 use Rattle.tree_rules.specs.Refusals.{refusal, refuse, firstOf}
 use Rattle.expr.specs.declared.order.CalleeOrder.the-variants.{Ours}
@@ -22,7 +22,7 @@ use Rattle.token_writer.specs.declared.Written.the-variants.{Refused, To
 
 -- the rows of a table in a context and in our callee order, in a buffer of just the length that they need
 unfoldable pub rowsFor : ℕ → ℕ → List ℕ → List ℕ
-rowsFor context count cells = rowsAfter Ours context count cells (replicate (rowCells * count) 0) (replicate (scratchCells * count) 0)
+rowsFor context count cells = rowsAfter Ours context count cells (replicate (rowCells * count) 0)
 
 -- "Written for a plain tree are its nodes' tokens in the grammar's order"
 unfoldable pub written : ℕ → ℕ → List ℕ → List Token

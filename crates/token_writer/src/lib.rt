@@ -19,7 +19,7 @@ ghost use Prim.Native.Nat.{_+_, _*_, _-_, _≤_};
 ghost use lib.ListN.{length, getD, replicate};
 ghost use Rattle.laws.specs.Lists.{over};
 ghost use Rattle.laws.specs.Puts.{Put};
-ghost use Rattle.tree.specs.Sizes.{rowCells, scratchCells, tokenCells, mostTokens};
+ghost use Rattle.tree.specs.Sizes.{rowCells, tokenCells, mostTokens};
 ghost use Rattle.tree_rules.specs.Refusals.{refusal};
 ghost use Rattle.tree_numbering.specs.Sums.{sum};
 ghost use Rattle.token_plain.specs.Written.{hasPair};
@@ -167,20 +167,19 @@ fn write_from(
     put(tokens, close, one_if(pair, codes::RIGHT_PAREN), symbol)
 }
 
-// The tokens of an accepted plain table, with the rows made in buffers of just the length that they need.
+// The tokens of an accepted plain table, with the rows made in a buffer of just the length that they need.
 fn write_plain(
     context: u16,
     count: u16,
     table: &[u16],
     rows: &mut [u16],
-    scratch: &mut [u16],
     tokens: &mut [u16],
 ) -> Written
-    requires { ⌜ (now rows ≡ replicate (rowCells * count) 0) × (now scratch ≡ replicate (scratchCells * count) 0) × (tokenCells * length (written context count (now table)) ≤ length (now tokens)) × (length (written context count (now table)) ≤ mostTokens) ⌝ }
+    requires { ⌜ (now rows ≡ replicate (rowCells * count) 0) × (tokenCells * length (written context count (now table)) ≤ length (now tokens)) × (length (written context count (now table)) ≤ mostTokens) ⌝ }
     ensures reply { λ r. ⌜ r ≡ Tokens (pairsWritten context count (now (table .entry))) (length (written context count (now (table .entry)))) ⌝ }
     ensures tokens { λ r. ⌜ now (tokens .exit) ≡ over (cellsOf (written context count (now (table .entry)))) (now (tokens .entry)) ⌝ }
 {
-    row_walk::decide(context, count, table, rows, scratch);
+    row_walk::decide(context, count, table, rows);
     let end = write_from(table, count, rows, 1, tokens, 0);
     Written::Tokens(pairs_in(rows, count), (end / sizes::TOKEN_CELLS) as u16)
 }
@@ -218,15 +217,6 @@ pub fn write(context: u16, count: u16, table: &[u16], tokens: &mut [u16]) -> Wri
         return Written::Refused(13);
     }
     let mut rows = [0u16; sizes::ROW_CELLS * (sizes::MOST_NODES as usize)];
-    let mut scratch = [0u16; sizes::SCRATCH_CELLS * (sizes::MOST_NODES as usize)];
     let row_cells = sizes::ROW_CELLS * nodes;
-    let scratch_cells = sizes::SCRATCH_CELLS * nodes;
-    write_plain(
-        context,
-        count,
-        table,
-        &mut rows[..row_cells],
-        &mut scratch[..scratch_cells],
-        tokens,
-    )
+    write_plain(context, count, table, &mut rows[..row_cells], tokens)
 }

@@ -14,7 +14,7 @@ use Rattle.fixup.specs.declared.context.FixupContext.{FixupContext}
 use Rattle.expr.specs.Expr.{handsFirst, handsSecond}
 use Rattle.row_pack.specs.Packs.{packedOf, unpackedOf}
 use Rattle.row_pack.proofs.Packs.{unpacks, none-packed}
-use Rattle.row.specs.Rows.{isExpression, rowOf, ownContext, rowsOf}
+use Rattle.row.specs.Rows.{isExpression, rowOf, ownContext}
 use Rattle.row.specs.Steps.{alone}
 use Rattle.row_walk.specs.Walk.{rowStored}
 use Rattle.row_walk.specs.Steps.{placedWithin, finish}

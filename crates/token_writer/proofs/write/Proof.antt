@@ -7,7 +7,7 @@ use native.Mathlib.Omega.{arith}
 use borrow.Author.Needs.{needs}
 use borrow.Author.Tests.{not-true, not-false}
 use Rattle.laws.proofs.Calls.{free}
-use Rattle.tree.specs.Sizes.{rowCells, scratchCells, mostNodes}
+use Rattle.tree.specs.Sizes.{rowCells, mostNodes}
 use Rattle.tree_rules.proofs.Accepted.{count-bounds}
 use Rattle.token_writer.proofs.Bounds.{tokens-bound}
 use Rattle.token_writer.proofs.Replies.{take-zeros, length-zeros, refused, short, in-context, not-plain, done}
@@ -50,39 +50,26 @@ slice-aggregate-write-plain c =
     let bounds = count-bounds (a .context) (a .count) (a .table .now) (sym (c .before .before .before .before .before .before .before .check .ensures) ∙ c .before .before .before .before .before .before .if1 .left) in
     length-zeros (rowCells * a .count) (rowCells * mostNodes) (times rowCells (a .count) (bounds .1))
 
-array-borrow-prefix-scratch : tie.Need-array-borrow-prefix-scratch
-array-borrow-prefix-scratch c =
-    let a = c .before .before .before .before .before .before .before .before .before .before .args in
-    let bounds = count-bounds (a .context) (a .count) (a .table .now) (sym (c .before .before .before .before .before .before .before .check .ensures) ∙ c .before .before .before .before .before .before .if1 .left) in
-    times scratchCells (a .count) (bounds .1)
-
-slice-aggregate-write-plain-2 : tie.Need-slice-aggregate-write-plain-2
-slice-aggregate-write-plain-2 c =
-    let a = c .before .before .before .before .before .before .before .before .before .before .before .args in
-    let bounds = count-bounds (a .context) (a .count) (a .table .now) (sym (c .before .before .before .before .before .before .before .before .check .ensures) ∙ c .before .before .before .before .before .before .before .if1 .left) in
-    length-zeros (scratchCells * a .count) (scratchCells * mostNodes) (times scratchCells (a .count) (bounds .1))
-
 write-plain-requires : tie.Need-write-plain-requires
 write-plain-requires c κs =
-    let a = c .before .before .before .before .before .before .before .before .before .before .before .before .args in
-    let ok = sym (c .before .before .before .before .before .before .before .before .before .check .ensures) ∙ c .before .before .before .before .before .before .before .before .if1 .left in
-    let fits = c .before .before .before .before .before .before .before .if2 .left in
+    let a = c .before .before .before .before .before .before .before .before .before .before .before .args in
+    let ok = sym (c .before .before .before .before .before .before .before .before .check .ensures) ∙ c .before .before .before .before .before .before .before .if1 .left in
+    let fits = c .before .before .before .before .before .before .if2 .left in
     let most = tokens-bound (a .context) (a .count) (a .table .now) ok in
     let bounds = count-bounds (a .context) (a .count) (a .table .now) ok in
-    (take-zeros (rowCells * a .count) (rowCells * mostNodes) (times rowCells (a .count) (bounds .1)), take-zeros (scratchCells * a .count) (scratchCells * mostNodes) (times scratchCells (a .count) (bounds .1)), omega (arith, most .0), most .1)
+    (take-zeros (rowCells * a .count) (rowCells * mostNodes) (times rowCells (a .count) (bounds .1)), omega (arith, most .0), most .1)
 
 returns-5 : tie.Need-returns-5
 returns-5 c =
-    let a = c .before .before .before .before .before .before .before .before .before .before .before .before .before .before .before .before .before .args in
-    let ok = sym (c .before .before .before .before .before .before .before .before .before .before .before .before .before .before .check .ensures) ∙ c .before .before .before .before .before .before .before .before .before .before .before .before .before .if1 .left in
-    let fits = c .before .before .before .before .before .before .before .before .before .before .before .before .if2 .left in
-    let taken = not-false _ (ap not (sym (c .before .before .before .before .before .before .before .before .before .before .before .takes .ensures)) ∙ c .before .before .before .before .before .before .before .before .before .before .if3 .left) in
-    let plain = not-false _ (ap not (sym (c .before .before .before .before .before .before .before .before .before .is-plain-table .ensures)) ∙ c .before .before .before .before .before .before .before .before .if4 .left) in
-    let r = c .before .before .before .before .write-plain .ensures in
+    let a = c .before .before .before .before .before .before .before .before .before .before .before .before .before .before .before .args in
+    let ok = sym (c .before .before .before .before .before .before .before .before .before .before .before .before .check .ensures) ∙ c .before .before .before .before .before .before .before .before .before .before .before .if1 .left in
+    let fits = c .before .before .before .before .before .before .before .before .before .before .if2 .left in
+    let taken = not-false _ (ap not (sym (c .before .before .before .before .before .before .before .before .before .takes .ensures)) ∙ c .before .before .before .before .before .before .before .before .if3 .left) in
+    let plain = not-false _ (ap not (sym (c .before .before .before .before .before .before .before .is-plain-table .ensures)) ∙ c .before .before .before .before .before .before .if4 .left) in
+    let r = c .before .before .before .write-plain .ensures in
     done (a .context) (a .count) (a .table .now) (a .tokens .now) ok fits taken plain _ _ (r .0) (r .1)
 
 pub write-spec : {M : Type 1} → statement M
 write-spec =
     tie.close (tie.spec free returns (λ c. search needs) returns-2 free returns-3 free returns-4 (λ c. search needs)
-    (λ c. search needs) array-borrow-prefix-rows slice-aggregate-write-plain array-borrow-prefix-scratch
-    slice-aggregate-write-plain-2 write-plain-requires (λ c. search needs) returns-5)
+    array-borrow-prefix-rows slice-aggregate-write-plain write-plain-requires (λ c. search needs) returns-5)

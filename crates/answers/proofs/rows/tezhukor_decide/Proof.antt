@@ -5,5 +5,4 @@ use Rattle.answers.proofs.rows.tezhukor_decide.Tie as tie
 
 pub tezhukor-decide-spec : {M : Type 1} → statement M
 tezhukor-decide-spec =
-    tie.close (tie.spec (λ c κs. search needs) (λ c. search needs) (λ c. search needs)
-    (λ c. c .before .before .before .before .decide .ensures))
+    tie.close (tie.spec (λ c κs. search needs) (λ c. search needs) (λ c. c .before .before .decide .ensures))

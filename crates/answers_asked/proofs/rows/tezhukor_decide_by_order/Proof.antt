@@ -6,5 +6,5 @@ use Rattle.answers_asked.proofs.rows.tezhukor_decide_by_order.Tie as ti
 
 pub tezhukor-decide-by-order-spec : {M : Type 1} → statement M
 tezhukor-decide-by-order-spec =
-    tie.close (tie.spec free (λ c κs. search needs) (λ c. search needs) (λ c. search needs)
-    (λ c. rw (← c .before .before .before .before .before .before .before .numbered .ensures) (c .before .before .before .before .decide-by .ensures)))
+    tie.close (tie.spec free (λ c κs. search needs) (λ c. search needs)
+    (λ c. rw (← c .before .before .before .before .numbered .ensures) (c .before .before .decide-by .ensures)))
