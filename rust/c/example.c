@@ -27,7 +27,6 @@ enum {
     NODES = 5, /* of the file */
     CELLS = TEZHUKOR_NODE_CELLS * TEZHUKOR_MOST_NODES,
     ROWS = TEZHUKOR_ROW_CELLS * NODES,
-    SCRATCH = TEZHUKOR_SCRATCH_CELLS * NODES,
     TOKENS = TEZHUKOR_TOKEN_CELLS * TEZHUKOR_TOKENS_PER_NODE * NODES,
     BYTES = TEZHUKOR_FILE_BYTES(NODES),
     SECOND_NODES = 3,
@@ -45,7 +44,7 @@ static uint16_t sheet_rows[SHEET_ROWS];
 static uint16_t seen_rows[SHEET_ROWS];
 
 int main(void) {
-    uint16_t rows[ROWS], scratch[SCRATCH], tokens[TOKENS];
+    uint16_t rows[ROWS], tokens[TOKENS];
     uint8_t saved[BYTES];
     uint32_t loaded = tezhukor_load(file, sizeof file, table, CELLS);
     if (TEZHUKOR_REFUSAL(loaded) != 0) {
@@ -54,7 +53,7 @@ int main(void) {
     }
     uint16_t context = TEZHUKOR_CONTEXT(loaded), count = TEZHUKOR_COUNT(loaded);
     size_t cells = TEZHUKOR_NODE_CELLS * (size_t)count;
-    if (tezhukor_decide(context, count, table, cells, rows, ROWS, scratch, SCRATCH) != 0) return 1;
+    if (tezhukor_decide(context, count, table, cells, rows, ROWS) != 0) return 1;
     for (unsigned node = 1; node <= count; node++)
         if (rows[TEZHUKOR_ROW_CELLS * (node - 1)] & 1) printf("node %u needs a pair\n", node);
     uint64_t reply = tezhukor_write(context, count, table, cells, tokens, TOKENS);
@@ -94,7 +93,7 @@ int main(void) {
     uint16_t minus = tezhukor_binding(1);
     printf("level %u, lean %u\n", (unsigned)TEZHUKOR_LEVEL(minus), (unsigned)TEZHUKOR_LEAN(minus));
     /* Without a buffer: told, and nothing followed. */
-    printf("refused %u\n", (unsigned)tezhukor_decide(context, count, table, cells, NULL, 0, NULL, 0));
+    printf("refused %u\n", (unsigned)tezhukor_decide(context, count, table, cells, NULL, 0));
     printf("refused %u\n", (unsigned)TEZHUKOR_REFUSAL(tezhukor_load(NULL, 0, NULL, 0)));
     /* `start` gives way to `offset - station` in the sheet, which has room for it: first
      * beside it, then in it. */

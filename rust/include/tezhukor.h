@@ -76,11 +76,10 @@ enum {
     TEZHUKOR_DEPENDS = 2
 };
 
-/* Cells that a node takes in a table, in rows and in scratch, and tokens at the most;
+/* Cells that a node takes in a table and in rows, and tokens at the most;
  * cells that a token takes. */
 #define TEZHUKOR_NODE_CELLS 6
 #define TEZHUKOR_ROW_CELLS 5
-#define TEZHUKOR_SCRATCH_CELLS 3
 #define TEZHUKOR_TOKENS_PER_NODE 6
 #define TEZHUKOR_TOKEN_CELLS 2
 #define TEZHUKOR_MOST_NODES 4096
@@ -124,11 +123,9 @@ uint32_t tezhukor_compare(const uint8_t *first, size_t first_length, const uint8
 
 /* Decides the rows of a table, five cells a node: pair (1 outer, plus 2 inner),
  * precedence, previous operator, next operator, flags; zeros for types and links.
- * Needs three cells of scratch a node, in which it leaves zeros. Replies 0 or the
- * refusal (3, 4, 6 to 12). */
+ * Replies 0 or the refusal (3, 4, 6 to 12). */
 uint16_t tezhukor_decide(uint16_t context, uint16_t count, const uint16_t *table,
-                         size_t table_length, uint16_t *rows, size_t rows_length,
-                         uint16_t *scratch, size_t scratch_length);
+                         size_t table_length, uint16_t *rows, size_t rows_length);
 
 /* Writes the tokens of a plain table in context 0 or 3, two cells a token: its code, and the
  * symbol of its node on names (32), literals (33) and numbered members (44), else 0.

@@ -58,16 +58,9 @@ pub fn compare(first: &[u8], second: &[u8]) -> u32 {
     unsafe { library::tezhukor_compare(first.as_ptr(), first.len(), second.as_ptr(), second.len()) }
 }
 
-/// Decides the rows of a table, [`ROW_CELLS`](model::sizes::ROW_CELLS) cells a node, with
-/// [`SCRATCH_CELLS`](model::sizes::SCRATCH_CELLS) of scratch a node. The reply is 0 or the
-/// refusal.
-pub fn decide(
-    context: u16,
-    count: u16,
-    table: &[u16],
-    rows: &mut [u16],
-    scratch: &mut [u16],
-) -> u16 {
+/// Decides the rows of a table, [`ROW_CELLS`](model::sizes::ROW_CELLS) cells a node. The
+/// reply is 0 or the refusal.
+pub fn decide(context: u16, count: u16, table: &[u16], rows: &mut [u16]) -> u16 {
     // SAFETY: as above.
     unsafe {
         library::tezhukor_decide(
@@ -77,8 +70,6 @@ pub fn decide(
             table.len(),
             rows.as_mut_ptr(),
             rows.len(),
-            scratch.as_mut_ptr(),
-            scratch.len(),
         )
     }
 }

@@ -116,7 +116,7 @@ impl Tree {
         let count = u16::try_from(nodes.len()).map_err(|_| Refusal::Count)?;
         let cells: Vec<u16> = nodes.iter().flat_map(|node| node.cells()).collect();
         // Without room for rows, a table that is accepted is refused for just that.
-        match Refusal::numbered(boundary::decide(context, count, &cells, &mut [], &mut [])) {
+        match Refusal::numbered(boundary::decide(context, count, &cells, &mut [])) {
             None | Some(Refusal::Buffer) => Ok(Tree { context, cells }),
             Some(refusal) => Err(refusal),
         }
@@ -155,10 +155,9 @@ impl Tree {
     /// The row of each node, node 1 first.
     pub fn rows(&self) -> Vec<Row> {
         let count = usize::from(self.count());
-        let (mut rows, mut scratch) = (vec![0; ROW_CELLS * count], vec![0; SCRATCH_CELLS * count]);
-        // The table is accepted and the buffers are long enough: the reply is 0.
-        let reply =
-            boundary::decide(self.context, self.count(), &self.cells, &mut rows, &mut scratch);
+        let mut rows = vec![0; ROW_CELLS * count];
+        // The table is accepted and the buffer is long enough: the reply is 0.
+        let reply = boundary::decide(self.context, self.count(), &self.cells, &mut rows);
         debug_assert_eq!(reply, 0);
         rows.chunks_exact(ROW_CELLS).map(Row::of_cells).collect()
     }

@@ -14,7 +14,7 @@ use tezhukor::boundary::{self, Counted};
 use tezhukor::codes::OPEN;
 use tezhukor::contexts::NONE;
 use tezhukor::forms::{CALL, METHOD_CALL, PAREN};
-use tezhukor::sizes::{CONTEXT_UNIT, MOST_CELLS, REFUSAL_UNIT, ROW_CELLS, SCRATCH_CELLS};
+use tezhukor::sizes::{CONTEXT_UNIT, MOST_CELLS, REFUSAL_UNIT, ROW_CELLS};
 use tezhukor::{CalleeOrder, Refusal, Row, Token, Tree, Written};
 
 /// Checks that a buffer holds an answer, and else what it was lent with.
@@ -53,18 +53,15 @@ fn decides(record: &Record, order: CalleeOrder) {
         assert_eq!(tezhukor::rows(&record.bytes).map_err(Refusal::number), Err(record.refusal));
         return;
     };
-    let (mut rows, mut scratch) = (Lent::new(record.lent), Lent::new(record.lent));
-    let (lent_rows, lent_scratch) = (rows.lend(record.lent), scratch.lend(record.lent));
+    let mut rows = Lent::new(record.lent);
+    let lent = rows.lend(record.lent);
     let (context, count, table) = (tree.context(), tree.count(), tree.cells());
     let refusal = match order {
-        CalleeOrder::Crate => {
-            decide_by_order(order.number(), context, count, table, lent_rows, lent_scratch)
-        }
-        CalleeOrder::Ours => boundary::decide(context, count, table, lent_rows, lent_scratch),
+        CalleeOrder::Crate => decide_by_order(order.number(), context, count, table, lent),
+        CalleeOrder::Ours => boundary::decide(context, count, table, lent),
     };
     assert_eq!(refusal, record.refusal);
     holds(rows, &record.cells());
-    holds(scratch, &vec![0; SCRATCH_CELLS * usize::from(record.count)]);
     if refusal == 0 {
         let meant: Vec<Row> = record.cells().chunks_exact(ROW_CELLS).map(Row::of_cells).collect();
         let has_pair: Vec<bool> = meant.iter().map(|row| row.has_outer_pair()).collect();

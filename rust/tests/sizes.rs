@@ -7,12 +7,11 @@ use tezhukor::sizes::*;
 use tezhukor::{codes, contexts, Answer, CalleeOrder, Refusal};
 
 /// The numbers by name.
-const SIZES: [(&str, usize); 19] = [
+const SIZES: [(&str, usize); 18] = [
     ("NODE_CELLS", NODE_CELLS),
     ("NODE_BYTES", NODE_BYTES),
     ("MOST_SYMBOL", MOST_SYMBOL as usize),
     ("ROW_CELLS", ROW_CELLS),
-    ("SCRATCH_CELLS", SCRATCH_CELLS),
     ("TOKEN_CELLS", TOKEN_CELLS),
     ("TOKENS_PER_NODE", TOKENS_PER_NODE),
     ("TOKEN_CELLS_PER_NODE", TOKEN_CELLS_PER_NODE),
@@ -118,7 +117,6 @@ fn the_header_agrees() {
         "NODE_CELLS",
         "NO_OPERATOR",
         "ROW_CELLS",
-        "SCRATCH_CELLS",
         "TOKENS_PER_NODE",
         "TOKEN_CELLS",
     ];

@@ -9,9 +9,6 @@ pub const MOST_SYMBOL: u16 = 65_535;
 /// Cells of a row: pair, precedence, previous operator, next operator, flags.
 pub const ROW_CELLS: usize = 5;
 
-/// Cells of scratch that deciding takes for a node.
-pub const SCRATCH_CELLS: usize = 3;
-
 /// Cells of a token in a token list: code, symbol.
 pub const TOKEN_CELLS: usize = 2;
 

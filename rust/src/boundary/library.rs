@@ -32,8 +32,6 @@ extern "C" {
         table_length: usize,
         rows: *mut u16,
         rows_length: usize,
-        scratch: *mut u16,
-        scratch_length: usize,
     ) -> u16;
 
     pub fn tezhukor_write(
@@ -141,8 +139,6 @@ extern "C" {
         table_length: usize,
         rows: *mut u16,
         rows_length: usize,
-        scratch: *mut u16,
-        scratch_length: usize,
     ) -> u16;
 
     pub fn tezhukor_answer(

@@ -13,7 +13,6 @@ pub fn decide_by_order(
     count: u16,
     table: &[u16],
     rows: &mut [u16],
-    scratch: &mut [u16],
 ) -> u16 {
     // SAFETY: pointers and lengths are those of slices, of which none overlaps
     // another; the function demands nothing else of its arguments.
@@ -26,8 +25,6 @@ pub fn decide_by_order(
             table.len(),
             rows.as_mut_ptr(),
             rows.len(),
-            scratch.as_mut_ptr(),
-            scratch.len(),
         )
     }
 }

@@ -17,9 +17,9 @@ fn print([edits, previews]: &[Tally; 2], name: &str) {
 /// The rows of a result in the callee order with a number.
 fn rows(result: &NodeTable, order: u16) -> Vec<u16> {
     let count = usize::from(result.count);
-    let (mut rows, mut scratch) = (vec![0; ROW_CELLS * count], vec![0; SCRATCH_CELLS * count]);
+    let mut rows = vec![0; ROW_CELLS * count];
     let NodeTable { context, count, cells } = result;
-    assert_eq!(decide_by_order(order, *context, *count, cells, &mut rows, &mut scratch), 0);
+    assert_eq!(decide_by_order(order, *context, *count, cells, &mut rows), 0);
     rows
 }
 

@@ -88,27 +88,24 @@ fn holds(mut lent: Lent, answer: &[u16]) {
     assert_eq!(lent.take(answer.len()).as_deref(), Some(answer));
 }
 
-/// Decides a table with so many cells lent for rows and for scratch.
-fn decide(table: &NodeTable, [rows, scratch]: [usize; 2], tally: &mut Tally) {
-    let (mut lent_rows, mut lent_scratch) = (Lent::new(rows), Lent::new(scratch));
+/// Decides a table with so many cells lent for rows.
+fn decide(table: &NodeTable, lent: usize, tally: &mut Tally) {
+    let mut lent_rows = Lent::new(lent);
     let NodeTable { context, count, cells } = table;
-    let reply =
-        boundary::decide(*context, *count, cells, lent_rows.lend(rows), lent_scratch.lend(scratch));
+    let reply = boundary::decide(*context, *count, cells, lent_rows.lend(lent));
     let nodes = usize::from(*count);
     let meant = match accept::refusal(table) {
-        0 if rows < ROW_CELLS * nodes || scratch < SCRATCH_CELLS * nodes => 12,
+        0 if lent < ROW_CELLS * nodes => 12,
         refusal => refusal,
     };
     assert_eq!(reply, meant, "{table:?}");
     tally.count(reply);
     if reply != 0 {
         holds(lent_rows, &[]);
-        holds(lent_scratch, &[]);
         return;
     }
     let rows: Vec<u16> = tree(table).rows().iter().flat_map(|row| row.cells()).collect();
     holds(lent_rows, &rows);
-    holds(lent_scratch, &vec![0; SCRATCH_CELLS * nodes]);
 }
 
 /// Decides in both callee orders, as [`decide`] does: the same replies and buffers, the same
@@ -123,15 +120,13 @@ fn callee_orders() {
             table = damaged_table(&table, dice);
         }
         let nodes = usize::from(table.count).min(5_000);
-        let lengths = [around(ROW_CELLS * nodes, dice), around(SCRATCH_CELLS * nodes, dice)];
-        decide(&table, lengths, &mut tally);
+        let length = around(ROW_CELLS * nodes, dice);
+        decide(&table, length, &mut tally);
         let by_order = |order: u16| {
-            let [mut rows, mut scratch] = lengths.map(Lent::new);
-            let [lent_rows, lent_scratch] = [rows.lend(lengths[0]), scratch.lend(lengths[1])];
+            let mut rows = Lent::new(length);
             let NodeTable { context, count, cells } = &table;
-            let reply = decide_by_order(order, *context, *count, cells, lent_rows, lent_scratch);
+            let reply = decide_by_order(order, *context, *count, cells, rows.lend(length));
             let done = if reply == 0 { nodes } else { 0 };
-            holds(scratch, &vec![0; SCRATCH_CELLS * done]);
             (reply, rows.take(ROW_CELLS * done).expect("no other cell is written to"))
         };
         let (reply, ours) = by_order(dice.pick(&[1, 2, 65_535]));
@@ -300,8 +295,7 @@ fn damaged_files() {
 /// Decides and writes a table with buffers around their boundaries.
 fn ask(table: &NodeTable, dice: &mut Dice, decides: &mut Tally, writes: &mut Tally) {
     let count = usize::from(table.count);
-    let lengths = [around(ROW_CELLS * count, dice), around(SCRATCH_CELLS * count, dice)];
-    decide(table, lengths, decides);
+    decide(table, around(ROW_CELLS * count, dice), decides);
     let length = around(TOKEN_CELLS_PER_NODE * count, dice);
     write(table, length, writes);
 }
@@ -350,11 +344,7 @@ fn damaged_tables() {
         let dice = &mut Dice::new(4, index);
         let table = damaged_table(&Family::Mixed.tree(5, index), dice);
         let nodes = usize::from(table.count).min(5_000);
-        decide(
-            &table,
-            [around(ROW_CELLS * nodes, dice), around(SCRATCH_CELLS * nodes, dice)],
-            &mut decides,
-        );
+        decide(&table, around(ROW_CELLS * nodes, dice), &mut decides);
         write(&table, around(TOKEN_CELLS_PER_NODE * nodes, dice), &mut writes);
     }
     decides.print("damaged tables decided");
@@ -375,7 +365,7 @@ fn symbols() {
         let nodes = usize::from(shape.count);
         let node = NODE_CELLS * dice.below(nodes);
         named.cells[node + SYMBOL] = dice.pick(&[1, 127, 128, 16_383, 16_384, MOST_SYMBOL]);
-        decide(&named, [ROW_CELLS * nodes, SCRATCH_CELLS * nodes], &mut decides);
+        decide(&named, ROW_CELLS * nodes, &mut decides);
         load(&table::write(&named), NODE_CELLS * nodes, &mut loads);
     }
     decides.print("tables with a symbol at any node decided");
@@ -394,8 +384,7 @@ fn every_length() {
         let file = table::write(&tree);
         for length in 0..=TOKEN_CELLS_PER_NODE * count + 8 {
             load(&file, length, &mut loads);
-            decide(&tree, [length, SCRATCH_CELLS * count], &mut decides);
-            decide(&tree, [ROW_CELLS * count, length], &mut decides);
+            decide(&tree, length, &mut decides);
             write(&tree, length, &mut writes);
         }
         for length in 0..=file.len() {

@@ -12,9 +12,9 @@ use tezhukor::{Answer, CalleeOrder, OpenSheet, Ops};
 fn answers(asked: &Asked) -> Vec<u16> {
     asked.answers(choices(&asked.entries()), |table| {
         let count = usize::from(table.count);
-        let (mut rows, mut scratch) = (vec![0; ROW_CELLS * count], vec![0; SCRATCH_CELLS * count]);
+        let mut rows = vec![0; ROW_CELLS * count];
         let NodeTable { context, count, cells } = table;
-        let reply = decide_by_order(asked.order, *context, *count, cells, &mut rows, &mut scratch);
+        let reply = decide_by_order(asked.order, *context, *count, cells, &mut rows);
         assert_eq!(reply, 0);
         rows.chunks_exact(ROW_CELLS).map(|row| row[0] & 1 == 1).collect()
     })

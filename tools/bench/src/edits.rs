@@ -12,7 +12,7 @@
 use crate::instructions;
 use model::edit::{Asked, Lengths};
 use model::generate::{Dice, Family};
-use model::sizes::{MOST_NODES, SCRATCH_CELLS};
+use model::sizes::MOST_NODES;
 use model::NodeTable;
 use std::hint::black_box;
 use tezhukor::boundary::{self, edits};
@@ -30,7 +30,6 @@ struct Prepared {
     asked: Asked,
     result: NodeTable,
     rows: Vec<u16>,
-    scratch: Vec<u16>,
     beside: [Vec<u16>; 2],
 }
 
@@ -39,18 +38,15 @@ impl Prepared {
     fn new(mut asked: Asked) -> Option<Prepared> {
         let result = asked.result().ok()?;
         let Lengths { table, rows } = Lengths::of(result.count.max(asked.sheet.count));
-        let scratch = vec![0; SCRATCH_CELLS * usize::from(result.count.max(asked.sheet.count))];
         let mut prepared = Prepared {
             rows: vec![0; rows],
-            scratch,
             beside: [vec![0; table], vec![0; rows]],
             result,
             asked: Asked { rows: Vec::new(), ..asked.clone() },
         };
         asked.rows = vec![0; rows];
         let NodeTable { context, count, cells } = &asked.sheet;
-        let reply =
-            boundary::decide(*context, *count, cells, &mut asked.rows, &mut prepared.scratch);
+        let reply = boundary::decide(*context, *count, cells, &mut asked.rows);
         assert_eq!(reply, 0);
         asked.sheet.cells.resize(table, 0);
         prepared.asked = asked;
@@ -70,7 +66,7 @@ impl Prepared {
         match side {
             0 => {
                 let NodeTable { context, count, cells } = &self.result;
-                boundary::decide(*context, *count, cells, &mut self.rows, &mut self.scratch).into()
+                boundary::decide(*context, *count, cells, &mut self.rows).into()
             }
             1 => edits::edit(header, cells, rows, edit),
             _ => {

@@ -18,8 +18,8 @@
 //!
 //! - ours: one call of tezhukor_decide. It checks the table (refusals 3, 4 and 6
 //!   to 11), which the crate has no need of, because its trees cannot be
-//!   malformed; it reads operands out of 16-bit cells; it writes all rows and
-//!   clears the scratch. The buffers are lent again and again.
+//!   malformed; it reads operands out of 16-bit cells; it writes all rows.
+//!   The buffers are lent again and again.
 //! - of it, checks: the same call with no room for rows, which ends with 12 right
 //!   after the checks. There is no export that decides without them, so that what
 //!   the rest takes is the difference.

@@ -9,7 +9,7 @@ use crate::clock::Clock;
 use crate::instructions;
 use model::generate::{open, Dice, Family};
 use model::open::Entry;
-use model::sizes::{LAST_BINARY, MOST_NODES, ROW_CELLS, SCRATCH_CELLS};
+use model::sizes::{LAST_BINARY, MOST_NODES, ROW_CELLS};
 use model::NodeTable;
 use std::hint::black_box;
 use tezhukor::boundary::{self, edits};
@@ -26,7 +26,6 @@ struct Prepared {
     table: NodeTable,
     nodes: Vec<u16>,
     rows: Vec<u16>,
-    scratch: Vec<u16>,
     answers: Vec<u16>,
 }
 
@@ -37,7 +36,6 @@ impl Prepared {
         let count = usize::from(table.count);
         (nodes.len() == 3).then(|| Prepared {
             rows: vec![0; ROW_CELLS * count],
-            scratch: vec![0; SCRATCH_CELLS * count],
             answers: vec![0; count],
             table,
             nodes,
@@ -56,7 +54,7 @@ impl Prepared {
     fn ask(&mut self, side: usize) -> u16 {
         let NodeTable { context, count, cells } = &self.table;
         match side {
-            0 => boundary::decide(*context, *count, cells, &mut self.rows, &mut self.scratch),
+            0 => boundary::decide(*context, *count, cells, &mut self.rows),
             1 => self.open(0, 0),
             _ => self.open(3, 1),
         }

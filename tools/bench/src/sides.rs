@@ -1,7 +1,7 @@
 //! What is timed.
 
 use model::forms::Class;
-use model::sizes::{ROW_CELLS, SCRATCH_CELLS};
+use model::sizes::ROW_CELLS;
 use model::{table, CalleeOrder, NodeTable};
 use oracle::direct::{context_of_root, Context};
 use oracle::{BuiltTree, Row};
@@ -12,7 +12,6 @@ use tezhukor::boundary;
 pub struct Prepared {
     table: NodeTable,
     rows: Vec<u16>,
-    scratch: Vec<u16>,
     built: BuiltTree,
     context: Context,
 }
@@ -20,7 +19,7 @@ pub struct Prepared {
 /// What is asked of a tree.
 #[derive(Copy, Clone, PartialEq, Eq, Debug)]
 pub enum Side {
-    /// tezhukor_decide: the refusals 3, 4 and 6 to 11, the rows and the scratch.
+    /// tezhukor_decide: the refusals 3, 4 and 6 to 11, and the rows.
     Ours,
     /// tezhukor_decide with no room for rows: the same refusals, and then 12.
     OurChecks,
@@ -39,8 +38,8 @@ impl Prepared {
         let nodes = usize::from(table.count);
         let built = BuiltTree::new(table.count, &table.cells);
         let context = context_of_root(table.context);
-        let (rows, scratch) = (vec![0; ROW_CELLS * nodes], vec![0; SCRATCH_CELLS * nodes]);
-        Prepared { table, rows, scratch, built, context }
+        let rows = vec![0; ROW_CELLS * nodes];
+        Prepared { table, rows, built, context }
     }
 
     pub fn nodes(&self) -> u64 {
@@ -78,7 +77,7 @@ impl Prepared {
     fn decide(&mut self, a_node: usize) -> u16 {
         let rows = &mut self.rows[..a_node * usize::from(self.table.count)];
         let NodeTable { context, count, cells } = &self.table;
-        boundary::decide(*context, *count, cells, rows, &mut self.scratch)
+        boundary::decide(*context, *count, cells, rows)
     }
 
     /// Stops unless both sides give the same rows, the crate's files with our test of a callee.

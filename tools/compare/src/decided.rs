@@ -2,7 +2,7 @@
 //! crate gives while it prints, with our test of a callee or with its own.
 
 use model::lent::Cell;
-use model::sizes::{ROW_CELLS, SCRATCH_CELLS};
+use model::sizes::ROW_CELLS;
 use model::{table, NodeTable};
 use oracle::Row;
 use tezhukor::boundary::{self, questions};
@@ -23,24 +23,22 @@ pub const CRATES: Way = Way::ByOrder(0);
 pub struct Decided {
     reply: u16,
     rows: Vec<u16>,
-    scratch: Vec<u16>,
 }
 
 impl Decided {
-    /// Decides an accepted tree in one of document 01's contexts. Both buffers
-    /// have so many cells more than they need.
+    /// Decides an accepted tree in one of document 01's contexts. The buffer has so many
+    /// cells more than it needs.
     pub fn new(way: Way, context: u16, tree: &NodeTable, spare: usize) -> Self {
-        let lent =
-            |a_node| (0..a_node * usize::from(tree.count) + spare).map(Cell::pattern).collect();
-        let (mut rows, mut scratch): (Vec<u16>, Vec<u16>) = (lent(ROW_CELLS), lent(SCRATCH_CELLS));
+        let lent = ROW_CELLS * usize::from(tree.count) + spare;
+        let mut rows: Vec<u16> = (0..lent).map(Cell::pattern).collect();
         let (count, table) = (tree.count, &tree.cells[..]);
         let reply = match way {
-            Way::Decide => boundary::decide(context, count, table, &mut rows, &mut scratch),
+            Way::Decide => boundary::decide(context, count, table, &mut rows),
             Way::ByOrder(order) => {
-                questions::decide_by_order(order, context, count, table, &mut rows, &mut scratch)
+                questions::decide_by_order(order, context, count, table, &mut rows)
             }
         };
-        Decided { reply, rows, scratch }
+        Decided { reply, rows }
     }
 
     /// What differs from the crate's rows, from node 1 on, or from what document
@@ -59,15 +57,8 @@ impl Decided {
                 differences.push(format!("{ours:?}, not {theirs:?}, node {node}, {class:?}"));
             }
         }
-        let (scratch, behind_scratch) = self.scratch.split_at(SCRATCH_CELLS * count);
-        if scratch.iter().any(|&cell| cell != 0) {
-            differences.push(format!("scratch {scratch:?}, not zeros"));
-        }
         if !as_lent(behind_rows, ROW_CELLS * count) {
             differences.push(format!("{behind_rows:?} behind the rows"));
-        }
-        if !as_lent(behind_scratch, SCRATCH_CELLS * count) {
-            differences.push(format!("{behind_scratch:?} behind the scratch"));
         }
         differences
     }

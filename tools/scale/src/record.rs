@@ -3,7 +3,7 @@
 //!
 //! Records stand one behind the other, all numbers with the low byte first:
 //!
-//! - u16: how many cells are lent for rows, and as many for the scratch
+//! - u16: how many cells are lent for rows
 //! - u32: the length of the file
 //! - u16: the reply, 0 or the refusal
 //! - u16: the context, 0 when refused
