@@ -3,8 +3,8 @@
 
 Usage, from the root of the repository, after `bash rust/start`:
 
-    (cd tools/bench && cargo run --release -- archive /tmp/archive)
-    python3 tools/store.py /tmp/archive
+    (cd tools/bench && cargo run --release -- archive FOLDER)
+    python3 tools/store.py FOLDER
 
 Each folder of the archive is a set of tree files. A set `code` is added: what stands behind
 `=`, `return`, `if`, `while` and `=>` on a line of this repository's own Rust files, where
