@@ -43,7 +43,7 @@ fn save(file: &[u8; FILE], size: usize, own: &mut [u8; TABLE], lent: usize) -> S
 }
 
 // Whether the answer is the recorded one, apart from the bytes.
-fn saved(answer: Saved, h: Header) -> bool {
+pub(crate) fn saved(answer: Saved, h: Header) -> bool {
     match answer {
         Saved::Refused(why) => record::refuses(h, why),
         Saved::Bytes(n) => record::counts(h, n),

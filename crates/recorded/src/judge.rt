@@ -2,10 +2,12 @@
 use crate::archive;
 use crate::cells::BYTES;
 use crate::cells::TABLE;
+use crate::columns;
 use crate::lists;
 use crate::record;
 use crate::record::FILE;
 use crate::record::Header;
+use crate::record::REPLIES;
 use crate::record::Sizes;
 use crate::record::Start;
 use crate::trees;
@@ -30,6 +32,10 @@ pub enum Kind {
     Saves,
     // Two tree files, and how the first stands to the second.
     Orders,
+    // Tree files, and their rearranged files.
+    Columns,
+    // Rearranged files, and their tree files.
+    Restored,
 }
 
 // What came of one record, with the number of the recorded reply.
@@ -55,6 +61,8 @@ fn bytes_of(kind: Kind, reply: u16, count: usize) -> usize
         Kind::Readings => 2 * sizes::NODE_CELLS * count,
         Kind::Tokens => 2 * sizes::TOKEN_CELLS * count,
         Kind::Saves => count,
+        Kind::Columns => count,
+        Kind::Restored => count,
         Kind::Orders => 0,
     }
 }
@@ -71,6 +79,8 @@ fn agrees(kind: Kind, file: &[u8; FILE], h: Header, cells: &[u8; BYTES], s: Size
         Kind::Tokens => trees::writes(file, h, cells, s),
         Kind::Saves => archive::saves(file, h, cells, s),
         Kind::Orders => archive::orders(file, h, s.file),
+        Kind::Columns => columns::rearranges(file, h, cells, s),
+        Kind::Restored => columns::restores(file, h, cells, s),
     }
 }
 
@@ -80,7 +90,7 @@ fn replay(fd: i32, h: Header, kind: Kind) -> Step {
     let size = h.length;
     let reply = record::wide(h.reply);
     let written = bytes_of(kind, h.reply, record::wide(h.count));
-    if lent > TABLE || size > FILE || reply > 16 || written > BYTES {
+    if lent > TABLE || size > FILE || reply >= REPLIES || written > BYTES {
         return Step::Damaged;
     }
     let mut file = [0u8; FILE];

@@ -1,10 +1,11 @@
 // Goes through the recorded files and replies in the file `files`, loads each file with `file_loader`, and prints how
 // many replies agree with the recorded ones. Then the same with the file `rows` and the rows that `row_walk` decides in
 // the crate's callee order, with `callees` and those in ours, with `readings` and what `token_reader` reads, with `tokens`
-// and what `token_writer` writes, with `saves` and what `file_save` saves, and with `orders` and what `file_order` says of
-// two files.
+// and what `token_writer` writes, with `saves` and what `file_save` saves, with `orders` and what `file_order` says of two
+// files, and with `columns` and `restored` and what `file_columns` rearranges and puts back.
 mod archive;
 mod cells;
+mod columns;
 mod judge;
 mod lists;
 mod record;
@@ -13,14 +14,15 @@ mod trees;
 
 use judge::Kind;
 use judge::Step;
+use record::REPLIES;
 use text::print;
 
 // The most records: data that has more counts as damaged.
 const MOST: u64 = 100_000;
 
 // Counts one more at the number of a reply.
-fn bump(counts: &mut [u64; 17], reply: usize) {
-    if reply < 17 {
+fn bump(counts: &mut [u64; REPLIES], reply: usize) {
+    if reply < REPLIES {
         let n = counts[reply];
         if n < MOST {
             counts[reply] = n + 1;
@@ -30,8 +32,8 @@ fn bump(counts: &mut [u64; 17], reply: usize) {
 
 // Goes through all records and prints what came of them.
 fn run(fd: i32, kind: Kind) {
-    let mut met = [0u64; 17];
-    let mut agreed = [0u64; 17];
+    let mut met = [0u64; REPLIES];
+    let mut agreed = [0u64; REPLIES];
     let mut files: u64 = 0;
     let mut different: u64 = 0;
     while files <= MOST {
@@ -83,4 +85,6 @@ fn main() {
     open_named(b"tokens", Kind::Tokens);
     open_named(b"saves", Kind::Saves);
     open_named(b"orders", Kind::Orders);
+    open_named(b"columns", Kind::Columns);
+    open_named(b"restored", Kind::Restored);
 }

@@ -4,6 +4,9 @@ ghost use Prim.Native.Nat.{_≤_};
 // The bytes of the longest file.
 pub const FILE: usize = 100_000;
 
+// The numbers that a reply may have: 0, and those of the refusals.
+pub const REPLIES: usize = 23;
+
 // What a header says, with its numbers as they stand there.
 pub struct Header {
     pub lent: u16,

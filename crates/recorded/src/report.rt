@@ -1,4 +1,5 @@
 // What the program prints.
+use crate::record::REPLIES;
 use text::print::counted;
 use text::print::line;
 
@@ -10,9 +11,9 @@ fn refused(reply: u64, agreed: u64) {
 }
 
 // The lines of the numbers of refusal that occurred.
-fn refusals(met: &[u64; 17], agreed: &[u64; 17]) {
+fn refusals(met: &[u64; REPLIES], agreed: &[u64; REPLIES]) {
     let mut i = 1;
-    while i < 17 {
+    while i < REPLIES {
         if met[i] > 0 {
             refused(i as u64, agreed[i]);
         }
@@ -21,7 +22,7 @@ fn refusals(met: &[u64; 17], agreed: &[u64; 17]) {
 }
 
 // All lines, for `files` records of which `different` differ.
-pub(crate) fn all(met: &[u64; 17], agreed: &[u64; 17], files: u64, different: u64) {
+pub(crate) fn all(met: &[u64; REPLIES], agreed: &[u64; REPLIES], files: u64, different: u64) {
     counted(b"accepted ", agreed[0]);
     line(b"");
     refusals(met, agreed);

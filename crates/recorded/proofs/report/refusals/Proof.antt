@@ -8,7 +8,7 @@ abbrev Inv-loop : tie.InvT-loop
 Inv-loop met agreed i₀ i = Unit {0}
 
 abbrev μ-loop : tie.MeasureT-loop
-μ-loop met agreed i₀ i = 17 - i
+μ-loop met agreed i₀ i = 23 - i
 
 pub refusals-spec : {M : Type 1} → statement M
 refusals-spec =
