@@ -10,14 +10,14 @@ begins from a copy of that folder, so that only what the edit reaches is checked
 - its old text is not in its file, or is there more than once,
 - the prover refuses it only because a proof no longer fits the code's shape ('has no Need'), not because a fact fails.
 
-Logs are target/wrong/NAME/LABEL.log. The last line counts: 'N wrong programs refused, M failed'."""
+Logs are target/wrong/NAME/LABEL.log. Seconds are those of the processor. Before the last line, which counts ('N wrong
+programs refused, M failed'), a line a crate says what its check and its wrong programs took, the dearest first."""
 import argparse
 import os
 import re
 import shutil
 import subprocess
 import sys
-import time
 from concurrent.futures import ThreadPoolExecutor, as_completed
 from pathlib import Path
 
@@ -60,7 +60,7 @@ class Prover:
         return kept / f"{name}.rlib"
 
     def check(self, name, folder, kept, log):
-        """Checks the crate that stands in `folder`, and answers the exit status."""
+        """Checks the crate that stands in `folder`: the exit status, and the seconds that it took of a processor."""
         main = folder / "src" / "main.rt"
         words = [self.own / "bin" / "rattle", "check", "--crate-name", name]
         words.append(main if main.exists() else folder / "src" / "lib.rt")
@@ -72,7 +72,10 @@ class Prover:
         words += ["--logic-built", self.own / "logic-built", "--incremental", kept]
         log.parent.mkdir(parents=True, exist_ok=True)
         with log.open("wb") as out:
-            return subprocess.run(words, stdout=out, stderr=subprocess.STDOUT, stdin=subprocess.DEVNULL).returncode
+            started = subprocess.Popen(words, stdout=out, stderr=subprocess.STDOUT, stdin=subprocess.DEVNULL)
+            _, status, used = os.wait4(started.pid, 0)
+            started.returncode = os.waitstatus_to_exitcode(status)
+        return started.returncode, used.ru_utime + used.ru_stime
 
 
 def replacements(edit):
@@ -123,19 +126,19 @@ def judged(status, text):
 
 
 def warm(prover, name):
-    """Checks a crate as it stands over its folder of what was checked."""
+    """Checks a crate as it stands over its folder of what was checked: whether it is proved, and the seconds."""
     kept = TARGET / "inc" / name
     kept.mkdir(parents=True, exist_ok=True)
     log = TARGET / "wrong" / f"{name}.log"
-    status = prover.check(name, ROOT / "crates" / name, kept, log)
-    return status == 0 and re.search(r"^logic=proved", log.read_text(), re.M)
+    status, seconds = prover.check(name, ROOT / "crates" / name, kept, log)
+    return bool(status == 0 and re.search(r"^logic=proved", log.read_text(), re.M)), seconds
 
 
 def tried(prover, name, edit):
-    """Tries one edit: what is wrong, or None, and what to print."""
+    """Tries one edit: what is wrong, or None, the seconds, and what to print."""
     folder = TARGET / "wrong" / name / edit.stem
     log = folder.with_suffix(".log")
-    began = time.monotonic()
+    seconds = 0.0
     shutil.rmtree(folder, ignore_errors=True)
     kept = folder / "kept"
     try:
@@ -145,14 +148,15 @@ def tried(prover, name, edit):
         make(edit, folder)
         # The prover writes each file of what it keeps anew, so that links serve as a copy.
         shutil.copytree(TARGET / "inc" / name, kept, copy_function=os.link)
-        wrong, first = judged(prover.check(name, folder, kept, log), log.read_text(errors="replace"))
+        status, seconds = prover.check(name, folder, kept, log)
+        wrong, first = judged(status, log.read_text(errors="replace"))
         where = f"first at {first.removeprefix(str(folder) + '/')}; " if first else ""
-        said = f"{wrong or 'refused, as it must be'} ({where}{time.monotonic() - began:.1f} s)"
+        said = f"{wrong or 'refused, as it must be'} ({where}{seconds:.1f} s)"
     except BadEdit as bad:
         wrong = said = f"BAD EDIT: {bad}"
     finally:
         shutil.rmtree(folder, ignore_errors=True)
-    return wrong, f"wrong program {name}/{edit.stem}: {said}"
+    return wrong, seconds, f"wrong program {name}/{edit.stem}: {said}"
 
 
 def chosen(crates, words):
@@ -170,6 +174,14 @@ def chosen(crates, words):
     return {name: of_it for name, of_it in edits.items() if of_it}
 
 
+def costs(checked, spent):
+    """A line a crate: the seconds of its check and of its wrong programs, the dearest crate first."""
+    for name in sorted(checked, key=lambda name: -checked[name] - sum(spent[name])):
+        print(f"{name}: check {checked[name]:.0f} s, {len(spent[name])} wrong programs {sum(spent[name]):.0f} s")
+    total = sum(checked.values()), sum(map(sum, spent.values()))
+    print(f"processor time: checks {total[0] / 60:.1f} min, wrong programs {total[1] / 60:.1f} min")
+
+
 def main():
     words = argparse.ArgumentParser(description=__doc__, formatter_class=argparse.RawDescriptionHelpFormatter)
     words.add_argument("--jobs", type=int, default=int(os.environ.get("RT_JOBS") or os.cpu_count() or 1))
@@ -179,24 +191,26 @@ def main():
     edits = chosen(crates, given.names)
     prover = Prover(crates)
     failed = []
-    refused = 0
+    spent = {name: [] for name in edits}
     with ThreadPoolExecutor(given.jobs) as pool:
         stands = dict(zip(edits, pool.map(lambda name: warm(prover, name), edits)))
-        for name in edits:
-            if not stands[name]:
+        for name, (proved, _) in stands.items():
+            if not proved:
                 print(f"{name} is not proved as it stands: see target/wrong/{name}.log")
                 failed.append(name)
-        runs = [pool.submit(tried, prover, name, edit) for name in edits if stands[name] for edit in edits[name]]
+        runs = {pool.submit(tried, prover, name, edit): (name, edit)
+                for name in edits if stands[name][0] for edit in edits[name]}
         for run in as_completed(runs):
-            wrong, said = run.result()
+            name, edit = runs[run]
+            wrong, seconds, said = run.result()
             print(said, flush=True)
+            spent[name].append(seconds)
             if wrong:
-                failed.append(said.split(":")[0].removeprefix("wrong program "))
-            else:
-                refused += 1
+                failed.append(f"{name}/{edit.stem}")
+    costs({name: seconds for name, (_, seconds) in stands.items()}, spent)
     for name in failed:
         print(f"failed: {name}")
-    print(f"{refused} wrong programs refused, {len(failed)} failed")
+    print(f"{len(runs) - sum('/' in name for name in failed)} wrong programs refused, {len(failed)} failed")
     return 1 if failed else 0
 
 
