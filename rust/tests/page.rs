@@ -70,6 +70,8 @@ fn edits_before_and_after() {
     let page = page(&["--preview", "c - d", "c * d", "-"], &sheet, 0);
     assert!(page.contains("goes: the pair round node 5, `c - d`, at columns 10 and 16 before"));
     assert_eq!(page.matches("class=\"pair goes\"").count(), 2);
+    // Only the pairs of the text after it can be chosen.
+    assert_eq!(page.matches("data-pair=\"0\"").count(), 2);
     assert!(page.contains("<title>a - (b - c * d)</title>"));
     let message = sheet_message(&["page", "--preview", "9", "x", "-"], &sheet);
     assert!(message.starts_with("sheet: refused (17) at node 9 of 7"), "{message}");
@@ -79,6 +81,45 @@ fn sheet_message(arguments: &[&str], input: &[u8]) -> String {
     let output = sheet(arguments, input);
     assert_ne!(output.status.code(), Some(0));
     String::from_utf8(output.stderr).expect("text")
+}
+
+#[test]
+fn drafts() {
+    let page_of = |text: &str| page(&["--draft", text], b"", 0);
+    let page = page_of("(offset {+|-} lead) {-|*} (station - start)");
+    assert!(page.contains("<title>(offset {+|-} lead) {-|*} (station - start)</title>"));
+    assert!(page.contains("<h1>A draft of 7 nodes</h1>"));
+    for (at, class, node) in [(0, "pair depends", 2), (1, "pair", 5)] {
+        let open = format!("class=\"{class}\" data-pair=\"{at}\" data-node=\"{node}\"");
+        assert_eq!(page.matches(&open).count(), 1, "{open}");
+        let close = format!("<span class=\"{class}\" data-pair=\"{at}\">)</span>");
+        assert_eq!(page.matches(&close).count(), 1, "{close}");
+    }
+    assert_eq!(page.matches("<span class=\"open\">{+|-}</span>").count(), 1);
+    for line in [
+        "(offset {+|-} lead) depends on what is chosen",
+        "with `+`, `*` it stands; without it: offset + lead * (station - start), which reads \
+         offset + (lead * (station - start))",
+        "with `+`, `-` it is not needed: offset + lead - (station - start)",
+        "(station - start) stands, whatever is chosen",
+        "with `+`, `-`, without it: offset + lead - station - start, which reads \
+         (offset + lead - station) - start",
+    ] {
+        assert_eq!(page.matches(&format!("<p class=\"text\">{line}</p>")).count(), 1, "{line}");
+    }
+    // The nodes of open operators and of pairs.
+    assert!(page.contains("<title>node 1, Binary `{-|*}`</title>"));
+    assert!(page.contains("<g id=\"node-2\" class=\"node depends\"><title>node 2, Binary `{+|-}`"));
+    assert!(page.contains("<g id=\"node-5\" class=\"node paired\">"));
+    assert!(page_of("a {+|-} b").contains("No pair is needed, whatever is chosen."));
+    assert!(page_of("a {+|-} (b - c)").contains("No pair depends on what is chosen."));
+    // A struct that depends, in a condition; the draft comes from standard input.
+    let condition = sheet(&["page", "--draft", "--condition"], b"(a {<|+} b) {+|==} (S { .. })");
+    let condition = String::from_utf8(condition.stdout).expect("text");
+    assert!(condition.contains("<h1>A draft of 5 nodes, as a condition</h1>"));
+    assert_eq!(condition.matches("<button ").count(), 2);
+    let message = sheet_message(&["page", "--draft", "a + b {+|*} c"], b"");
+    assert!(message.contains("what is read depends on the operator, `+` or `*`"), "{message}");
 }
 
 #[test]
@@ -92,7 +133,13 @@ fn refused_files() {
 
 #[test]
 fn usage() {
-    for wrong in [&["page"][..], &["page", "--names", "n"], &["page", "--preview", "1", "a"]] {
+    for wrong in [
+        &["page"][..],
+        &["page", "--names", "n"],
+        &["page", "--preview", "1", "a"],
+        &["page", "--draft", "a", "b"],
+        &["page", "--names", "n", "--draft", "a"],
+    ] {
         assert!(sheet_message(wrong, b"").starts_with("sheet: where"), "{wrong:?}");
     }
 }

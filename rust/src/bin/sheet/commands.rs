@@ -27,7 +27,10 @@ pub fn run(arguments: &[OsString]) -> Result<Answer, Answer> {
         Some("read") => return read_by(rest),
         Some("pack") => return pack::rearranged(Kind::Tree, rest),
         Some("unpack") => return pack::rearranged(Kind::Columns, rest),
-        Some("draft") => return draft_by(rest),
+        Some("draft") => {
+            let (context, text) = draft_text(rest)?;
+            return draft::draft(context, &text);
+        }
         Some("page") => return page::page(rest),
         _ => {}
     }
@@ -81,15 +84,15 @@ fn read_by(arguments: &[OsString]) -> Result<Answer, Answer> {
     }
 }
 
-/// A draft with the option of `draft`.
-fn draft_by(arguments: &[OsString]) -> Result<Answer, Answer> {
+/// The context and the text of a draft, by the option of `draft`.
+pub fn draft_text(arguments: &[OsString]) -> Result<(u16, String), Answer> {
     let (context, rest) = match arguments {
         [option, rest @ ..] if option == "--condition" => (contexts::CONDITION, rest),
         _ => (contexts::NONE, arguments),
     };
     match rest {
-        [] => draft::draft(context, &text_from(std::io::stdin())?),
-        [text] if text != "--condition" => draft::draft(context, &utf8(text.as_encoded_bytes())?),
+        [] => Ok((context, text_from(std::io::stdin())?)),
+        [text] if text != "--condition" => Ok((context, utf8(text.as_encoded_bytes())?)),
         _ => Err(Answer::usage()),
     }
 }

@@ -2,6 +2,7 @@
 //! yet.
 
 use crate::answer::{words, Answer};
+use crate::braced::Braced;
 use crate::commands::expression;
 use crate::edits::marks;
 use crate::locate::pointed;
@@ -22,12 +23,7 @@ const MARK: char = '?';
 /// The expression with the pairs that always stand and, marked, those that depend, and for each
 /// of these one choice with it and one without.
 pub fn draft(context: u16, text: &str) -> Result<Answer, Answer> {
-    let braces = braces(text)?;
-    let mut table = Table::default();
-    let draft = Draft::read(context, text, &braces, &mut table)?;
-    let told = draft.tree.with_open(&draft.open);
-    let told = told.map_err(|refusal| Answer::refused(words(refusal, "")))?;
-    let shown = Shown::new(&draft, &told, &Names::new(&table.lines()));
+    let shown = Shown::read(context, text)?;
     Ok(Answer::done(shown.lines(is_coloured()).join("\n") + "\n"))
 }
 
@@ -256,58 +252,46 @@ fn spelled(ops: &Ops) -> String {
 }
 
 /// A draft as it is shown.
-struct Shown<'a> {
-    draft: &'a Draft,
-    /// With the first operators in place of braces, and all pairs that stand or may stand.
-    text: Text,
-    /// Where the operators stand there, with what stands for them, in order.
-    operators: Vec<(Range<usize>, String)>,
+pub struct Shown {
+    draft: Draft,
+    pub names: Names,
+    /// With all pairs that stand or may stand.
+    pub braced: Braced,
     /// The pairs that depend, by where they open.
-    depends: Vec<Pair>,
+    pub depends: Vec<Pair>,
 }
 
-impl Shown<'_> {
-    fn new<'a>(draft: &'a Draft, told: &[Told], names: &Names) -> Shown<'a> {
+impl Shown {
+    pub fn read(context: u16, text: &str) -> Result<Shown, Answer> {
+        let mut table = Table::default();
+        let draft = Draft::read(context, text, &braces(text)?, &mut table)?;
+        let told = draft.tree.with_open(&draft.open);
+        let told = told.map_err(|refusal| Answer::refused(words(refusal, "")))?;
+        Ok(Shown::new(draft, &told, Names::new(&table.lines())))
+    }
+
+    fn new(draft: Draft, told: &[Told], names: Names) -> Shown {
         let mut rows = draft.tree.rows();
         for (row, told) in rows.iter_mut().zip(told) {
             row.pair = row.pair & !1 | u16::from(*told != Told::Never);
         }
-        let text = Text::new(&draft.tree, &rows, names);
+        let text = Text::new(&draft.tree, &rows, &names);
         let is_told = |pair: &&Pair| told[usize::from(pair.node) - 1] == Told::Depends;
         let depends = text.pairs().iter().filter(is_told).copied().collect();
-        let operator = |(node, ops): &(u16, Ops)| {
-            let node = draft.tree.node(*node).unwrap_or_default();
-            let pair = text.pairs().iter().find(|pair| pair.node == node.first);
-            let end = pair.map_or(text.span(node.first).end, |pair| pair.close + 1);
-            // One blank stands on each side.
-            let length = model::codes::SPELLED[usize::from(node.detail)].len();
-            (end + 1..end + 1 + length, spelled(ops))
-        };
-        let mut operators: Vec<_> = draft.open.iter().map(operator).collect();
-        operators.sort_by_key(|(at, _)| at.start);
-        Shown { draft, text, operators, depends }
+        let open = draft.open.iter().map(|(node, ops)| (*node, spelled(ops)));
+        let braced = Braced::new(&draft.tree, text, open);
+        Shown { draft, names, braced, depends }
     }
 
-    /// A part of the text with braces for the operators that are open.
-    fn with_braces(&self, part: Range<usize>) -> String {
-        let (mut text, mut done) = (String::new(), part.start);
-        for (at, braces) in self.operators.iter().filter(|(at, _)| part.contains(&at.start)) {
-            text.push_str(&self.text.as_str()[done..at.start]);
-            text.push_str(braces);
-            done = at.end;
-        }
-        text + &self.text.as_str()[done..part.end]
-    }
-
-    /// Where a byte of the text stands once braces stand for operators.
-    fn moved(&self, at: usize) -> usize {
-        self.with_braces(0..at).len()
+    /// The tree with the first operator of each set.
+    pub fn tree(&self) -> &Tree {
+        &self.draft.tree
     }
 
     fn lines(&self, colour: bool) -> Vec<String> {
-        let text = self.with_braces(0..self.text.as_str().len());
+        let text = self.braced.whole();
         let places: Vec<usize> =
-            parentheses(&self.depends).into_iter().map(|at| self.moved(at)).collect();
+            parentheses(&self.depends).into_iter().map(|at| self.braced.moved(at)).collect();
         let mut lines = match colour {
             true => vec![coloured(&text, places, DEPENDS)],
             false if places.is_empty() => vec![text],
@@ -322,16 +306,19 @@ impl Shown<'_> {
 
     /// A pair that depends, with a choice that gives it and one that does not.
     fn told(&self, pair: &Pair) -> String {
-        let own = self.with_braces(self.text.span(pair.node));
-        let choice = |stands: bool| {
-            let has_pair = |tree: &Tree| tree.rows()[usize::from(pair.node) - 1].has_outer_pair();
-            let found = self.draft.read.iter().find(|(_, tree)| has_pair(tree) == stands);
-            let choice = found.map_or(&[][..], |(choice, _)| choice);
-            choice.iter().map(|op| format!("`{}`", op.spelled())).collect::<Vec<_>>().join(", ")
-        };
-        let [with, without] = [true, false].map(choice);
-        let node = pair.node;
+        let (node, own) = (pair.node, self.braced.of(pair.node));
+        let [with, without] =
+            [true, false].map(|stands| self.chosen(pair, stands).map_or(String::new(), |c| c.0));
         format!("depends: the pair round node {node}, `{own}`; with {with} it stands, with {without} not")
+    }
+
+    /// A choice with which a pair stands, or one with which it does not, in words, and the tree
+    /// with it.
+    pub fn chosen(&self, pair: &Pair, stands: bool) -> Option<(String, &Tree)> {
+        let has_pair = |tree: &Tree| tree.rows()[usize::from(pair.node) - 1].has_outer_pair();
+        let (choice, tree) = self.draft.read.iter().find(|(_, tree)| has_pair(tree) == stands)?;
+        let ops: Vec<String> = choice.iter().map(|op| format!("`{}`", op.spelled())).collect();
+        Some((ops.join(", "), tree))
     }
 }
 

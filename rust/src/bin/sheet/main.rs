@@ -2,6 +2,7 @@
 
 mod answer;
 mod blame;
+mod braced;
 mod commands;
 mod count;
 mod doubles;
@@ -40,6 +41,10 @@ sheet: where a printed Rust expression needs parentheses
                                      the text with its pairs, for each what it prevents,
                                      and the tree; with --preview before and after that
                                      edit; for a refused file what is wrong
+  sheet page --draft [--condition] [TEXT]
+                                     the same of a draft, as `sheet draft` takes it: the
+                                     pairs that stand whatever is chosen, and those that
+                                     depend on it
   sheet rows FILE                    the row of each expression: node, pair,
                                      precedence, previous and next operator, flags
   sheet tokens FILE                  the tokens of a plain tree: codes, symbols, words

@@ -4,7 +4,9 @@ mod drawing;
 mod markup;
 
 use crate::answer::{words, Answer};
-use crate::commands::{names_text, tree_bytes};
+use crate::braced::Braced;
+use crate::commands::{draft_text, names_text, tree_bytes};
+use crate::draft::Shown;
 use crate::kind::Kind;
 use crate::{blame, edits, why};
 use markup::{escaped, expression, Mark};
@@ -23,8 +25,12 @@ struct Asked<'a> {
     preview: Option<[&'a OsStr; 2]>,
 }
 
-/// The page of a file, or of an edit of it.
+/// The page of a file, of an edit of it, or of a draft.
 pub fn page(arguments: &[OsString]) -> Result<Answer, Answer> {
+    if let Some((_, rest)) = arguments.split_first().filter(|(option, _)| *option == "--draft") {
+        let (context, text) = draft_text(rest)?;
+        return Ok(Answer::done(of_draft(&Shown::read(context, &text)?)));
+    }
     let (mut asked, mut rest) = (Asked::default(), arguments);
     loop {
         rest = match (rest, &asked) {
@@ -77,10 +83,9 @@ fn whole(title: &str, body: &str) -> String {
 }
 
 fn of_tree(tree: &Tree, names: &Names) -> String {
-    let text = Text::new(tree, &tree.rows(), names);
-    let added = |_: &Pair| Mark::Added;
-    let body = format!("<h1>A sheet of {}</h1>\n{}", size(tree), seen(tree, &text, names, added));
-    whole(text.as_str(), &body)
+    let shown = Text::new(tree, &tree.rows(), names).into();
+    let sheet = seen(tree, &shown, names, |_| Mark::Added);
+    whole(&shown.whole(), &format!("<h1>A sheet of {}</h1>\n{sheet}", size(tree)))
 }
 
 fn size(tree: &Tree) -> String {
@@ -92,37 +97,107 @@ fn size(tree: &Tree) -> String {
     }
 }
 
+/// How a pair is chosen.
+const CHOOSE: &str = "Choose one, by a click or with Tab and Enter, to see what it prevents.";
+
 /// The text with its pairs, what is said of each, and the tree.
-fn seen(tree: &Tree, text: &Text, names: &Names, mark: impl Fn(&Pair) -> Mark) -> String {
-    let hint = match text.pairs().len() {
-        0 => "No pair was added: none is needed.",
-        _ => "Each marked parenthesis was added. Choose one, by a click or with Tab and Enter, to see what it prevents.",
+fn seen(tree: &Tree, shown: &Braced, names: &Names, mark: impl Fn(&Pair) -> Mark) -> String {
+    let hint = match shown.text.pairs() {
+        [] => "No pair was added: none is needed.".to_string(),
+        _ => format!("Each marked parenthesis was added. {CHOOSE}"),
+    };
+    let told = why::told(tree, names.clone());
+    let reasons = shown.text.pairs().iter().map(|pair| said(&told, pair)).collect();
+    parts(tree, shown, mark, &hint, reasons)
+}
+
+/// What is said of a pair, and behind it who asks for it.
+fn said(told: &[why::Told], pair: &Pair) -> Reason {
+    let is_it = |told: &&why::Told| (told.node, told.is_inner) == (pair.node, pair.is_inner);
+    let said = told.iter().find(is_it).map_or("", |told| &told.said);
+    let (first, behind) = said.split_once("\n  ").unwrap_or((said, ""));
+    Reason { lines: vec![first.to_string()], behind: behind.to_string() }
+}
+
+/// What is shown where a pair is chosen.
+#[derive(Default)]
+struct Reason {
+    lines: Vec<String>,
+    behind: String,
+}
+
+/// The text, a hint below it, the reason of each pair in the order of the text, and the tree.
+fn parts(
+    tree: &Tree,
+    shown: &Braced,
+    mark: impl Fn(&Pair) -> Mark,
+    hint: &str,
+    reasons: Vec<Reason>,
+) -> String {
+    let reason = |(at, reason): (usize, &Reason)| {
+        let line = |line: &String| format!("<p class=\"text\">{}</p>\n", escaped(line));
+        format!(
+            "<div class=\"reason\" id=\"reason-{at}\" hidden>\n{}<p class=\"soft\">{}</p>\n</div>\n",
+            reason.lines.iter().map(line).collect::<String>(),
+            escaped(&reason.behind)
+        )
     };
     format!(
         "<p class=\"expression\">{}</p>\n<p class=\"soft hint\">{hint}</p>\n\
          <section id=\"reasons\" aria-live=\"polite\">\n{}</section>\n\
          <h2>The tree</h2>\n<div class=\"drawing\" tabindex=\"0\">\n{}</div>\n",
-        expression(text, mark, true),
-        reasons(tree, text, names),
-        drawing::svg(tree, text),
+        expression(shown, &mark, true),
+        reasons.iter().enumerate().map(reason).collect::<String>(),
+        drawing::svg(tree, shown, &mark),
     )
 }
 
-/// What is said of each pair, in the order of the text.
-fn reasons(tree: &Tree, text: &Text, names: &Names) -> String {
-    let told = why::told(tree, names.clone());
-    let reason = |(at, pair): (usize, &Pair)| {
-        let is_it = |told: &&why::Told| (told.node, told.is_inner) == (pair.node, pair.is_inner);
-        let said = told.iter().find(is_it).map_or("", |told| &told.said);
-        let (first, behind) = said.split_once("\n  ").unwrap_or((said, ""));
-        format!(
-            "<div class=\"reason\" id=\"reason-{at}\" hidden>\n<p class=\"text\">{}</p>\n\
-             <p class=\"soft\">{}</p>\n</div>\n",
-            escaped(first),
-            escaped(behind)
-        )
+/// What the marks of a draft say.
+const LEGEND: &str = "<p class=\"soft legend\"><span><span class=\"open\">{ }</span> an operator \
+    that is not chosen yet</span> <span><span class=\"pair\">( )</span> stands, whatever is \
+    chosen</span> <span><span class=\"pair depends\">( )</span> depends on what is \
+    chosen</span></p>\n";
+
+/// A draft: the pairs that stand whatever is chosen, and those that depend on it.
+fn of_draft(draft: &Shown) -> String {
+    let depends = |pair: &Pair| draft.depends.contains(pair);
+    let mark = |pair: &Pair| if depends(pair) { Mark::Depends } else { Mark::Added };
+    let shown = &draft.braced;
+    let hint = match (shown.text.pairs(), &draft.depends[..]) {
+        ([], _) => "No pair is needed, whatever is chosen.".to_string(),
+        (_, []) => format!("No pair depends on what is chosen. {CHOOSE}"),
+        (_, [_]) => format!("One pair depends on what is chosen. {CHOOSE}"),
+        (_, pairs) => format!("{} pairs depend on what is chosen. {CHOOSE}", pairs.len()),
     };
-    text.pairs().iter().enumerate().map(reason).collect()
+    let reason = |pair: &Pair| draft_reason(draft, pair, depends(pair));
+    let reasons = shown.text.pairs().iter().map(reason).collect();
+    let body = parts(draft.tree(), shown, mark, &hint, reasons);
+    let size = size(draft.tree());
+    whole(&shown.whole(), &format!("<h1>A draft of {size}</h1>\n{LEGEND}{body}"))
+}
+
+/// With which choice a pair stands, and what it prevents then; with which it does not, and what
+/// is written then.
+fn draft_reason(draft: &Shown, pair: &Pair, depends: bool) -> Reason {
+    let Some((with, tree)) = draft.chosen(pair, true) else {
+        return Reason::default();
+    };
+    let mut reason = said(&why::told(tree, draft.names.clone()), pair);
+    let text = |tree: &Tree| Text::new(tree, &tree.rows(), &draft.names);
+    let own = format!("({}): ", text(tree).of(pair.node));
+    let [stands, with] = match (depends, &with[..]) {
+        (true, _) => ["depends on what is chosen", &format!("with {with} it stands; ")],
+        (false, "") => ["stands", ""],
+        (false, _) => ["stands, whatever is chosen", &format!("with {with}, ")],
+    };
+    for line in &mut reason.lines {
+        *line = format!("{with}{}", line.strip_prefix(&own).unwrap_or(line));
+    }
+    reason.lines.insert(0, format!("({}) {stands}", draft.braced.of(pair.node)));
+    if let Some((without, tree)) = draft.chosen(pair, false) {
+        reason.lines.push(format!("with {without} it is not needed: {}", text(tree)));
+    }
+    reason
 }
 
 /// A sheet before and after an edit.
@@ -138,8 +213,8 @@ fn of_edit(edit: &edits::Seen) -> String {
     let body = format!(
         "<h1>An edit, before and after</h1>\n<h2>Before</h2>\n<p class=\"expression\">{}</p>\n\
          <h2>After</h2>\n{lines}{}",
-        expression(before, goes, false),
-        seen(tree, after, names, comes),
+        expression(&before.clone().into(), goes, false),
+        seen(tree, &after.clone().into(), names, comes),
     );
     whole(after.as_str(), &body)
 }

@@ -1,11 +1,13 @@
 //! A tree as a drawing: owners above their operands, the items of a list below the owner.
 
-use super::markup::escaped;
+use super::markup::{escaped, Mark};
+use crate::braced::Braced;
 use crate::words;
+use std::collections::HashMap;
 use std::fmt::Write;
 use tezhukor::forms::*;
-use tezhukor::text::Text;
-use tezhukor::{Node, Row, Tree};
+use tezhukor::text::Pair;
+use tezhukor::{Node, Tree};
 
 /// Of a character, of a node, and between nodes and levels, in pixels.
 const CHARACTER: usize = 8;
@@ -16,11 +18,12 @@ const LEVEL: usize = 56;
 /// A label with more characters is cut.
 const LONGEST: usize = 24;
 
-/// The drawing.
-pub fn svg(tree: &Tree, text: &Text) -> String {
+/// The drawing, with the nodes that have pairs as these are marked.
+pub fn svg(tree: &Tree, shown: &Braced, mark: impl Fn(&Pair) -> Mark) -> String {
     let widths = vec![0; usize::from(tree.count()) + 1];
     let (lines, nodes) = (String::new(), String::new());
-    let mut drawing = Drawing { tree, text, rows: tree.rows(), widths, lines, nodes, levels: 0 };
+    let marks = shown.text.pairs().iter().map(|pair| (pair.node, mark(pair))).collect();
+    let mut drawing = Drawing { tree, shown, marks, widths, lines, nodes, levels: 0 };
     let width = drawing.measure(1) + 2 * GAP;
     drawing.place(1, GAP, 0);
     let height = LEVEL * drawing.levels + HEIGHT + 2 * GAP;
@@ -33,8 +36,9 @@ pub fn svg(tree: &Tree, text: &Text) -> String {
 
 struct Drawing<'a> {
     tree: &'a Tree,
-    text: &'a Text,
-    rows: Vec<Row>,
+    shown: &'a Braced,
+    /// By node.
+    marks: HashMap<u16, Mark>,
     /// How wide each node is with all below it.
     widths: Vec<usize>,
     lines: String,
@@ -96,9 +100,12 @@ impl Drawing<'_> {
             at += self.widths[usize::from(operand)] + GAP;
         }
         let (own, label) = (self.own_width(number), escaped(&self.label(number)));
-        let row = self.rows[usize::from(number) - 1];
-        let class = if row.pair == 0 { "node" } else { "node paired" };
-        let (x, y, title) = (middle - own / 2, top + 18, escaped(&words::form(self.node(number))));
+        let class = match self.marks.get(&number) {
+            None => "node",
+            Some(Mark::Depends) => "node depends",
+            Some(_) => "node paired",
+        };
+        let (x, y, title) = (middle - own / 2, top + 18, escaped(&self.form(number)));
         let _ = writeln!(
             self.nodes,
             "<g id=\"node-{number}\" class=\"{class}\"><title>node {number}, {title}</title>\
@@ -108,17 +115,29 @@ impl Drawing<'_> {
         middle
     }
 
+    /// A node's form, with its operator or the braces that stand for it.
+    fn form(&self, number: u16) -> String {
+        match self.shown.braces(number) {
+            Some(braces) => format!("Binary `{braces}`"),
+            None => words::form(self.node(number)),
+        }
+    }
+
+    fn operator(&self, number: u16) -> String {
+        self.form(number).split('`').nth(1).unwrap_or("?").to_string()
+    }
+
     /// What is written in a node: its operator, or its name.
     fn label(&self, number: u16) -> String {
-        let node = self.node(number);
+        let (node, text) = (self.node(number), &self.shown.text);
         // What the node itself adds behind its first operand.
         let behind = || {
-            let (own, first) = (self.text.span(number), self.text.span(node.first));
-            let tail = self.text.as_str().get(first.end..own.end).unwrap_or("");
+            let (own, first) = (text.span(number), text.span(node.first));
+            let tail = text.as_str().get(first.end..own.end).unwrap_or("");
             tail.trim_start_matches([')', ' ']).to_string()
         };
         let label = match node.form {
-            BINARY | UNARY => words::form(node).split('`').nth(1).unwrap_or("?").to_string(),
+            BINARY | UNARY => self.operator(number),
             ASSIGN => "=".to_string(),
             CAST => "as".to_string(),
             CALL => "( )".to_string(),
@@ -127,8 +146,8 @@ impl Drawing<'_> {
             METHOD_CALL => behind().split('(').next().unwrap_or("").to_string() + "( )",
             REFERENCE | TYPE_REFERENCE => ["&", "&mut"][usize::from(node.detail)].to_string(),
             TYPE_PTR => ["*const", "*mut"][usize::from(node.detail)].to_string(),
-            _ if self.operands(number).is_empty() => self.text.of(number).to_string(),
-            TYPE_PATH => self.text.of(number).split('<').next().unwrap_or("").to_string() + "< >",
+            _ if self.operands(number).is_empty() => text.of(number).to_string(),
+            TYPE_PATH => text.of(number).split('<').next().unwrap_or("").to_string() + "< >",
             form => name(form).unwrap_or("?").to_string(),
         };
         match label.chars().count() <= LONGEST {
@@ -143,7 +162,7 @@ mod tests {
     use super::*;
     use model::generate::Family;
     use model::table;
-    use tezhukor::text::Names;
+    use tezhukor::text::{Names, Text};
 
     /// Each node but the links is drawn once, within the drawing, with a line to its owner,
     /// and no two overlap.
@@ -153,7 +172,7 @@ mod tests {
             let table = Family::Mixed.tree(91, index);
             let tree = Tree::load(&table::write(&table)).expect("a tree");
             let text = Text::new(&tree, &tree.rows(), &Names::default());
-            let drawn = svg(&tree, &text);
+            let drawn = svg(&tree, &text.into(), |_| Mark::Added);
             let links = (1..=tree.count()).filter(|&n| tree.node(n).unwrap().form == LINK).count();
             let nodes = usize::from(tree.count()) - links;
             assert_eq!(drawn.matches("<g id=").count(), nodes);

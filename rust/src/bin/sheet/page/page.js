@@ -14,7 +14,11 @@ function choose(pair) {
   if (!pair) return;
   const node = document.getElementById(`node-${pair.dataset.node}`);
   node?.classList.add("marked");
-  node?.scrollIntoView({ block: "nearest", inline: "nearest" });
+  // Within the drawing only: the text and the reason stay where they are.
+  const drawing = node?.closest(".drawing");
+  if (!drawing) return;
+  const [inner, outer] = [node, drawing].map((part) => part.getBoundingClientRect());
+  drawing.scrollLeft += inner.left + inner.width / 2 - outer.left - outer.width / 2;
 }
 for (const pair of pairs) {
   pair.addEventListener("click", () => choose(pair.getAttribute("aria-pressed") === "true" ? null : pair));
