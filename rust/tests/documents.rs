@@ -1,0 +1,169 @@
+//! The documents: links lead somewhere, and what they show is what the command prints.
+
+use std::path::{Path, PathBuf};
+use std::process::Command;
+
+fn root() -> PathBuf {
+    Path::new(env!("CARGO_MANIFEST_DIR")).join("..")
+}
+
+fn text(file: &Path) -> String {
+    std::fs::read_to_string(file).unwrap_or_else(|error| panic!("{}: {error}", file.display()))
+}
+
+/// The documents of the root, of docs/ and of the tools.
+fn documents() -> Vec<PathBuf> {
+    let root = root();
+    let tools = std::fs::read_dir(root.join("tools")).expect("the tools");
+    let folders = tools.map(|entry| entry.expect("a file").path()).filter(|path| path.is_dir());
+    let folders = [root.clone(), root.join("docs")].into_iter().chain(folders);
+    let files = folders.flat_map(|folder| std::fs::read_dir(folder).expect("a folder"));
+    let files = files.map(|entry| entry.expect("a file").path());
+    files.filter(|file| file.extension().is_some_and(|ending| ending == "md")).collect()
+}
+
+/// The lines of a document: those of its text, and its blocks of code.
+fn parts(document: &str) -> (Vec<&str>, Vec<Vec<&str>>) {
+    let (mut words, mut blocks, mut block) = (Vec::new(), Vec::new(), None);
+    for line in document.lines() {
+        block = match (block.take(), line.starts_with("```")) {
+            (None, true) => Some(Vec::new()),
+            (None, false) => {
+                words.push(line);
+                None
+            }
+            (Some(lines), true) => {
+                blocks.push(lines);
+                None
+            }
+            (Some(mut lines), false) => {
+                lines.push(line);
+                Some(lines)
+            }
+        };
+    }
+    (words, blocks)
+}
+
+/// A heading as links name it.
+fn anchor(heading: &str) -> String {
+    let kept = heading.trim_start_matches('#').trim().chars();
+    let kept = kept.filter(|c| c.is_alphanumeric() || " -_".contains(*c));
+    kept.collect::<String>().to_lowercase().replace(' ', "-")
+}
+
+/// Where the links of a line lead.
+fn links(line: &str) -> impl Iterator<Item = &str> {
+    line.split("](").skip(1).filter_map(|behind| behind.split(')').next())
+}
+
+#[test]
+fn links_lead_somewhere() {
+    let mut count = 0;
+    for file in documents() {
+        let document = text(&file);
+        for link in parts(&document).0.into_iter().flat_map(links) {
+            let (path, place) = link.split_once('#').unwrap_or((link, ""));
+            let named = match path {
+                "" => file.clone(),
+                _ => file.parent().expect("a folder").join(path),
+            };
+            assert!(named.exists(), "{}: {link}", file.display());
+            let is_there = |other: &str| {
+                parts(other).0.iter().any(|line| line.starts_with('#') && anchor(line) == place)
+            };
+            assert!(place.is_empty() || is_there(&text(&named)), "{}: {link}", file.display());
+            count += 1;
+        }
+    }
+    assert!(count > 30, "{count} links");
+}
+
+/// It is read in five minutes.
+#[test]
+fn a_front_page() {
+    let lines = text(&root().join("README.md")).lines().count();
+    assert!(lines <= 130, "README.md has {lines} lines");
+}
+
+/// Each `$ ` line of a document with what it shows below it.
+fn transcript(document: &str) -> Vec<(String, String)> {
+    let mut shown: Vec<(String, String)> = Vec::new();
+    for block in parts(document).1 {
+        if !block.first().is_some_and(|line| line.starts_with("$ ")) {
+            continue;
+        }
+        for line in block {
+            match (line.strip_prefix("$ "), shown.last_mut()) {
+                (Some(command), _) => shown.push((command.to_string(), String::new())),
+                (None, Some((_, printed))) => *printed += &format!("{line}\n"),
+                (None, None) => unreachable!("a block begins with a command"),
+            }
+        }
+    }
+    shown
+}
+
+/// Runs what a document shows, in a folder with some files, and holds what is printed to it.
+fn runs_as_shown(document: &str, files: &[(&str, &[u8])]) {
+    let name = document.replace(['/', '.'], "-");
+    let folder = Path::new(env!("CARGO_TARGET_TMPDIR")).join(name);
+    let _ = std::fs::remove_dir_all(&folder);
+    for (name, bytes) in files {
+        let file = folder.join(name);
+        std::fs::create_dir_all(file.parent().expect("a folder")).expect("a folder");
+        std::fs::write(file, bytes).expect("a file");
+    }
+    std::fs::create_dir_all(&folder).expect("a folder");
+    let sheet = Path::new(env!("CARGO_BIN_EXE_sheet")).parent().expect("a folder");
+    let path = format!("{}:{}", sheet.display(), std::env::var("PATH").unwrap_or_default());
+    let shown = transcript(&text(&root().join(document)));
+    assert!(!shown.is_empty());
+    for (command, meant) in shown {
+        let together = format!("{{ {command}\n}} 2>&1");
+        let output = Command::new("sh")
+            .args(["-c", &together])
+            .current_dir(&folder)
+            .env("PATH", &path)
+            .output()
+            .expect("a shell");
+        let printed = String::from_utf8_lossy(&output.stdout);
+        assert_eq!(printed.trim_end(), meant.trim_end(), "{document}: $ {command}");
+    }
+}
+
+#[test]
+fn the_front_page_runs_as_shown() {
+    runs_as_shown("README.md", &[]);
+}
+
+#[test]
+fn the_examples_of_sheet_run_as_shown() {
+    // Node 2 owns itself.
+    let bad = [0, 2, 33, 0, 0, 2, 0, 0, 33, 0, 0, 2, 0, 0];
+    let below_zero = [0, 1, 1, 0, 0, 0, 0, 0];
+    // Calls of `#[..] a.0` and of `a.b` in a group.
+    let name = [26, 0, 0, 0, 0, 1];
+    let attribute = [&[0, 3, 8, 0, 0, 2, 0, 0, 13, 2, 1, 3, 0, 2][..], &name].concat();
+    let group =
+        [&[0, 4, 8, 0, 0, 2, 0, 0, 15, 0, 0, 3, 0, 0, 13, 0, 0, 4, 0, 2][..], &name].concat();
+    // a + b with its nodes numbered in two ways, and b + a.
+    let other = [26, 0, 0, 0, 0, 2];
+    let sum = [&[0, 3, 5, 0, 0, 2, 3, 0][..], &name, &other].concat();
+    let turned = [&[0, 3, 5, 0, 0, 3, 2, 0][..], &other, &name].concat();
+    let back = [&[0, 3, 5, 0, 0, 2, 3, 0][..], &other, &name].concat();
+    runs_as_shown(
+        "docs/SHEET.md",
+        &[
+            ("bad.tree", &bad),
+            ("bad.columns", &below_zero),
+            ("attribute.tree", &attribute),
+            ("group.tree", &group),
+            ("turned.tree", &turned),
+            ("archive/a.tree", &sum),
+            ("archive/b.tree", &turned),
+            ("archive/c.tree", &back),
+            ("archive/sub/d.tree", &back),
+        ],
+    );
+}
