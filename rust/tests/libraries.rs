@@ -14,6 +14,8 @@ echo 'rt: bools proved (unchanged since it was last proved)'
 echo 'rt: laws proved (4 s)'
 if [ \"$2\" = \"${FAIL:-}\" ]; then
     echo 'it does not hold' >&2
+    echo \"rt: $2 NOT PROVED (exit 1, 5 s)\"
+    echo 'rt: program NOT PROVED: its dependency is not proved'
     exit 3
 fi
 echo \"rt: target/staticlib/lib$2.a has the functions of $2 that are marked\"
@@ -21,9 +23,9 @@ echo \"rt: target/staticlib/lib$2.a has the functions of $2 that are marked\"
 
 const CRATES: &str = "# NAME: what it depends on
 bools:
-laws: bools
 spare: laws
 answers: laws
+laws: bools
 answers_asked: answers laws io
 program: spare
 ";
@@ -97,7 +99,8 @@ fn the_end_of_the_log_is_told() {
     let output = folder.run("answers");
     assert_eq!(output.status.code(), Some(3));
     let lines = lines(&output);
-    assert_eq!(lines.last().map(String::as_str), Some("it does not hold"));
-    assert!(lines.iter().any(|line| line.ends_with("target/libraries.log ends with:")));
+    let meant = ["it does not hold", "rt: answers NOT PROVED (exit 1, 5 s)"];
+    assert_eq!(lines[lines.len() - 2..], meant);
+    assert!(lines.iter().any(|line| line.ends_with("target/libraries.log has:")));
     assert!(!lines.iter().any(|line| line.contains("answers_asked")), "{lines:?}");
 }
