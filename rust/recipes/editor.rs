@@ -3,19 +3,13 @@
 
 use std::error::Error;
 use std::io::{BufRead, Write};
-use tezhukor::text::{lexer, Names};
+use tezhukor::text::{lexer, Symbols};
 use tezhukor::{contexts, OpenSheet, Tree};
 
-/// The tree of an expression; new names are added to the lines.
-fn read(text: &str, lines: &mut Vec<String>) -> Result<Tree, Box<dyn Error>> {
-    let symbol = |word: &str| {
-        let found = lines.iter().position(|line| line == word).unwrap_or_else(|| {
-            lines.push(word.to_string());
-            lines.len() - 1
-        });
-        u16::try_from(found + 1).unwrap_or(0)
-    };
-    Ok(Tree::read(contexts::NONE, &lexer::named(text, symbol)?)?)
+/// The tree of an expression; new names get new symbols.
+fn read(text: &str, symbols: &mut Symbols) -> Result<Tree, Box<dyn Error>> {
+    let tokens = lexer::named(text, |word| symbols.symbol(word))?;
+    Ok(Tree::read(contexts::NONE, &tokens)?)
 }
 
 /// Edits a sheet until the input ends.
@@ -24,16 +18,16 @@ pub fn session(
     input: impl BufRead,
     mut output: impl Write,
 ) -> Result<(), Box<dyn Error>> {
-    let mut lines = Vec::new();
-    let mut sheet = OpenSheet::from(read(sheet, &mut lines)?);
+    let mut symbols = Symbols::default();
+    let mut sheet = OpenSheet::from(read(sheet, &mut symbols)?);
     let mut input = input.lines();
     while let Some(edit) = input.next().transpose()? {
         let (node, text) = edit.split_once(' ').ok_or("an edit is a node and an expression")?;
-        let (node, second) = (node.parse()?, read(text, &mut lines)?);
+        let (node, second) = (node.parse()?, read(text, &mut symbols)?);
         match sheet.preview(node, &second) {
             Err(refusal) => writeln!(output, "no: {refusal}")?,
             Ok(preview) => {
-                let sight = preview.sight(&Names::new(&lines.join("\n")));
+                let sight = preview.sight(&symbols.names()?);
                 let (come, go) = (sight.come.len(), sight.go.len());
                 writeln!(output, "{}\n{}\n{come} come, {go} go", sight.before, sight.after)?;
                 if input.next().transpose()?.as_deref() == Some("yes") {
@@ -42,7 +36,7 @@ pub fn session(
             }
         }
     }
-    writeln!(output, "{}", sheet.text(&Names::new(&lines.join("\n"))))?;
+    writeln!(output, "{}", sheet.text(&symbols.names()?))?;
     Ok(())
 }
 

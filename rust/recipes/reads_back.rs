@@ -19,9 +19,15 @@ pub fn reads_back(sheet: &[u8], names: &str, text: &str) -> Result<bool, Box<dyn
 }
 
 fn main() -> Result<ExitCode, Box<dyn Error>> {
-    let mut status = ExitCode::SUCCESS;
-    for name in std::env::args().skip(1) {
-        let file = |ending: &str| std::fs::read(format!("{name}.{ending}"));
+    let (mut status, sheets) = (ExitCode::SUCCESS, std::env::args().skip(1).collect::<Vec<_>>());
+    if sheets.is_empty() {
+        return Err("the names of sheets".into());
+    }
+    for name in sheets {
+        let file = |ending: &str| {
+            let file = format!("{name}.{ending}");
+            std::fs::read(&file).map_err(|error| format!("{file}: {error}"))
+        };
         let [names, text] = [file("names")?, file("rs")?].map(String::from_utf8);
         if !reads_back(&file("tree")?, &names?, &text?)? {
             eprintln!("{name}.rs is not the sheet {name}.tree");

@@ -5,15 +5,15 @@
 //!
 //! ```
 //! use tezhukor::build::{binary, path, Context, Op};
-//! use tezhukor::text::Names;
+//! use tezhukor::text::Symbols;
 //! # fn main() -> Result<(), Box<dyn std::error::Error>> {
 //!
-//! // Names are numbers in a tree: offset is symbol 1, station 2, start 3.
-//! let [offset, station, start] = [1, 2, 3].map(path);
-//! let distance = binary(Op::Sub, station, start);
-//! let tree = binary(Op::Sub, offset, distance).tree(Context::None)?;
-//! let names = Names::new("offset\nstation\nstart");
-//! assert_eq!(tree.to_rust(&names)?, "offset - (station - start)");
+//! // Names are numbers in a tree: offset gets symbol 1, station 2, start 3.
+//! let mut symbols = Symbols::default();
+//! let [offset, station, start] = ["offset", "station", "start"].map(|name| symbols.symbol(name));
+//! let distance = binary(Op::Sub, path(station), path(start));
+//! let tree = binary(Op::Sub, path(offset), distance).tree(Context::None)?;
+//! assert_eq!(tree.to_rust(&symbols.names()?)?, "offset - (station - start)");
 //! # Ok(())
 //! # }
 //! ```

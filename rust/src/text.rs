@@ -4,10 +4,12 @@ pub mod lexer;
 mod names;
 pub mod open;
 mod spelled;
+mod symbols;
 
 pub use names::{Kind, Names};
 pub use spelled::Unspelled;
 pub(crate) use spelled::{infixes, words, Spelled};
+pub use symbols::{NoSymbolLeft, Symbols};
 
 use crate::{Node, Row, Tree};
 use model::codes::SPELLED;

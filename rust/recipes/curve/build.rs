@@ -3,14 +3,16 @@
 use std::error::Error;
 use std::path::PathBuf;
 use tezhukor::build::{binary, path, Context, Op};
-use tezhukor::text::Names;
+use tezhukor::text::Symbols;
 
 fn main() -> Result<(), Box<dyn Error>> {
     println!("cargo:rerun-if-changed=build.rs");
-    let names = Names::new("offset\nstation\nstart");
-    let [offset, station, start] = [1, 2, 3].map(path);
+    let mut symbols = Symbols::default();
+    let names = ["offset", "station", "start"];
+    let [offset, station, start] = names.map(|name| path(symbols.symbol(name)));
     let distance = binary(Op::Sub, station, start);
-    let drift = binary(Op::Sub, offset, distance).tree(Context::None)?.to_rust(&names)?;
+    let tree = binary(Op::Sub, offset, distance).tree(Context::None)?;
+    let drift = tree.to_rust(&symbols.names()?)?;
     let source = format!("fn drift(offset: f64, station: f64, start: f64) -> f64 {{ {drift} }}\n");
     std::fs::write(PathBuf::from(std::env::var("OUT_DIR")?).join("curve.rs"), source)?;
     Ok(())

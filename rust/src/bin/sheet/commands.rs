@@ -2,14 +2,13 @@
 
 use crate::answer::{words, Answer};
 use crate::kind::Kind;
-use crate::names::Table;
 use crate::{blame, doubles, draft, edits, lexer, locate, pack, page, show, why, USAGE};
 use std::cmp::Ordering;
 use std::ffi::{OsStr, OsString};
 use std::fmt::Write;
 use std::io::Read;
 use tezhukor::sizes::MOST_FILE_BYTES;
-use tezhukor::text::Names;
+use tezhukor::text::{Names, Symbols};
 use tezhukor::{codes, contexts, forms, Refusal, Token, Tree};
 
 /// One byte more than a tree file may have shows that it is too long.
@@ -98,19 +97,19 @@ pub fn draft_text(arguments: &[OsString]) -> Result<(u16, String), Answer> {
 }
 
 fn read(context: u16, text: &str, names: Option<&OsStr>) -> Result<Answer, Answer> {
-    let mut table = Table::default();
-    let tree = expression(context, text, &mut table)?;
+    let mut symbols = Symbols::default();
+    let tree = expression(context, text, &mut symbols)?;
     if let Some(file) = names {
-        write_names(file, &table)?;
+        write_names(file, &symbols)?;
     }
     Ok(Answer::done(tree.to_file()))
 }
 
-/// The tree of an expression as text in a context, with the symbols of a table for its names.
-pub fn expression(context: u16, text: &str, table: &mut Table) -> Result<Tree, Answer> {
+/// The tree of an expression as text in a context, with symbols for its names.
+pub fn expression(context: u16, text: &str, symbols: &mut Symbols) -> Result<Tree, Answer> {
     let at = |at, message: &str| Answer::refused(locate::pointed(text, at, message));
     let tokens = lexer::tokens(text).map_err(|error| at(error.at, &error.message))?;
-    let named = lexer::named(text, &tokens, table);
+    let named = lexer::named(text, &tokens, symbols);
     Tree::read(context, &named).map_err(|refusal| match refusal {
         Refusal::NoReading => {
             let codes: Vec<u16> = tokens.iter().map(|token| token.code).collect();
@@ -125,8 +124,8 @@ pub fn expression(context: u16, text: &str, table: &mut Table) -> Result<Tree, A
 }
 
 /// Writes a names file.
-pub fn write_names(file: &OsStr, table: &Table) -> Result<(), Answer> {
-    std::fs::write(file, table.lines()).map_err(|error| unreadable(file, &error))
+pub fn write_names(file: &OsStr, symbols: &Symbols) -> Result<(), Answer> {
+    std::fs::write(file, symbols.lines()).map_err(|error| unreadable(file, &error))
 }
 
 /// The text, and if that is asked how many pairs were added.

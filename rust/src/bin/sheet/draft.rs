@@ -6,14 +6,13 @@ use crate::braced::Braced;
 use crate::commands::expression;
 use crate::edits::marks;
 use crate::locate::pointed;
-use crate::names::Table;
 use crate::show::{coloured, is_coloured, parentheses};
 use model::open::each_with_each;
 use std::ops::Range;
 use tezhukor::build::Op;
 use tezhukor::forms::BINARY;
 use tezhukor::sizes::{MOST_ENTRIES, NODE_CELLS};
-use tezhukor::text::{Names, Pair, Text};
+use tezhukor::text::{Names, Pair, Symbols, Text};
 use tezhukor::{Answer as Told, Ops, Refusal, Tree};
 
 /// Pairs that depend are bold and cyan, or marked below without colour.
@@ -52,11 +51,11 @@ impl Draft {
         context: u16,
         text: &str,
         braces: &[Braces],
-        table: &mut Table,
+        symbols: &mut Symbols,
     ) -> Result<Draft, Answer> {
         let sets: Vec<Vec<Op>> = braces.iter().map(|braces| kinds(&braces.ops)).collect();
         let mut read =
-            |choice: &Choice| expression(context, &with_operators(text, braces, choice), table);
+            |choice: &Choice| expression(context, &with_operators(text, braces, choice), symbols);
         let first: Choice = sets.iter().map(|set| set[0]).collect();
         let tree = read(&first)?;
         let is_open = |at: &usize| braces[*at].ops.iter().nth(1).is_some();
@@ -263,11 +262,12 @@ pub struct Shown {
 
 impl Shown {
     pub fn read(context: u16, text: &str) -> Result<Shown, Answer> {
-        let mut table = Table::default();
-        let draft = Draft::read(context, text, &braces(text)?, &mut table)?;
+        let mut symbols = Symbols::default();
+        let draft = Draft::read(context, text, &braces(text)?, &mut symbols)?;
         let told = draft.tree.with_open(&draft.open);
         let told = told.map_err(|refusal| Answer::refused(words(refusal, "")))?;
-        Ok(Shown::new(draft, &told, Names::new(&table.lines())))
+        let names = symbols.names().map_err(|full| Answer::refused(full.to_string()))?;
+        Ok(Shown::new(draft, &told, names))
     }
 
     fn new(draft: Draft, told: &[Told], names: Names) -> Shown {

@@ -2,14 +2,13 @@
 
 use crate::answer::{words, Answer};
 use crate::commands::{expression, load, names_text, utf8, write_names};
-use crate::names::Table;
 use crate::show::{self, coloured, parentheses};
 use crate::words;
 use model::verdict::longest_path;
 use std::ffi::OsStr;
 use tezhukor::forms::{BLOCK, CLOSURE, LINK, YIELD};
 use tezhukor::sizes::MOST_NODES;
-use tezhukor::text::{Names, Pair, Text};
+use tezhukor::text::{Names, Pair, Symbols, Text};
 use tezhukor::{contexts, OpenSheet, Refusal, Sight, Tree};
 
 /// The file with an expression in place of what stands at a node.
@@ -23,7 +22,7 @@ pub fn edit(
     let edited = asked.sheet.edit(asked.node, &asked.second);
     edited.map_err(|refusal| asked.refused(refusal))?;
     if let Some(file) = names.filter(|_| asked.has_new_names) {
-        write_names(file, &asked.table)?;
+        write_names(file, &asked.symbols)?;
     }
     Ok(Answer::done(asked.sheet.tree().to_file()))
 }
@@ -60,9 +59,8 @@ pub fn seen_by(
     let asked = Asked::new(file, node, text, names)?;
     let preview = asked.sheet.preview(asked.node, &asked.second);
     let preview = preview.map_err(|refusal| asked.refused(refusal))?;
-    let names = Names::new(&asked.table.lines());
-    let sight = preview.sight(&names);
-    Ok(Seen { tree: preview.tree().clone(), names, sight })
+    let sight = preview.sight(&asked.names);
+    Ok(Seen { tree: preview.tree().clone(), sight, names: asked.names })
 }
 
 /// An edit as it is seen. Without colour a line below each text marks the pairs.
@@ -120,7 +118,8 @@ struct Asked {
     sheet: OpenSheet,
     node: u16,
     second: Tree,
-    table: Table,
+    symbols: Symbols,
+    names: Names,
     has_new_names: bool,
 }
 
@@ -134,16 +133,16 @@ impl Asked {
         let tree = load(file)?;
         let lines = names_text(names)?;
         let (node, text) = (utf8(node.as_encoded_bytes())?, utf8(text.as_encoded_bytes())?);
-        let mut table = Table::of(&lines, &tree);
-        let known = table.len();
-        let second = expression(contexts::NONE, &text, &mut table)?;
-        if table.is_full() {
-            return Err(Answer::refused("no symbol is left for a new name".to_string()));
-        }
-        let has_new_names = table.len() > known;
+        let mut symbols = Symbols::of(&lines, &tree);
+        let known = symbols.count();
+        let second = expression(contexts::NONE, &text, &mut symbols)?;
+        let names = symbols.names();
+        let names =
+            names.map_err(|_| Answer::refused("no symbol is left for a new name".into()))?;
+        let has_new_names = symbols.count() > known;
         let shown = Text::new(&tree, &tree.rows(), &Names::new(&lines));
         let node = named(&node, &tree, &shown)?;
-        Ok(Asked { sheet: tree.into(), node, second, table, has_new_names })
+        Ok(Asked { sheet: tree.into(), node, second, symbols, names, has_new_names })
     }
 
     /// The refusal with the node and the reason. It is the library's; this only looks for

@@ -1,15 +1,15 @@
-//! Tokens of a text, with the symbols of a table.
+//! Tokens of a text, with symbols.
 
-use crate::names::Table;
 use tezhukor::codes::has_symbol;
 pub use tezhukor::text::lexer::tokens;
 use tezhukor::text::lexer::Lexed;
+use tezhukor::text::Symbols;
 use tezhukor::Token;
 
-/// The tokens with the symbols that their names and literals have in a table.
-pub fn named(text: &str, tokens: &[Lexed], table: &mut Table) -> Vec<Token> {
+/// The tokens with the symbols of their names and literals.
+pub fn named(text: &str, tokens: &[Lexed], symbols: &mut Symbols) -> Vec<Token> {
     let named = tokens.iter().map(|&Lexed { code, at, end }| match has_symbol(code) {
-        true => Token::new(code, table.symbol(&text[at..end])),
+        true => Token::new(code, symbols.symbol(&text[at..end])),
         false => code.into(),
     });
     named.collect()

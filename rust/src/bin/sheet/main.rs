@@ -12,7 +12,6 @@ mod kind;
 mod lexer;
 mod locate;
 mod many;
-mod names;
 mod pack;
 mod page;
 mod prevents;
