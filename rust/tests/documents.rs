@@ -86,6 +86,24 @@ fn a_front_page() {
     assert!(lines <= 130, "README.md has {lines} lines");
 }
 
+/// The Rust of the front page: its lines stand here, and hold.
+#[test]
+fn the_front_page_builds_as_shown() -> Result<(), Box<dyn std::error::Error>> {
+    use tezhukor::build::{binary, path, Context, Op};
+    use tezhukor::text::Symbols;
+    let mut symbols = Symbols::default(); // in a tree names are numbers
+    let names = ["offset", "station", "start"];
+    let [offset, station, start] = names.map(|name| path(symbols.symbol(name)));
+    let tree = binary(Op::Sub, offset, binary(Op::Sub, station, start)).tree(Context::None)?;
+    assert_eq!(tree.to_rust(&symbols.names()?)?, "offset - (station - start)");
+    let document = text(&root().join("README.md"));
+    let blocks = parts(&document).1.into_iter();
+    let shown: Vec<&str> = blocks.filter(|lines| lines[0].starts_with("use ")).flatten().collect();
+    let is_here = |line: &&str| include_str!("documents.rs").contains(&format!("    {line}\n"));
+    assert!(shown.len() > 5 && shown.iter().all(is_here), "{shown:?}");
+    Ok(())
+}
+
 /// Each `$ ` line of a document with what it shows below it.
 fn transcript(document: &str) -> Vec<(String, String)> {
     let mut shown: Vec<(String, String)> = Vec::new();
