@@ -185,6 +185,9 @@ impl<'a> Lexer<'a> {
     /// An operator, a bracket or another sign.
     fn sign(&mut self) -> Result<(), Error> {
         let rest = self.rest();
+        if rest.starts_with("//") || rest.starts_with("/*") {
+            return self.error("comments are not read");
+        }
         if self.open.in_type_arguments() && rest.starts_with('>') {
             self.put(GREATER, 1);
             return Ok(());
@@ -332,6 +335,9 @@ mod tests {
         assert_eq!(codes("std::f64::PI * 'x' + \"a\\\"b\""), [32, 2, 33, 0, 33]);
         assert!(tokens("if a").is_err());
         assert!(tokens("a # b").is_err());
+        // As in Rust a comment begins here, and no operator.
+        assert!(tokens("a /*b").is_err() && tokens("a // b").is_err());
+        assert_eq!(codes("a/ *b"), [32, 3, 2, 32]);
         assert!(tokens("\"a").is_err());
     }
 }

@@ -25,7 +25,7 @@ pub fn unread(context: u16, codes: &[u16]) -> Unread {
         false if chains(context, codes, token) => {
             "refused (15): comparisons do not chain, so one of them needs parentheses"
         }
-        false => "refused (15): nothing that begins like this has a reading, from here on",
+        false => "refused (15): nothing that begins like this is a plain expression, from here on",
     };
     Unread { token, message: message.to_string() }
 }
