@@ -1,5 +1,6 @@
 //! The documents: links lead somewhere, and what they show is what the command prints.
 
+use std::collections::HashSet;
 use std::path::{Path, PathBuf};
 use std::process::Command;
 
@@ -77,6 +78,66 @@ fn links_lead_somewhere() {
         }
     }
     assert!(count > 30, "{count} links");
+}
+
+/// What can be named of the crates: their files and folders, wrong programs as NAME/LABEL and
+/// as LABEL, and all words of definitions, proofs and code.
+fn named_by_crates() -> HashSet<String> {
+    let crates = root().join("crates");
+    let (mut named, mut folders) = (HashSet::new(), vec![crates.clone()]);
+    while let Some(folder) = folders.pop() {
+        for entry in std::fs::read_dir(&folder).expect("a folder") {
+            let path = entry.expect("a file").path();
+            let place = path.strip_prefix(&crates).expect("a place").display().to_string();
+            let name = path.file_stem().expect("a name").to_string_lossy().to_string();
+            match path.extension().and_then(|ending| ending.to_str()) {
+                Some("antt" | "rt") => {
+                    let text = text(&path);
+                    let words = text.split(|c: char| !c.is_alphanumeric() && !"_-'".contains(c));
+                    named.extend(words.map(str::to_string));
+                }
+                Some("edit") => {
+                    let owner = place.split('/').next().unwrap_or("");
+                    named.insert(format!("{owner}/{name}"));
+                }
+                _ => {}
+            }
+            if path.is_dir() {
+                folders.push(path);
+            }
+            named.extend([place, name]);
+        }
+    }
+    named
+}
+
+/// `a/{b, c}.d` as `a/b.d` and `a/c.d`.
+fn each_of(name: &str) -> Vec<String> {
+    let parts = name.split_once('{').and_then(|(before, rest)| {
+        let (inside, behind) = rest.split_once('}')?;
+        Some(inside.split(',').map(|one| format!("{before}{}{behind}", one.trim())).collect())
+    });
+    parts.unwrap_or_else(|| vec![name.to_string()])
+}
+
+/// Definitions, theorems, files and wrong programs that the contracts' page names are there.
+#[test]
+fn contracts_name_what_is_there() {
+    let (named, mut count) = (named_by_crates(), 0);
+    let is_name = |name: &String| {
+        let is_sign = |c: char| c.is_alphanumeric() || "_-'/.".contains(c);
+        name.starts_with(char::is_alphabetic) && name.chars().all(is_sign)
+    };
+    for line in parts(&text(&root().join("docs/CONTRACTS.md"))).0 {
+        let quoted = line.split('`').skip(1).step_by(2).flat_map(each_of);
+        for name in quoted.filter(is_name) {
+            let is_elsewhere = ["crates/", "sheet", "Refusal"].contains(&name.as_str());
+            let is_there = named.contains(name.trim_end_matches('/'));
+            assert!(is_elsewhere || is_there, "docs/CONTRACTS.md: `{name}`");
+            count += 1;
+        }
+    }
+    assert!(count > 300, "{count} names");
 }
 
 /// It is read in five minutes.
