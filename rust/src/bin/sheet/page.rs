@@ -10,6 +10,7 @@ use crate::draft::Shown;
 use crate::kind::Kind;
 use crate::{blame, edits, why};
 use markup::{escaped, expression, Mark};
+use std::collections::HashMap;
 use std::ffi::{OsStr, OsString};
 use tezhukor::text::{Names, Pair, Text};
 use tezhukor::{forms, Refusal, Sight, Tree};
@@ -169,7 +170,8 @@ fn of_draft(draft: &Shown) -> String {
         (_, [_]) => format!("One pair depends on what is chosen. {CHOOSE}"),
         (_, pairs) => format!("{} pairs depend on what is chosen. {CHOOSE}", pairs.len()),
     };
-    let reason = |pair: &Pair| draft_reason(draft, pair, depends(pair));
+    let mut told = HashMap::new();
+    let reason = |pair: &Pair| draft_reason(draft, pair, depends(pair), &mut told);
     let reasons = shown.text.pairs().iter().map(reason).collect();
     let body = parts(draft.tree(), shown, mark, &hint, reasons);
     let size = size(draft.tree());
@@ -177,12 +179,18 @@ fn of_draft(draft: &Shown) -> String {
 }
 
 /// With which choice a pair stands, and what it prevents then; with which it does not, and what
-/// is written then.
-fn draft_reason(draft: &Shown, pair: &Pair, depends: bool) -> Reason {
+/// is written then. What is told of the pairs of a choice is kept.
+fn draft_reason(
+    draft: &Shown,
+    pair: &Pair,
+    depends: bool,
+    told: &mut HashMap<String, Vec<why::Told>>,
+) -> Reason {
     let Some((with, tree)) = draft.chosen(pair, true) else {
         return Reason::default();
     };
-    let mut reason = said(&why::told(tree, draft.names.clone()), pair);
+    let of_choice = || why::told(tree, draft.names.clone());
+    let mut reason = said(told.entry(with.clone()).or_insert_with(of_choice), pair);
     let text = |tree: &Tree| Text::new(tree, &tree.rows(), &draft.names);
     let own = format!("({}): ", text(tree).of(pair.node));
     let [stands, with] = match (depends, &with[..]) {
