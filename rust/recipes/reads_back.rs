@@ -3,19 +3,19 @@
 
 use std::error::Error;
 use std::process::ExitCode;
-use tezhukor::text::lexer;
+use tezhukor::text::{lexer, Symbols};
 use tezhukor::Tree;
 
 /// Whether a text reads as a plain sheet, its own parentheses left aside.
 pub fn reads_back(sheet: &[u8], names: &str, text: &str) -> Result<bool, Box<dyn Error>> {
     let sheet = Tree::load(sheet)?;
-    let symbol = |word: &str| {
-        let at = names.lines().position(|line| line == word);
-        at.and_then(|at| u16::try_from(at + 1).ok()).unwrap_or(0)
-    };
     // What is written for a sheet reads as the sheet without its own parentheses: proved.
     let meant = Tree::read(sheet.context(), &sheet.tokens()?)?;
-    Ok(Tree::read(sheet.context(), &lexer::named(text, symbol)?) == Ok(meant))
+    // A name that the sheet does not have gets a symbol that it does not have.
+    let mut symbols = Symbols::of(names, &sheet);
+    let tokens = lexer::named(text, |word| symbols.symbol(word))?;
+    symbols.names()?;
+    Ok(Tree::read(sheet.context(), &tokens) == Ok(meant))
 }
 
 fn main() -> Result<ExitCode, Box<dyn Error>> {

@@ -84,4 +84,8 @@ fn a_step_of_a_build() {
     assert_eq!(reads_back("offset - (station - end)"), Ok(false));
     assert_eq!(reads_back("offset -"), Ok(false));
     assert!(reads_back("offset - #").is_err());
+    // Of a sheet without names nothing can be said.
+    let unnamed = [&[0, 1][..], &name(0)].concat();
+    let of_unnamed = |text| reads_back::reads_back(&unnamed, "offset\n", text).ok();
+    assert_eq!(["offset", "station", "a"].map(of_unnamed), [Some(false); 3]);
 }
