@@ -92,7 +92,7 @@ pub fn write(context: u16, count: u16, table: &[u16], tokens: &mut [u16]) -> u64
     }
 }
 
-/// What a reply of [`write`] says.
+/// What a reply of [`write()`] says.
 #[derive(Copy, Clone, PartialEq, Eq, Debug)]
 pub struct Counted {
     pub tokens: u16,

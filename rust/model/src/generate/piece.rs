@@ -9,7 +9,7 @@ use crate::table::{NodeTable, FIRST, SECOND, SYMBOL};
 pub const BELOW: u16 = 255;
 
 /// The nodes of a stem, its own first, with their operands by number among them, and
-/// [`BELOW`] for the first further expression.
+/// `BELOW` for the first further expression.
 #[derive(Clone, Debug, Default)]
 pub struct Piece {
     cells: Vec<u16>,
