@@ -10,8 +10,10 @@ use tree::table::cell;
 use tree::table::form_at;
 ghost use mathlib.Core.Path.{_≡_};
 ghost use Rattle.tree.specs.Trees.{treeAt};
+ghost use Rattle.fixup.specs.Contexts.{NONE};
 ghost use Rattle.row.specs.Rows.{innerPair, pairBy, rowBy, expressionRow};
 ghost use Rattle.row.specs.Steps.{decisionOf, alone};
+ghost use Rattle.row.specs.Closed.{isClosed};
 
 pub struct Row {
     pub pair: u16,
@@ -72,18 +74,64 @@ pub fn decision_of(handed: Handed, table: &[u16], count: u16, node: u16) -> Deci
     }
 }
 
-// The row of an expression that no owner tests, in NONE: it has no outer pair.
-pub fn lone_row(table: &[u16], count: u16, node: u16) -> Row
-    ensures { λ r. ⌜ r ≡ expressionRow (alone (treeAt (now (table .entry)) count node)) (treeAt (now (table .entry)) count node) ⌝ }
+// Whether a node closes itself and has no outer attributes: its precedence is then Unambiguous in every context.
+pub fn is_closed(table: &[u16], count: u16, node: u16) -> bool
+    ensures { λ r. ⌜ r ≡ isClosed (treeAt (now (table .entry)) count node) ⌝ }
 {
-    let none = FixupContext::none();
-    let precedence = none.precedence(table, count, node);
-    let inner = has_inner_pair(table, count, node);
+    match form_at(table, count, node) {
+        forms::EXPR_ARRAY
+        | forms::EXPR_ASYNC
+        | forms::EXPR_BLOCK
+        | forms::EXPR_CALL
+        | forms::EXPR_CONST
+        | forms::EXPR_FIELD
+        | forms::EXPR_IF
+        | forms::EXPR_INFER
+        | forms::EXPR_LIT
+        | forms::EXPR_MACRO
+        | forms::EXPR_METHOD_CALL
+        | forms::EXPR_PATH
+        | forms::EXPR_REPEAT
+        | forms::EXPR_STRUCT
+        | forms::EXPR_TRY_BLOCK
+        | forms::EXPR_UNSAFE
+        | forms::EXPR_WHILE => cell(table, node, columns::ATTRIBUTES) != 2,
+        forms::EXPR_AWAIT
+        | forms::EXPR_CONTINUE
+        | forms::EXPR_FOR_LOOP
+        | forms::EXPR_INDEX
+        | forms::EXPR_LOOP
+        | forms::EXPR_MATCH
+        | forms::EXPR_PAREN
+        | forms::EXPR_TRY
+        | forms::EXPR_TUPLE
+        | forms::EXPR_VERBATIM => cell(table, node, columns::ATTRIBUTES) != 2,
+        _ => false,
+    }
+}
+
+// A row in NONE.
+fn row_in_none(pair: u16, precedence: Precedence) -> Row
+    ensures { λ r. ⌜ r ≡ rowBy pair precedence NONE ⌝ }
+{
     Row {
-        pair: pair(false, inner),
+        pair: pair,
         precedence: precedence.rank(),
         previous: 0,
         next: 0,
         flags: 0,
     }
+}
+
+// The row of an expression that no owner tests, in NONE: it has no outer pair.
+pub fn lone_row(table: &[u16], count: u16, node: u16) -> Row
+    ensures { λ r. ⌜ r ≡ expressionRow (alone (treeAt (now (table .entry)) count node)) (treeAt (now (table .entry)) count node) ⌝ }
+{
+    if is_closed(table, count, node) {
+        return row_in_none(0, Precedence::Unambiguous);
+    }
+    let none = FixupContext::none();
+    let precedence = none.precedence(table, count, node);
+    let inner = has_inner_pair(table, count, node);
+    row_in_none(pair(false, inner), precedence)
 }
