@@ -1,2 +1,4 @@
 pub mod Decisions
 pub mod Closed
+pub mod Quiet
+pub mod Hands

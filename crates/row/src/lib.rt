@@ -1,8 +1,12 @@
 // What is decided of a node: its row, and whether it has an outer pair.
+pub mod hand; // hand.rt: what an owner hands down, in one number
+
 use bools::bit;
 use bools::either;
-use expr::Handed;
 use fixup::context::FixupContext;
+use hand::CONTEXTS;
+use hand::is_grouped;
+use hand::is_parenthesized;
 use precedence::Precedence;
 use tree::columns;
 use tree::forms;
@@ -14,6 +18,7 @@ ghost use Rattle.fixup.specs.Contexts.{NONE};
 ghost use Rattle.row.specs.Rows.{innerPair, pairBy, rowBy, expressionRow};
 ghost use Rattle.row.specs.Steps.{decisionOf, alone};
 ghost use Rattle.row.specs.Closed.{isClosed};
+ghost use Rattle.row.specs.Hands.{handedOf};
 
 pub struct Row {
     pub pair: u16,
@@ -46,30 +51,27 @@ fn pair(outer: bool, inner: bool) -> u16
     bit(outer) + 2 * bit(inner)
 }
 
-fn row_of(pair: u16, precedence: Precedence, fixup: FixupContext) -> Row
-    ensures { λ r. ⌜ r ≡ rowBy pair precedence fixup ⌝ }
+// A row with what an owner handed down.
+fn row_of(pair: u16, hand: u32) -> Row
+    ensures { λ r. ⌜ r ≡ rowBy pair (handedOf hand .precedence) (handedOf hand .fixup) ⌝ }
 {
-    let previous = fixup.previous_operator;
-    let next = fixup.next_operator;
     Row {
         pair: pair,
-        precedence: precedence.rank(),
-        previous: previous.rank(),
-        next: next.rank(),
-        flags: row_pack::flags(fixup),
+        precedence: (hand / CONTEXTS % 16) as u16,
+        previous: (hand % 16) as u16,
+        next: (hand / 16 % 16) as u16,
+        flags: (hand / 256 % 1024) as u16,
     }
 }
 
 // What is decided of an expression: the outer pair by the owner's grouping test, or parenthesize.
-pub fn decision_of(handed: Handed, table: &[u16], count: u16, node: u16) -> Decision
-    ensures { λ r. ⌜ r ≡ decisionOf handed (treeAt (now (table .entry)) count node) ⌝ }
+pub fn decision_of(hand: u32, table: &[u16], count: u16, node: u16) -> Decision
+    ensures { λ r. ⌜ r ≡ decisionOf (handedOf hand) (treeAt (now (table .entry)) count node) ⌝ }
 {
-    let fixup = handed.fixup;
-    let precedence = handed.precedence;
-    let outer = either(handed.needs_group, fixup.parenthesize(table, count, node));
+    let outer = either(is_grouped(hand), is_parenthesized(hand, table, count, node));
     let inner = has_inner_pair(table, count, node);
     Decision {
-        row: row_of(pair(outer, inner), precedence, fixup),
+        row: row_of(pair(outer, inner), hand),
         outer: outer,
     }
 }

@@ -5,14 +5,17 @@ use mathlib.Core.List.{List, [], _∷_}
 use Prim.Native.Nat.{ℕ, zero, suc, _+_, _*_, _/_, _%_, _^_, _≤_, _<_}
 use native.Mathlib.Omega.{arith}
 use native.Mathlib.Nat.{zero-div, pow-suc}
-use lib.Dec.{eqb}
+use lib.Dec.{eqb, T}
 use lib.ListN.{length, getD}
 use lib.Pow.{shr-shr}
 use Rattle.bools.specs.Bits.{bitOf}
 use Rattle.precedence.specs.declared.Precedence.{Precedence}
 use Rattle.precedence.specs.declared.Precedence.the-variants.{Jump, Assign, Range, Or, And, Let, Compare, BitOr, BitXor, BitAnd, Shift, Sum, Product, Cast, Prefix, Unambiguous}
 use Rattle.precedence.specs.Precedences.{rankOf}
+use borrow.Author.Tests.{eqb-true}
 use Rattle.laws.specs.Choice.{pick, lookup}
+use Rattle.laws.proofs.Choice.{true-of}
+use Rattle.laws.proofs.Each.{all-at}
 use Rattle.fixup.specs.declared.context.FixupContext.{FixupContext}
 use Rattle.row_pack.specs.Cells.{ofBits, booleans, flagsOf}
 use Rattle.row_pack.specs.FromCells.{ranks, ofRank, bitAt, contextOf}
@@ -59,6 +62,11 @@ rank-bound p = elim p as (λ p. rankOf p < 16) [
   | Prefix ↦ omega arith
   | Unambiguous ↦ omega arith
 ]
+
+-- and a rank from its precedence
+pub rank-of : (k : ℕ) → k < 16 → rankOf (ofRank k) ≡ k
+unfolding ofRank ranks lookup pick
+rank-of k h = eqb-true _ _ (true-of (all-at (λ k. eqb (rankOf (ofRank k)) k) 16 tt k h))
 
 -- ---- bits
 
@@ -110,3 +118,33 @@ module _ (x : FixupContext) where
     «next_operator_can_continue_expr» = bit-at (booleans x) 8 i;
     «next_operator_can_begin_generics» = bit-at (booleans x) 9 i;
   }
+
+-- the bit of a number that is 0 or 1
+pub bit-of : (n : ℕ) → bitOf (eqb (n % 2) 1) ≡ n % 2
+bit-of n = go (n % 2) (omega arith)
+  where
+    go : (m : ℕ) → m < 2 → bitOf (eqb m 1) ≡ m
+    go zero h = refl
+    go (suc zero) h = refl
+    go (suc (suc m)) h = absurd (omega arith)
+
+-- ten flags come back from their context
+digit : (n m : ℕ) → n / 2 ≡ m → n % 2 + 2 * m ≡ n
+digit n m e = omega arith
+
+pub flags-of : (previous next flags : ℕ) → flags < 1024 → flagsOf (contextOf previous next flags) ≡ flags
+unfolding contextOf flagsOf ofBits
+flags-of previous next flags h =
+    rw (bit-of (flags / 1), bit-of (flags / 2), bit-of (flags / 4), bit-of (flags / 8), bit-of (flags / 16), bit-of (flags / 32), bit-of (flags / 64), bit-of (flags / 128), bit-of (flags / 256), bit-of (flags / 512))
+    (rw (
+      digit (flags / 512) 0 (omega arith),
+      digit (flags / 256) (flags / 512) (shr-shr flags 8 1),
+      digit (flags / 128) (flags / 256) (shr-shr flags 7 1),
+      digit (flags / 64) (flags / 128) (shr-shr flags 6 1),
+      digit (flags / 32) (flags / 64) (shr-shr flags 5 1),
+      digit (flags / 16) (flags / 32) (shr-shr flags 4 1),
+      digit (flags / 8) (flags / 16) (shr-shr flags 3 1),
+      digit (flags / 4) (flags / 8) (shr-shr flags 2 1),
+      digit (flags / 2) (flags / 4) (shr-shr flags 1 1),
+    )
+    (omega arith))

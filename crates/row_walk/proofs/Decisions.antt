@@ -23,7 +23,6 @@ use Rattle.expr.specs.declared.Handed.{Handed}
 use Rattle.expr.specs.declared.order.CalleeOrder.{CalleeOrder}
 use Rattle.expr.specs.Handed.{ungrouped, neither}
 use Rattle.expr.specs.Expr.{firstLines, handsFirst, secondLines, handsSecond}
-use Rattle.row_pack.specs.Packs.{packedCells, packedOf}
 use Rattle.row.specs.Rows.{outerPair, expressionRow, zeros, isExpression, rowOf, ownContext, rowsOf}
 use Rattle.row.specs.Steps.{alone}
 use Rattle.row.proofs.Decisions.{no-outer}
@@ -59,11 +58,6 @@ own-lone t = go (isExpression t) refl
     go : (b : Bool) → isExpression t ≡ b → NONE ≡ ownContext (alone t) t
     go true e = own-alone t e
     go false e = own-other (alone t) t e
-
--- the row of an expression has its context's cells
-pub packed-row : (h : Handed) (t : Tree) → packedCells (expressionRow h t .previous) (expressionRow h t .next) (expressionRow h t .flags) ≡ packedOf (h .fixup)
-unfolding packedOf expressionRow
-packed-row h t = refl
 
 -- ---- types and links hand NONE to their operands
 

@@ -10,3 +10,4 @@ pub mod Below
 pub mod Paths
 pub mod Alike
 pub mod Erase
+pub mod Settled

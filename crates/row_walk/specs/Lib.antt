@@ -3,3 +3,4 @@ pub mod Walk
 pub mod Steps
 pub mod Cases
 pub mod Paths
+pub mod Settled

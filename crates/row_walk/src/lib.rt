@@ -1,15 +1,17 @@
 // The rows of all nodes of an accepted tree.
+mod handing; // handing.rt: what an owner hands to an operand
+
 use bools::both;
 use expr::Handed;
-use expr::first_operand;
 use expr::order::CalleeOrder;
-use expr::second_operand;
 use fixup::context::FixupContext;
+use handing::first_hand;
+use handing::second_hand;
 use row::Row;
 use row::decision_of;
+use row::hand::CONTEXTS;
+use row::hand::hand_of;
 use row::lone_row;
-use row_pack::packed;
-use row_pack::unpacked;
 use tree::columns;
 use tree::sizes;
 use tree::table::form_at;
@@ -26,6 +28,7 @@ ghost use Rattle.expr.specs.declared.order.CalleeOrder.the-variants.{Ours};
 ghost use Rattle.row_pack.specs.Packs.{packedOf};
 ghost use Rattle.row.specs.Rows.{zeros, isExpression, rowOf, ownContext, rowsOf};
 ghost use Rattle.row.specs.Steps.{alone};
+ghost use Rattle.row.specs.Hands.{handedOf};
 ghost use Rattle.row_walk.specs.Stack.{within};
 ghost use Rattle.row_walk.specs.Walk.{contextNumbered, rootHanded, rowStored, placed, walkedAfter, decided, rowsAfter};
 
@@ -78,33 +81,33 @@ fn enter_alone(table: &[u16], count: u16, node: u16, rows: &mut [u16])
 }
 
 // The row of a node into its cells: its own context, packed; NONE is 0.
-fn enter(handed: Handed, table: &[u16], count: u16, node: u16, rows: &mut [u16]) -> u32
+fn enter(hand: u32, table: &[u16], count: u16, node: u16, rows: &mut [u16]) -> u32
     requires { ⌜ (1 ≤ node) × (node ≤ count) × (rowCells * count ≤ length (now rows)) ⌝ }
-    ensures own { λ r. ⌜ r ≡ packedOf (ownContext handed (treeAt (now (table .entry)) count node)) ⌝ }
-    ensures rows { λ r. ⌜ now (rows .exit) ≡ rowStored node (rowOf handed (treeAt (now (table .entry)) count node)) (now (rows .entry)) ⌝ }
+    ensures own { λ r. ⌜ r ≡ packedOf (ownContext (handedOf hand) (treeAt (now (table .entry)) count node)) ⌝ }
+    ensures rows { λ r. ⌜ now (rows .exit) ≡ rowStored node (rowOf (handedOf hand) (treeAt (now (table .entry)) count node)) (now (rows .entry)) ⌝ }
 {
     if is_other(table, count, node) {
         store(rows, node, no_row());
         return 0;
     }
-    let decision = decision_of(handed, table, count, node);
+    let decision = decision_of(hand, table, count, node);
     let row = decision.row;
     store(rows, node, row);
     if decision.outer {
         return 0;
     }
-    packed(row.previous, row.next, row.flags)
+    hand % CONTEXTS
 }
 
-// The rows of the root and of all below it. An entry is an owner whose second operand waits while what is below its first is walked, with the owner's own context. Where `lone` holds no owner tests the node, and `handed` is not looked at.
-fn walk_from(order: CalleeOrder, root: Handed, table: &[u16], count: u16, rows: &mut [u16])
+// The rows of the root and of all below it. An entry is an owner whose second operand waits while what is below its first is walked, with the owner's own context. Where `lone` holds no owner tests the node, and `hand` is not looked at.
+fn walk_from(order: CalleeOrder, root: u32, table: &[u16], count: u16, rows: &mut [u16])
     requires { ⌜ (1 ≤ count) × (rowCells * count ≤ length (now rows)) ⌝ }
-    ensures { λ _. ⌜ now (rows .exit) ≡ placed (now (table .entry)) count 1 (within mostLevels (rowsOf order root (treeAt (now (table .entry)) count 1))) (now (rows .entry)) ⌝ }
+    ensures { λ _. ⌜ now (rows .exit) ≡ placed (now (table .entry)) count 1 (within mostLevels (rowsOf order (handedOf root) (treeAt (now (table .entry)) count 1))) (now (rows .entry)) ⌝ }
 {
     let mut nodes = [0u16; ENTRIES];
     let mut contexts = [0u32; ENTRIES];
     let mut depth: usize = 0;
-    let mut handed = root;
+    let mut hand = root;
     let mut lone = false;
     let mut at: u16 = 1;
     loop {
@@ -112,7 +115,7 @@ fn walk_from(order: CalleeOrder, root: Handed, table: &[u16], count: u16, rows: 
         if lone {
             enter_alone(table, count, at, rows);
         } else {
-            own = enter(handed, table, count, at, rows);
+            own = enter(hand, table, count, at, rows);
         }
         let first = operand_number(table, count, at, columns::FIRST);
         let second = operand_number(table, count, at, columns::SECOND);
@@ -128,13 +131,13 @@ fn walk_from(order: CalleeOrder, root: Handed, table: &[u16], count: u16, rows: 
                 continue;
             }
             lone = false;
-            handed = first_operand(order, unpacked(own), table, count, at);
+            hand = first_hand(order, own, table, count, at, first);
             at = first;
             continue;
         }
         if second != 0 {
             lone = false;
-            handed = second_operand(unpacked(own), table, count, at);
+            hand = second_hand(own, table, count, at, second);
             at = second;
             continue;
         }
@@ -150,7 +153,7 @@ fn walk_from(order: CalleeOrder, root: Handed, table: &[u16], count: u16, rows: 
         }
         let kept = contexts[depth];
         lone = false;
-        handed = second_operand(unpacked(kept), table, count, owner);
+        hand = second_hand(kept, table, count, owner, at);
     }
 }
 
@@ -188,8 +191,8 @@ pub fn walk(order: CalleeOrder, context: u16, count: u16, table: &[u16], rows: &
     if count == 0 {
         return;
     }
-    let handed = root_handed(context, table, count);
-    walk_from(order, handed, table, count, rows);
+    let hand = hand_of(root_handed(context, table, count));
+    walk_from(order, hand, table, count, rows);
 }
 
 // The rows of all nodes of a table into `rows`, in a callee order: 0, or the first refusal that applies.

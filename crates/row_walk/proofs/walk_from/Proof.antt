@@ -16,6 +16,8 @@ use Rattle.row_pack.specs.Packs.{packedOf, unpackedOf}
 use Rattle.row_pack.proofs.Packs.{unpacks, none-packed}
 use Rattle.row.specs.Rows.{isExpression, rowOf, ownContext}
 use Rattle.row.specs.Steps.{alone}
+use Rattle.row.specs.Hands.{handedOf}
+use Rattle.row.proofs.Hands.{handed-back}
 use Rattle.row_walk.specs.Walk.{rowStored}
 use Rattle.row_walk.specs.Steps.{placedWithin, finish}
 use Rattle.row_walk.proofs.Decisions.{first-other, own-lone}
@@ -24,16 +26,16 @@ use Rattle.row_walk.proofs.walk_from.Statement.{statement}
 use Rattle.row_walk.proofs.walk_from.Tie as tie
 
 abbrev Inv-loop : tie.InvT-loop
-Inv-loop order table count rows₀ nodes₀ contexts₀ depth₀ handed₀ lone₀ at₀ rows nodes contexts depth handed lone at =
-    State order table count (placedWithin order table count mostLevels 1 handed₀ rows₀) (length rows₀) rows nodes contexts depth (heeded order table count lone handed at) at
+Inv-loop order root table count rows₀ nodes₀ contexts₀ depth₀ hand₀ lone₀ at₀ rows nodes contexts depth hand lone at =
+    State order table count (placedWithin order table count mostLevels 1 (handedOf hand₀) rows₀) (length rows₀) rows nodes contexts depth (heeded order table count lone (handedOf hand) at) at
 
 abbrev μ-loop : tie.MeasureT-loop
-μ-loop order table count rows₀ nodes₀ contexts₀ depth₀ handed₀ lone₀ at₀ rows nodes contexts depth handed lone at =
+μ-loop order root table count rows₀ nodes₀ contexts₀ depth₀ hand₀ lone₀ at₀ rows nodes contexts depth hand lone at =
     todo order table count nodes depth at
 
 -- the node has its row, and its own context is known
 entered : (c : tie.Joined1 Inv-loop μ-loop)
-    → let a = c .before .before .before .before .args in let l = c .before .loop in let h = heeded (a .order) (a .table .now) (a .count) (l .lone) (l .handed) (l .at) in let t = treeAt (a .table .now) (a .count) (l .at) in
+    → let a = c .before .before .before .before .args in let l = c .before .loop in let h = heeded (a .order) (a .table .now) (a .count) (l .lone) (handedOf (l .hand)) (l .at) in let t = treeAt (a .table .now) (a .count) (l .at) in
     (c .if1 .own ≡ packedOf (ownContext h t)) × (c .if1 .rows ≡ rowStored (l .at) (rowOf h t) (l .rows))
 entered c =
     let a = c .before .before .before .before .args in
@@ -127,55 +129,55 @@ loop-again c =
 
 loop-less-2 : tie.Need-loop-less-2 Inv-loop μ-loop
 loop-less-2 c =
-    let v = c .before .before .before .before .before .before .before .before .before .before .loop .inv in
-    let e = entered (c .before .before .before .before .before .before .before .before .before) in
-    let f = c .before .before .before .before .before .before .before .before .operand-number .ensures in
-    let g = c .before .before .before .before .before .before .before .operand-number2 .ensures in
-    let q = c .before .before .before .before .before .both .ensures in
-    let a = c .before .before .before .before .before .before .before .before .before .before .before .before .before .args in
-    let t = treeAt (a .table .now) (a .count) (c .before .before .before .before .before .before .before .before .before .before .loop .at) in
-    let h = c .first-operand .ensures ∙ ap (λ (x : FixupContext). handsFirst (a .order) x t) (c .before .unpacked .ensures ∙ ap unpackedOf (e .0) ∙ unpacks _) in
+    let v = c .before .before .before .before .before .before .before .before .before .loop .inv in
+    let e = entered (c .before .before .before .before .before .before .before .before) in
+    let f = c .before .before .before .before .before .before .before .operand-number .ensures in
+    let g = c .before .before .before .before .before .before .operand-number2 .ensures in
+    let q = c .before .before .before .before .both .ensures in
+    let a = c .before .before .before .before .before .before .before .before .before .before .before .before .args in
+    let t = treeAt (a .table .now) (a .count) (c .before .before .before .before .before .before .before .before .before .loop .at) in
+    let h = ap handedOf (c .first-hand .ensures) ∙ handed-back _ ∙ ap (λ (x : FixupContext). handsFirst (a .order) x t) (ap unpackedOf (e .0) ∙ unpacks _) in
     ⊎-elim
-    (λ w. let k = entered-on (c .before .before .before .before .before .before .before .operand-number2 .result) (c .before .before .before .before .before .before .before .before .before .before .loop .depth) (sym q ∙ w .0 .taken) in rw (w .1, w .3) (pushed _ _ _ _ _ _ _ _ _ _ _ v _ refl _ (e .1) _ _ f g _ (c .before .before .before .before .before .before .if2 .taken) (k .0) (k .1) h .0))
-    (λ w. rw (w .1, w .3) (unpushed _ _ _ _ _ _ _ _ _ _ _ v _ refl _ (e .1) _ _ f g _ (c .before .before .before .before .before .before .if2 .taken) (entered-not (c .before .before .before .before .before .before .before .operand-number2 .result) (c .before .before .before .before .before .before .before .before .before .before .loop .depth) (sym q ∙ w .0 .left)) h .0))
-    (c .before .before .before .before .if3 .came)
+    (λ w. let k = entered-on (c .before .before .before .before .before .before .operand-number2 .result) (c .before .before .before .before .before .before .before .before .before .loop .depth) (sym q ∙ w .0 .taken) in rw (w .1, w .3) (pushed _ _ _ _ _ _ _ _ _ _ _ v _ refl _ (e .1) _ _ f g _ (c .before .before .before .before .before .if2 .taken) (k .0) (k .1) h .0))
+    (λ w. rw (w .1, w .3) (unpushed _ _ _ _ _ _ _ _ _ _ _ v _ refl _ (e .1) _ _ f g _ (c .before .before .before .before .before .if2 .taken) (entered-not (c .before .before .before .before .before .before .operand-number2 .result) (c .before .before .before .before .before .before .before .before .before .loop .depth) (sym q ∙ w .0 .left)) h .0))
+    (c .before .before .before .if3 .came)
 
 loop-again-2 : tie.Need-loop-again-2 Inv-loop μ-loop
 loop-again-2 c =
-    let v = c .before .before .before .before .before .before .before .before .before .before .loop .inv in
-    let e = entered (c .before .before .before .before .before .before .before .before .before) in
-    let f = c .before .before .before .before .before .before .before .before .operand-number .ensures in
-    let g = c .before .before .before .before .before .before .before .operand-number2 .ensures in
-    let q = c .before .before .before .before .before .both .ensures in
-    let a = c .before .before .before .before .before .before .before .before .before .before .before .before .before .args in
-    let t = treeAt (a .table .now) (a .count) (c .before .before .before .before .before .before .before .before .before .before .loop .at) in
-    let h = c .first-operand .ensures ∙ ap (λ (x : FixupContext). handsFirst (a .order) x t) (c .before .unpacked .ensures ∙ ap unpackedOf (e .0) ∙ unpacks _) in
+    let v = c .before .before .before .before .before .before .before .before .before .loop .inv in
+    let e = entered (c .before .before .before .before .before .before .before .before) in
+    let f = c .before .before .before .before .before .before .before .operand-number .ensures in
+    let g = c .before .before .before .before .before .before .operand-number2 .ensures in
+    let q = c .before .before .before .before .both .ensures in
+    let a = c .before .before .before .before .before .before .before .before .before .before .before .before .args in
+    let t = treeAt (a .table .now) (a .count) (c .before .before .before .before .before .before .before .before .before .loop .at) in
+    let h = ap handedOf (c .first-hand .ensures) ∙ handed-back _ ∙ ap (λ (x : FixupContext). handsFirst (a .order) x t) (ap unpackedOf (e .0) ∙ unpacks _) in
     ⊎-elim
-    (λ w. let k = entered-on (c .before .before .before .before .before .before .before .operand-number2 .result) (c .before .before .before .before .before .before .before .before .before .before .loop .depth) (sym q ∙ w .0 .taken) in rw (w .1, w .2, e .0, w .3) (pushed _ _ _ _ _ _ _ _ _ _ _ v _ refl _ (e .1) _ _ f g _ (c .before .before .before .before .before .before .if2 .taken) (k .0) (k .1) h .1))
-    (λ w. rw (w .1, w .2, w .3) (unpushed _ _ _ _ _ _ _ _ _ _ _ v _ refl _ (e .1) _ _ f g _ (c .before .before .before .before .before .before .if2 .taken) (entered-not (c .before .before .before .before .before .before .before .operand-number2 .result) (c .before .before .before .before .before .before .before .before .before .before .loop .depth) (sym q ∙ w .0 .left)) h .1))
-    (c .before .before .before .before .if3 .came)
+    (λ w. let k = entered-on (c .before .before .before .before .before .before .operand-number2 .result) (c .before .before .before .before .before .before .before .before .before .loop .depth) (sym q ∙ w .0 .taken) in rw (w .1, w .2, e .0, w .3) (pushed _ _ _ _ _ _ _ _ _ _ _ v _ refl _ (e .1) _ _ f g _ (c .before .before .before .before .before .if2 .taken) (k .0) (k .1) h .1))
+    (λ w. rw (w .1, w .2, w .3) (unpushed _ _ _ _ _ _ _ _ _ _ _ v _ refl _ (e .1) _ _ f g _ (c .before .before .before .before .before .if2 .taken) (entered-not (c .before .before .before .before .before .before .operand-number2 .result) (c .before .before .before .before .before .before .before .before .before .loop .depth) (sym q ∙ w .0 .left)) h .1))
+    (c .before .before .before .if3 .came)
 
 loop-less-3 : tie.Need-loop-less-3 Inv-loop μ-loop
 loop-less-3 c =
-    let v = c .before .before .before .before .before .before .before .loop .inv in
-    let e = entered (c .before .before .before .before .before .before) in
-    let f = c .before .before .before .before .before .operand-number .ensures in
-    let g = c .before .before .before .before .operand-number2 .ensures in
-    let a = c .before .before .before .before .before .before .before .before .before .before .args in
-    let t = treeAt (a .table .now) (a .count) (c .before .before .before .before .before .before .before .loop .at) in
-    let h = c .second-operand .ensures ∙ ap (λ (x : FixupContext). handsSecond x t) (c .before .unpacked2 .ensures ∙ ap unpackedOf (e .0) ∙ unpacks _) in
-    across _ _ _ _ _ _ _ _ _ _ _ v _ refl _ (e .1) _ _ f g _ (c .before .before .before .if2 .left) (c .before .before .if5 .taken) h .0
+    let v = c .before .before .before .before .before .before .loop .inv in
+    let e = entered (c .before .before .before .before .before) in
+    let f = c .before .before .before .before .operand-number .ensures in
+    let g = c .before .before .before .operand-number2 .ensures in
+    let a = c .before .before .before .before .before .before .before .before .before .args in
+    let t = treeAt (a .table .now) (a .count) (c .before .before .before .before .before .before .loop .at) in
+    let h = ap handedOf (c .second-hand .ensures) ∙ handed-back _ ∙ ap (λ (x : FixupContext). handsSecond x t) (ap unpackedOf (e .0) ∙ unpacks _) in
+    across _ _ _ _ _ _ _ _ _ _ _ v _ refl _ (e .1) _ _ f g _ (c .before .before .if2 .left) (c .before .if5 .taken) h .0
 
 loop-again-3 : tie.Need-loop-again-3 Inv-loop μ-loop
 loop-again-3 c =
-    let v = c .before .before .before .before .before .before .before .loop .inv in
-    let e = entered (c .before .before .before .before .before .before) in
-    let f = c .before .before .before .before .before .operand-number .ensures in
-    let g = c .before .before .before .before .operand-number2 .ensures in
-    let a = c .before .before .before .before .before .before .before .before .before .before .args in
-    let t = treeAt (a .table .now) (a .count) (c .before .before .before .before .before .before .before .loop .at) in
-    let h = c .second-operand .ensures ∙ ap (λ (x : FixupContext). handsSecond x t) (c .before .unpacked2 .ensures ∙ ap unpackedOf (e .0) ∙ unpacks _) in
-    across _ _ _ _ _ _ _ _ _ _ _ v _ refl _ (e .1) _ _ f g _ (c .before .before .before .if2 .left) (c .before .before .if5 .taken) h .1
+    let v = c .before .before .before .before .before .before .loop .inv in
+    let e = entered (c .before .before .before .before .before) in
+    let f = c .before .before .before .before .operand-number .ensures in
+    let g = c .before .before .before .operand-number2 .ensures in
+    let a = c .before .before .before .before .before .before .before .before .before .args in
+    let t = treeAt (a .table .now) (a .count) (c .before .before .before .before .before .before .loop .at) in
+    let h = ap handedOf (c .second-hand .ensures) ∙ handed-back _ ∙ ap (λ (x : FixupContext). handsSecond x t) (ap unpackedOf (e .0) ∙ unpacks _) in
+    across _ _ _ _ _ _ _ _ _ _ _ v _ refl _ (e .1) _ _ f g _ (c .before .before .if2 .left) (c .before .if5 .taken) h .1
 
 same-length : tie.Need-same-length Inv-loop μ-loop
 same-length c =
@@ -223,19 +225,28 @@ array-read-kept c = let small = c .before .before .before .before .before .befor
 
 loop-less-5 : tie.Need-loop-less-5 Inv-loop μ-loop
 loop-less-5 c =
-    let v = c .before .before .before .before .before .before .before .before .before .before .before .loop .inv in
-    let e = entered (c .before .before .before .before .before .before .before .before .before .before) in
-    let f = c .before .before .before .before .before .before .before .before .before .operand-number .ensures in
-    let g = c .before .before .before .before .before .before .before .before .operand-number2 .ensures in
-    popped _ _ _ _ _ _ _ _ _ _ _ v _ refl _ (e .1) _ _ f g (c .before .before .before .before .before .before .before .if2 .left) (c .before .before .before .before .before .before .if5 .left) (c .before .before .before .before .before .if6 .left) _ refl _ (c .before .unpacked3 .ensures) _ (c .second-operand2 .ensures) _ (c .before .before .before .before .operand-number3 .ensures) .0
+    let v = c .before .before .before .before .before .before .before .before .before .before .loop .inv in
+    let e = entered (c .before .before .before .before .before .before .before .before .before) in
+    let f = c .before .before .before .before .before .before .before .before .operand-number .ensures in
+    let g = c .before .before .before .before .before .before .before .operand-number2 .ensures in
+    popped _ _ _ _ _ _ _ _ _ _ _ v _ refl _ (e .1) _ _ f g (c .before .before .before .before .before .before .if2 .left) (c .before .before .before .before .before .if5 .left) (c .before .before .before .before .if6 .left) _ refl _ refl _ (ap handedOf (c .second-hand2 .ensures) ∙ handed-back _) _ (c .before .before .before .operand-number3 .ensures) .0
 
 loop-again-5 : tie.Need-loop-again-5 Inv-loop μ-loop
 loop-again-5 c =
-    let v = c .before .before .before .before .before .before .before .before .before .before .before .loop .inv in
-    let e = entered (c .before .before .before .before .before .before .before .before .before .before) in
-    let f = c .before .before .before .before .before .before .before .before .before .operand-number .ensures in
-    let g = c .before .before .before .before .before .before .before .before .operand-number2 .ensures in
-    popped _ _ _ _ _ _ _ _ _ _ _ v _ refl _ (e .1) _ _ f g (c .before .before .before .before .before .before .before .if2 .left) (c .before .before .before .before .before .before .if5 .left) (c .before .before .before .before .before .if6 .left) _ refl _ (c .before .unpacked3 .ensures) _ (c .second-operand2 .ensures) _ (c .before .before .before .before .operand-number3 .ensures) .1
+    let v = c .before .before .before .before .before .before .before .before .before .before .loop .inv in
+    let e = entered (c .before .before .before .before .before .before .before .before .before) in
+    let f = c .before .before .before .before .before .before .before .before .operand-number .ensures in
+    let g = c .before .before .before .before .before .before .before .operand-number2 .ensures in
+    popped _ _ _ _ _ _ _ _ _ _ _ v _ refl _ (e .1) _ _ f g (c .before .before .before .before .before .before .if2 .left) (c .before .before .before .before .before .if5 .left) (c .before .before .before .before .if6 .left) _ refl _ refl _ (ap handedOf (c .second-hand2 .ensures) ∙ handed-back _) _ (c .before .before .before .operand-number3 .ensures) .1
+
+first-hand-requires : tie.Need-first-hand-requires Inv-loop μ-loop
+first-hand-requires c κs = c .before .before .before .before .before .before .operand-number .ensures
+
+second-hand-requires : tie.Need-second-hand-requires Inv-loop μ-loop
+second-hand-requires c κs = c .before .before .operand-number2 .ensures
+
+second-hand-requires-2 : tie.Need-second-hand-requires-2 Inv-loop μ-loop
+second-hand-requires-2 c κs = c .before .before .operand-number3 .ensures
 
 pub walk-from-spec : {M : Type 1} → statement M
 walk-from-spec =
@@ -257,12 +268,10 @@ walk-from-spec =
     free
     loop-less
     loop-again
-    free
-    free
+    first-hand-requires
     loop-less-2
     loop-again-2
-    free
-    free
+    second-hand-requires
     loop-less-3
     loop-again-3
     same-length
@@ -276,7 +285,6 @@ walk-from-spec =
     loop-again-4
     mul-kept
     array-read-kept
-    free
-    free
+    second-hand-requires-2
     loop-less-5
     loop-again-5)
