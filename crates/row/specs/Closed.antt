@@ -1,4 +1,4 @@
--- Expressions whose precedence their form gives, in every context. Nothing here is to be believed.
+-- Expressions whose precedence their form gives, in every context.
 use mathlib.Core.Bool.{Bool, false, not}
 use mathlib.Core.List.{List, [], _∷_}
 use Prim.Native.Nat.{ℕ}

@@ -1,4 +1,4 @@
--- What an owner hands to an operand in one number, as the walk keeps it: eighteen bits for the context, four for the rank of the operand's precedence, one where its owner groups it. Nothing here is to be believed.
+-- What an owner hands to an operand in one number, as the walk keeps it: eighteen bits for the context, four for the rank of the operand's precedence, one where its owner groups it.
 use Prim.Native.Nat.{ℕ, _+_, _*_, _/_, _%_}
 use lib.Dec.{eqb}
 use Rattle.bools.specs.Bits.{bitOf}
