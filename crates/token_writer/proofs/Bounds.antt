@@ -7,6 +7,7 @@ use native.Mathlib.Omega.{arith}
 use lib.Dec.{eqb}
 use lib.ListN.{length, length-append}
 use borrow.Author.Tests.{eqb-true}
+use Rattle.bools.specs.Bits.{bitOf}
 use Rattle.laws.specs.Choice.{pick, Line, line, lookup, isOneOf}
 use Rattle.tree.specs.Sizes.{tokensPerNode, mostTokens}
 use Rattle.tree.specs.Table.{firstColumn, secondColumn}
@@ -18,6 +19,7 @@ use Rattle.token_grammar.specs.Tokens.{Token, LeftParen, RightParen, Comma}
 use Rattle.tree_numbering.specs.Numbered.{size}
 use Rattle.tree_numbering.proofs.Sizes.{size-accepted}
 use Rattle.token_plain.specs.Written.{Signs, signs, comma, signLines, signsOf, tokensAt, hasPair}
+use Rattle.token_writer.specs.Levels.{needs, firstFrom, secondFrom, pairsBy}
 use Rattle.token_writer.specs.Writes.{rowsFor, written, writeRefusal}
 use Rattle.token_writer.proofs.Tokens.{oneOf, in-row}
 
@@ -29,11 +31,11 @@ module _ {A : Type 0} (P : A → Type 0) where
   by-test true x y p q = p
   by-test false x y p q = q
 
-  abbrev Each : List (Line A) → Type 0
+  abbrev pub Each : List (Line A) → Type 0
   Each [] = Unit {0}
   Each (line ks a ∷ rows) = P a × Each rows
 
-  in-table : (rows : List (Line A)) (other : A) (n : ℕ) → Each rows → P other → P (lookup rows other n)
+  pub in-table : (rows : List (Line A)) (other : A) (n : ℕ) → Each rows → P other → P (lookup rows other n)
   unfolding lookup
   in-table [] other n e o = o
   in-table (line ks a ∷ rows) other n e o = by-test (isOneOf ks n) a (lookup rows other n) (e .0) (in-table rows other n (e .1) o)
@@ -70,6 +72,20 @@ module _ (cells : List ℕ) (count : ℕ) (pair : ℕ → Bool) where
       let start = one-most (pair i) LeftParen in
       let end = one-most (pair i) RightParen in
       rw (in-row cells count pair i l a b) (simp length-append (omega arith))
+
+-- at most one pair a node
+pub pairs-most : (t : Tree) (p : ℕ) → pairsBy p t ≤ size t
+unfolding pairsBy size
+pairs-most none p = omega arith
+pairs-most (node l a b) p =
+    let first = pairs-most a (firstFrom p (needs p l b) l) in
+    let second = pairs-most b (secondFrom p (needs p l b) l) in
+    let own = bit-most (needs p l b) in
+    omega arith
+  where
+    bit-most : (b : Bool) → bitOf b ≤ 1
+    bit-most true = omega arith
+    bit-most false = omega arith
 
 -- ---- an accepted table
 

@@ -1,5 +1,11 @@
 pub mod Bounds
+pub mod ByLevels
+pub mod Loops
+pub mod Pairs
 pub mod Plains
 pub mod Replies
 pub mod Spelling
+pub mod Strengths
+pub mod Tasks
 pub mod Tokens
+pub mod Turns

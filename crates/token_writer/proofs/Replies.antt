@@ -1,61 +1,64 @@
 -- The replies of `write`, and what they leave in the buffer. Assumes nothing.
-use mathlib.Core.Path.{_≡_, refl, sym, ap, ap₂, _∙_}
-use mathlib.Core.Bool.{true, false, not}
-use mathlib.Core.List.{List, _∷_}
-use Prim.Native.Nat.{ℕ, zero, suc, _*_, _/_, _≤_, _<_}
+use mathlib.Core.Path.{_≡_, refl, sym, ap, ap₂, subst, _∙_}
+use mathlib.Core.Bool.{Bool, true, false, not, _||_}
+use mathlib.Core.List.{List, []}
+use Prim.Native.Nat.{ℕ, _*_, _/_, _≤_, _<_}
 use native.Mathlib.Omega.{arith}
 use lib.Dec.{eqb}
-use lib.ListN.{length, take, replicate, length-replicate}
-use borrow.Author.Tests.{eq-eqb, ne-eqb, lt-ltb, le-ltb}
+use lib.ListN.{length}
+use borrow.Author.Tests.{eq-eqb, ne-eqb, lt-ltb, le-ltb, eqb-true}
 use Rattle.laws.specs.Choice.{pick}
 use Rattle.laws.specs.Lists.{over}
-use Rattle.laws.specs.Puts.{Put}
-use Rattle.laws.proofs.Choice.{pick-true, pick-false, or-here, or-next}
-use Rattle.laws.proofs.Putting.{put-over}
-use Rattle.tree.specs.Sizes.{rowCells, tokenCells, tokensPerNode}
-use Rattle.tree_rules.specs.Refusals.{firstOf, refusal}
-use Rattle.expr.specs.declared.order.CalleeOrder.the-variants.{Ours}
-use Rattle.row_walk.specs.Walk.{rowsAfter}
-use Rattle.tree_numbering.specs.Sums.{sum}
+use Rattle.laws.proofs.Choice.{pick-true, pick-false, or-here, or-next, true-not-false}
+use Rattle.tree.specs.Sizes.{tokenCells, tokensPerNode, mostNodes, mostTokens}
+use Rattle.tree.specs.Trees.{treeAt}
+use Rattle.tree_rules.specs.Refusals.{firstOf, refusal, Accepted}
+use Rattle.tree_rules.proofs.Accepted.{count-bounds}
+use Rattle.tree_numbering.proofs.Sizes.{size-accepted}
 use Rattle.token_grammar.specs.Tokens.{cellsOf}
+use Rattle.token_grammar.specs.Grammar.{Context, NONE, CONDITION, contextNumber}
 use Rattle.token_plain.specs.Plain.{plainTable}
 use Rattle.token_writer.specs.declared.Written.{Written}
 use Rattle.token_writer.specs.declared.Written.the-variants.{Refused, Tokens}
-use Rattle.token_writer.specs.Puts.{cellsAt}
-use Rattle.token_writer.specs.Writes.{takesContext, rowsFor, written, onePair, pairsWritten, writeRefusal12, refusal13, writeRefusal, answered, tokensAfter}
+use Rattle.token_writer.specs.Levels.{place, tokensBy, pairsBy}
+use Rattle.token_writer.specs.Tasks.{cellsBy, pairsAt, enterWork, rootIn, tasksFor}
+use Rattle.token_writer.specs.Writes.{takesContext, written, pairsWritten, writeRefusal12, refusal13, writeRefusal, answered, tokensAfter}
+use Rattle.token_writer.proofs.Bounds.{tokens-bound, pairs-most}
+use Rattle.token_writer.proofs.ByLevels.{flag}
+use Rattle.token_writer.proofs.Pairs.{written-by-places, pairs-by-places}
 use Rattle.token_writer.proofs.Tokens.{length-cells}
 
--- ---- the rows
+-- ---- a context that is taken
 
--- in a buffer of just the length that they need
-pub rows-made : (context count : ℕ) (cells rows after : List ℕ) → rows ≡ replicate (rowCells * count) 0
-    → after ≡ rowsAfter Ours context count cells rows → after ≡ rowsFor context count cells
-unfolding rowsFor
-rows-made context count cells rows after r e = rw (e, r)
+taken-context : (context : ℕ) → takesContext context ≡ true → (k : Context) × (contextNumber k ≡ context)
+unfolding takesContext
+taken-context context h = go (eqb (contextNumber NONE) context) (eqb (contextNumber CONDITION) context) refl refl h
+  where
+    go : (a b : Bool) → eqb (contextNumber NONE) context ≡ a → eqb (contextNumber CONDITION) context ≡ b → a || (b || false) ≡ true → (k : Context) × (contextNumber k ≡ context)
+    go true b u v h = (NONE, eqb-true (contextNumber NONE) context u)
+    go false true u v h = (CONDITION, eqb-true (contextNumber CONDITION) context v)
+    go false false u v h = true-not-false (sym h)
 
--- the tokens with them, and the pairs
-module _ (context count : ℕ) (cells rows : List ℕ) (made : rows ≡ rowsFor context count cells) where
-  pub cells-written : cellsAt cells count rows 1 ≡ cellsOf (written context count cells)
-  unfolding cellsAt written
-  cells-written = rw made
+root-place : (k : Context) → rootIn (contextNumber k) ≡ place 0 false (flag k)
+root-place NONE = refl
+root-place CONDITION = refl
 
-  pub wrote : (tokens last : List ℕ) (pairs next : ℕ) → pairs ≡ sum (onePair rows) count → tokenCells * length (written context count cells) ≤ length tokens → Put tokens 0 (cellsAt cells count rows 1) last next
-      → (Tokens pairs (next / tokenCells) ≡ Tokens (pairsWritten context count cells) (length (written context count cells))) × (last ≡ over (cellsOf (written context count cells)) tokens)
-  unfolding pairsWritten
-  wrote tokens last pairs next p room q =
-      let z : Put tokens 0 (cellsOf (written context count cells)) last next = rw cells-written at q in
-      let l = length-cells (written context count cells) in
-      let n : next / tokenCells ≡ length (written context count cells) = omega (arith, z .ends) in
-      (ap₂ Tokens (p ∙ ap (λ r. sum (onePair r) count) made) n, put-over z (omega arith))
+-- so what is written and counted by places is what the rows say
+abbrev ByPlaces : ℕ → ℕ → List ℕ → Type 0
+ByPlaces context count cells =
+    (cellsBy cells count (rootIn context) 1 ≡ cellsOf (written context count cells)) × (pairsAt cells count (rootIn context) 1 ≡ pairsWritten context count cells)
 
--- zeros at the start of more zeros
-pub take-zeros : (n m : ℕ) → n ≤ m → take {A = ℕ} n (replicate m 0) ≡ replicate n 0
-take-zeros zero m h = refl
-take-zeros (suc n) zero h = absurd (omega arith)
-take-zeros (suc n) (suc m) h = ap (λ (l : List ℕ). 0 ∷ l) (take-zeros n m (omega arith))
+in-context-by : (k : Context) (count : ℕ) (cells : List ℕ) → Accepted (contextNumber k) count cells → plainTable count cells ≡ true → ByPlaces (contextNumber k) count cells
+unfolding cellsBy
+in-context-by k count cells ok plain = (
+  ap (λ p. cellsOf (tokensBy p (treeAt cells count 1) [])) (root-place k) ∙ sym (ap cellsOf (written-by-places k count cells ok plain)),
+  ap (λ p. pairsBy p (treeAt cells count 1)) (root-place k) ∙ sym (pairs-by-places k count cells ok plain),
+)
 
-pub length-zeros : (n m : ℕ) → n ≤ m → n ≡ length {A = ℕ} (take n (replicate m 0))
-length-zeros n m h = sym (ap length (take-zeros n m h) ∙ length-replicate {A = ℕ} n 0)
+by-places : (context count : ℕ) (cells : List ℕ) → takesContext context ≡ true → Accepted context count cells → plainTable count cells ≡ true → ByPlaces context count cells
+by-places context count cells taken =
+    let t = taken-context context taken in
+    subst (λ c. Accepted c count cells → plainTable count cells ≡ true → ByPlaces c count cells) (t .1) (in-context-by (t .0) count cells)
 
 -- ---- the replies
 
@@ -105,6 +108,30 @@ module _ (context count : ℕ) (cells tokens : List ℕ) where
           pub not-refused : writeRefusal context count cells (length tokens) ≡ 0
           not-refused = behind12 ∙ pick-false 13 0 (is13 ∙ ap not plain)
 
-          pub done : (r : Written) (last : List ℕ) → r ≡ Tokens (pairsWritten context count cells) (length (written context count cells)) → last ≡ over (cellsOf (written context count cells)) tokens → Answers r last
+          -- what `write_plain` asks for
+          pub plainly : (enterWork cells count 1 ≤ tasksFor count)
+              × (count ≤ mostNodes)
+              × (pairsAt cells count (rootIn context) 1 ≤ mostNodes)
+              × (length (cellsBy cells count (rootIn context) 1) ≤ length tokens)
+              × (length (cellsBy cells count (rootIn context) 1) ≤ tokenCells * mostTokens)
+          unfolding enterWork
+          plainly =
+              let nodes = size-accepted context count cells accepted in
+              let bounds = count-bounds context count cells accepted in
+              let most = tokens-bound context count cells accepted in
+              let long = ap length (by-places context count cells taken accepted plain .0) ∙ length-cells (written context count cells) in (
+                omega arith,
+                bounds .1,
+                omega (arith, bounds .1, pairs-most (treeAt cells count 1) (rootIn context)),
+                omega (arith, most .0),
+                omega (arith, most .1),
+              )
+
+          pub done : (r : Written) (last : List ℕ) → r ≡ Tokens (pairsAt cells count (rootIn context) 1) (length (cellsBy cells count (rootIn context) 1) / tokenCells) → last ≡ over (cellsBy cells count (rootIn context) 1) tokens → Answers r last
           unfolding answered tokensAfter
-          done r last e f = let z = eq-eqb _ 0 not-refused in (e ∙ sym (pick-true _ _ z), f ∙ sym (pick-true _ _ z))
+          done r last e f =
+              let z = eq-eqb _ 0 not-refused in
+              let by = by-places context count cells taken accepted plain in
+              let long = length-cells (written context count cells) in
+              let n : length (cellsOf (written context count cells)) / tokenCells ≡ length (written context count cells) = omega arith in
+              (e ∙ ap₂ Tokens (by .1) (ap (λ c. length c / tokenCells) (by .0) ∙ n) ∙ sym (pick-true _ _ z), f ∙ ap (λ c. over c tokens) (by .0) ∙ sym (pick-true _ _ z))

@@ -4,20 +4,18 @@ use mathlib.Core.Bool.{Bool, true, false}
 use mathlib.Core.List.{List, [], _∷_, _++_, append-assoc, append-nil}
 use Prim.Native.Nat.{ℕ, _+_, _*_, _≤_}
 use native.Mathlib.Omega.{arith}
-use lib.ListN.{length, length-append}
-use Rattle.laws.specs.Choice.{pick, lookup}
-use Rattle.laws.specs.Puts.{Put}
-use Rattle.laws.proofs.Putting.{put-none, put-more}
+use lib.ListN.{length}
+use Rattle.bools.specs.Bits.{bitOf}
+use Rattle.laws.specs.Choice.{pick}
 use Rattle.tree.specs.Sizes.{tokenCells}
-use Rattle.tree.specs.Table.{firstColumn, secondColumn, symbolAt}
+use Rattle.tree.specs.Table.{firstColumn, secondColumn}
 use Rattle.tree.specs.Trees.{Label, Tree, none, node, labelAt, operandAt, treeAt}
 use Rattle.tree.proofs.Unfold.{unfolds}
+use Rattle.tree_numbering.specs.Numbered.{size}
 use Rattle.token_grammar.specs.Tokens.{Token, code, LeftParen, RightParen, symbolOf, cellsOf}
-use Rattle.token_plain.specs.Written.{within, signsOf, tokensAt, hasPair}
-use Rattle.token_writer.specs.declared.signs.Few.{Few}
-use Rattle.token_writer.specs.declared.signs.Signs.{Signs}
-use Rattle.token_writer.specs.Puts.{spelled, symbolLines, symbolOn, cellsWith, Spells, oneIf, cellsAt}
-use Rattle.token_writer.proofs.Spelling.{one-if}
+use Rattle.token_plain.specs.Written.{Signs, within, signsOf, tokensAt}
+use Rattle.token_writer.specs.Levels.{needs, firstFrom, secondFrom, tokensBy, pairsBy}
+use Rattle.token_writer.specs.Tasks.{signsAt, cellsBy, pairsAt, closing, enterWork}
 
 -- ---- cells
 
@@ -40,83 +38,93 @@ unfolding pick
 within-by true inside rest = refl
 within-by false inside rest = refl
 
+-- the parts of a node's tokens, in a row: f and g write its operands
+abbrev inRowOf : Bool → Signs → List Token → List Token → List Token → List Token
+inRowOf pair s f g rest =
+    oneOf pair LeftParen ++ (s .before ++ (f ++ (s .between ++ (g ++ (s .behind ++ (oneOf pair RightParen ++ rest))))))
+
+-- what follows stands behind it
+abbrev Last : (List Token → List Token) → Type 0
+Last f = (rest : List Token) → f rest ≡ f [] ++ rest
+
+in-row-of : (pair : Bool) (s : Signs) (f g : List Token → List Token) → Last f → Last g → (rest : List Token)
+    → within pair (λ end. s .before ++ f (s .between ++ g (s .behind ++ end))) rest ≡ inRowOf pair s (f []) (g []) rest
+in-row-of pair s f g first second rest =
+    within-by pair _ rest
+    ∙ ap (λ r. oneOf pair LeftParen ++ (s .before ++ f (s .between ++ r))) (second (s .behind ++ (oneOf pair RightParen ++ rest)))
+    ∙ ap (λ r. oneOf pair LeftParen ++ (s .before ++ r)) (first (s .between ++ (g [] ++ (s .behind ++ (oneOf pair RightParen ++ rest)))))
+
+last-of : (pair : Bool) (s : Signs) (f g : List Token → List Token) → Last f → Last g → Last (within pair (λ end. s .before ++ f (s .between ++ g (s .behind ++ end))))
+last-of pair s f g first second rest =
+    in-row-of pair s f g first second rest ∙ sym (ap (λ (r : List Token). r ++ rest) (in-row-of pair s f g first second []) ∙ simp append-assoc)
+
+-- by the pairs of node numbers
 module _ (cells : List ℕ) (count : ℕ) (pair : ℕ → Bool) where
-  -- the parts of a node's tokens, in a row
-  abbrev pub inRow : ℕ → Label → Tree → Tree → List Token → List Token
-  inRow i l a b rest =
-      oneOf (pair i) LeftParen
-      ++ (signsOf l b .before
-      ++ (tokensAt cells count pair (operandAt cells count i firstColumn) a []
-      ++ (signsOf l b .between
-      ++ (tokensAt cells count pair (operandAt cells count i secondColumn) b []
-      ++ (signsOf l b .behind
-      ++ (oneOf (pair i) RightParen ++ rest))))))
-
-  -- so they stand where what follows an operand's tokens stands behind them
-  in-row-by : (i : ℕ) (l : Label) (a b : Tree)
-      → ((r : List Token) → tokensAt cells count pair (operandAt cells count i firstColumn) a r ≡ tokensAt cells count pair (operandAt cells count i firstColumn) a [] ++ r)
-      → ((r : List Token) → tokensAt cells count pair (operandAt cells count i secondColumn) b r ≡ tokensAt cells count pair (operandAt cells count i secondColumn) b [] ++ r)
-      → (rest : List Token) → tokensAt cells count pair i (node l a b) rest ≡ inRow i l a b rest
-  unfolding tokensAt
-  in-row-by i l a b first second rest =
-      within-by (pair i) _ rest
-      ∙ rw (second (signsOf l b .behind ++ (oneOf (pair i) RightParen ++ rest)))
-      (rw (first (signsOf l b .between ++ (tokensAt cells count pair (operandAt cells count i secondColumn) b [] ++ (signsOf l b .behind ++ (oneOf (pair i) RightParen ++ rest))))))
-
-  -- what follows a tree's tokens stands behind them
   pub rest-last : (i : ℕ) (t : Tree) (rest : List Token) → tokensAt cells count pair i t rest ≡ tokensAt cells count pair i t [] ++ rest
   unfolding tokensAt
   rest-last i none rest = refl
-  rest-last i (node l a b) rest =
-      let first = rest-last (operandAt cells count i firstColumn) a in
-      let second = rest-last (operandAt cells count i secondColumn) b in
-      in-row-by i l a b first second rest ∙ sym (ap (λ (s : List Token). s ++ rest) (in-row-by i l a b first second []) ∙ simp append-assoc)
+  rest-last i (node l a b) rest = last-of (pair i) (signsOf l b) _ _ (rest-last (operandAt cells count i firstColumn) a) (rest-last (operandAt cells count i secondColumn) b) rest
+
+  abbrev pub inRow : ℕ → Label → Tree → Tree → List Token → List Token
+  inRow i l a b rest =
+      inRowOf (pair i) (signsOf l b) (tokensAt cells count pair (operandAt cells count i firstColumn) a []) (tokensAt cells count pair (operandAt cells count i secondColumn) b []) rest
 
   pub in-row : (i : ℕ) (l : Label) (a b : Tree) → tokensAt cells count pair i (node l a b) [] ≡ inRow i l a b []
-  in-row i l a b = in-row-by i l a b (rest-last (operandAt cells count i firstColumn) a) (rest-last (operandAt cells count i secondColumn) b) []
+  unfolding tokensAt
+  in-row i l a b = in-row-of (pair i) (signsOf l b) _ _ (rest-last (operandAt cells count i firstColumn) a) (rest-last (operandAt cells count i secondColumn) b) []
 
--- ---- the cells of the tree at a node
+-- by places
+rest-by : (t : Tree) (p : ℕ) → Last (tokensBy p t)
+unfolding tokensBy
+rest-by none p rest = refl
+rest-by (node l a b) p rest = last-of (needs p l b) (signsOf l b) _ _ (rest-by a (firstFrom p (needs p l b) l)) (rest-by b (secondFrom p (needs p l b) l)) rest
 
-module _ (cells : List ℕ) (count : ℕ) (rows : List ℕ) (i : ℕ) where
-  pub put-nothing : treeAt cells count i ≡ none → (before : List ℕ) (at : ℕ) → Put before at (cellsAt cells count rows i) before at
-  unfolding cellsAt tokensAt
-  put-nothing e before at = rw e (put-none before at)
+row-by : (p : ℕ) (l : Label) (a b : Tree)
+    → tokensBy p (node l a b) [] ≡ inRowOf (needs p l b) (signsOf l b) (tokensBy (firstFrom p (needs p l b) l) a []) (tokensBy (secondFrom p (needs p l b) l) b []) []
+unfolding tokensBy
+row-by p l a b = in-row-of (needs p l b) (signsOf l b) _ _ (rest-by a (firstFrom p (needs p l b) l)) (rest-by b (secondFrom p (needs p l b) l)) []
 
-  module _ (low : 1 ≤ i) (high : i ≤ count) (pair : Bool) (is : pair ≡ hasPair rows i) (y : ℕ) (symbol : y ≡ symbolAt cells i) (s : Signs) (own : Spells (symbolAt cells i) s (signsOf (labelAt cells i) (treeAt cells count (operandAt cells count i secondColumn)))) where
-    abbrev with : Few → List ℕ
-    with f = cellsWith y (spelled f)
+-- ---- the tree at a node
 
-    spells : Spells y s (signsOf (labelAt cells i) (treeAt cells count (operandAt cells count i secondColumn)))
-    spells = rw symbol own
+module _ (cells : List ℕ) (count p i : ℕ) where
+  pub cells-none : treeAt cells count i ≡ none → cellsBy cells count p i ≡ []
+  unfolding cellsBy tokensBy
+  cells-none e = rw e
 
-    pub cells-parts : cellsAt cells count rows i
-        ≡ with (oneIf pair (code LeftParen)) ++ (with (s .before) ++ (cellsAt cells count rows (operandAt cells count i firstColumn) ++ (with (s .between) ++ (cellsAt cells count rows (operandAt cells count i secondColumn) ++ (with (s .behind) ++ with (oneIf pair (code RightParen)))))))
-    unfolding cellsAt symbolOn symbolLines lookup pick
+  pub pairs-none : treeAt cells count i ≡ none → pairsAt cells count p i ≡ 0
+  unfolding pairsBy
+  pairs-none e = rw e
+
+  module _ (low : 1 ≤ i) (high : i ≤ count) where
+    -- its label, its pair, and its operands
+    abbrev pub own : Label
+    own = labelAt cells i
+
+    abbrev pub paired : Bool
+    paired = needs p own (treeAt cells count (operandAt cells count i secondColumn))
+
+    abbrev pub firstCells : List ℕ
+    firstCells = cellsBy cells count (firstFrom p paired own) (operandAt cells count i firstColumn)
+
+    abbrev pub secondCells : List ℕ
+    secondCells = cellsBy cells count (secondFrom p paired own) (operandAt cells count i secondColumn)
+
+    pub cells-parts : cellsBy cells count p i
+        ≡ cellsOf (oneOf paired LeftParen)
+        ++ (cellsOf (signsAt cells count i .before)
+        ++ (firstCells ++ (cellsOf (signsAt cells count i .between) ++ (secondCells ++ (cellsOf (signsAt cells count i .behind) ++ cellsOf (closing paired))))))
+    unfolding cellsBy
     cells-parts =
-        ap (λ (t : Tree). cellsOf (tokensAt cells count (hasPair rows) i t [])) (unfolds cells count i low high)
-        ∙ ap cellsOf (in-row cells count (hasPair rows) i _ _ _)
+        ap (λ (t : Tree). cellsOf (tokensBy p t [])) (unfolds cells count i low high)
+        ∙ ap cellsOf (row-by p own (treeAt cells count (operandAt cells count i firstColumn)) (treeAt cells count (operandAt cells count i secondColumn)))
         ∙ simp (cells-append, append-nil)
-        (rw (is, one-if y (hasPair rows i) LeftParen refl, one-if y (hasPair rows i) RightParen refl, spells .before, spells .between, spells .behind))
 
-    pub length-parts : length (cellsAt cells count rows i)
-        ≡ length (with (oneIf pair (code LeftParen))) + (length (with (s .before)) + (length (cellsAt cells count rows (operandAt cells count i firstColumn)) + (length (with (s .between)) + (length (cellsAt cells count rows (operandAt cells count i secondColumn)) + (length (with (s .behind)) + length (with (oneIf pair (code RightParen))))))))
-    length-parts = ap length cells-parts ∙ simp length-append
+    pub pairs-parts : pairsAt cells count p i
+        ≡ bitOf paired
+        + (pairsAt cells count (firstFrom p paired own) (operandAt cells count i firstColumn) + pairsAt cells count (secondFrom p paired own) (operandAt cells count i secondColumn))
+    unfolding pairsBy
+    pairs-parts = ap (pairsBy p) (unfolds cells count i low high)
 
-    pub put-parts : (f : Few) → f ≡ oneIf pair (code LeftParen) → (g : Few) → g ≡ oneIf pair (code RightParen) → (o : ℕ) → o ≡ operandAt cells count i firstColumn → (p : ℕ) → p ≡ operandAt cells count i secondColumn
-        → {t0 t1 t2 t3 t4 t5 t6 t7 : List ℕ} {n0 n1 n2 n3 n4 n5 n6 n7 : ℕ}
-        → Put t0 n0 (with f) t1 n1
-        → Put t1 n1 (with (s .before)) t2 n2
-        → Put t2 n2 (cellsAt cells count rows o) t3 n3
-        → Put t3 n3 (with (s .between)) t4 n4
-        → Put t4 n4 (cellsAt cells count rows p) t5 n5
-        → Put t5 n5 (with (s .behind)) t6 n6
-        → Put t6 n6 (with g) t7 n7
-        → Put t0 n0 (cellsAt cells count rows i) t7 n7
-    put-parts f ef g eg o eo p ep a b c d e h k =
-        rw cells-parts
-        (put-more (rw ef at a)
-        (put-more b
-        (put-more (rw eo at c)
-        (put-more d
-        (put-more (rw ep at e)
-        (put-more h (rw eg at k)))))))
+    pub work-parts : enterWork cells count i + 2 ≡ enterWork cells count (operandAt cells count i firstColumn) + (enterWork cells count (operandAt cells count i secondColumn) + 5)
+    unfolding enterWork size
+    work-parts = rw (unfolds cells count i low high) (omega arith)

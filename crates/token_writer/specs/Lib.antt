@@ -1,2 +1,4 @@
 pub mod Writes
 pub mod Puts
+pub mod Levels
+pub mod Tasks

@@ -5,9 +5,7 @@ use mathlib.Core.List.{List, [], _∷_}
 use Prim.Native.Nat.{ℕ}
 use lib.Dec.{eqb}
 use Rattle.laws.specs.Choice.{pick, Line, line, lookup}
-use Rattle.tree.specs.Trees.{treeAt}
 use Rattle.token_grammar.specs.Tokens.{code, operator, Lt, Gt, Name, Literal, NumberedMember, cellsOf}
-use Rattle.token_plain.specs.Written.{tokensAt, hasPair}
 use Rattle.token_plain.specs.Written as plain
 use Rattle.token_writer.specs.declared.signs.Few.{Few}
 use Rattle.token_writer.specs.declared.signs.Few.the-variants.{Nothing, One, Two, Three}
@@ -62,9 +60,3 @@ pathType detail = pick (eqb detail 2) (made (Two (code (Name 0)) (code (operator
 -- a code where a test holds
 abbrev pub oneIf : Bool → ℕ → Few
 oneIf test n = pick test (One n) Nothing
-
--- ---- a tree's tokens
-
--- the cells of the tokens of the tree at node i
-unfoldable pub cellsAt : List ℕ → ℕ → List ℕ → ℕ → List ℕ
-cellsAt cells count rows i = cellsOf (tokensAt cells count (hasPair rows) i (treeAt cells count i) [])

@@ -1,8 +1,16 @@
 // The tokens of a plain tree, with the pairs that its rows have.
+mod levels; // levels.rt: which nodes get pairs
 mod plainness; // plainness.rt: whether a table is plain
 mod signs; // signs.rt: a node's own tokens
 
+use bools::and_not;
 use bools::bit;
+use levels::CONDITIONAL;
+use levels::condition_in;
+use levels::first_place;
+use levels::needs_pair;
+use levels::opens_in;
+use levels::second_place;
 use plainness::is_plain_table;
 use signs::Few;
 use signs::one_if;
@@ -15,18 +23,17 @@ use tree::table::operand_number;
 use tree_one_pass::check;
 ghost use mathlib.Core.Path.{_≡_};
 ghost use mathlib.Core.List.{[], _∷_};
-ghost use Prim.Native.Nat.{_+_, _*_, _-_, _≤_};
-ghost use lib.ListN.{length, getD, replicate};
+ghost use Prim.Native.Nat.{_+_, _*_, _/_, _≤_, _<_};
+ghost use lib.ListN.{length, getD, set};
+ghost use Rattle.laws.specs.Choice.{pick};
 ghost use Rattle.laws.specs.Lists.{over};
 ghost use Rattle.laws.specs.Puts.{Put};
-ghost use Rattle.tree.specs.Sizes.{rowCells, tokenCells, mostTokens};
+ghost use Rattle.tree.specs.Sizes.{tokenCells, mostNodes, mostTokens};
 ghost use Rattle.tree_rules.specs.Refusals.{refusal};
-ghost use Rattle.tree_numbering.specs.Sums.{sum};
-ghost use Rattle.token_plain.specs.Written.{hasPair};
-ghost use Rattle.token_grammar.specs.Tokens.{cellsOf};
 ghost use Rattle.token_writer.specs.declared.Written.the-variants.{Tokens};
-ghost use Rattle.token_writer.specs.Puts.{spelled, symbolOn, cellsWith, cellsAt};
-ghost use Rattle.token_writer.specs.Writes.{takesContext, written, onePair, pairsWritten, answered, tokensAfter};
+ghost use Rattle.token_writer.specs.Puts.{spelled, symbolOn, cellsWith};
+ghost use Rattle.token_writer.specs.Tasks.{taskOf, betweenTask, behindTask, lastTask, cellsBy, pairsAt, signCells, taskCells, enterWork, taskWork, laid, waiting, Turned, rootIn, tasksFor};
+ghost use Rattle.token_writer.specs.Writes.{takesContext, answered, tokensAfter};
 
 // The cells of the tokens that the writer asks room for, a node.
 const NODE_TOKENS: usize = sizes::TOKEN_CELLS * sizes::TOKENS_PER_NODE;
@@ -43,6 +50,29 @@ pub enum Written {
     // How many pairs were added, and how many tokens the lent buffer now holds, two cells each.
     Tokens(u16, u16),
 }
+
+// What a turn leaves: how many tasks wait, the place behind what is written, and the pairs that it opened.
+pub struct Turn {
+    pub depth: usize,
+    pub at: usize,
+    pub pairs: u16,
+}
+
+// A task is a node's number, and so many steps more for what is to be done: its tree written at a place, or what stands between its operands put, or behind them, or with the end of its pair.
+const TASK_STEP: u32 = 65_536;
+
+const BETWEEN: u16 = 256;
+
+const BEHIND: u16 = 257;
+
+const LAST: u16 = 258;
+
+// How many tasks wait at most, by the nodes of the tree: small trees get a small stack.
+const FEW_NODES: u16 = 64;
+
+const FEW_TASKS: usize = 1 + 4 * (FEW_NODES as usize);
+
+const MOST_TASKS: usize = 1 + 4 * (sizes::MOST_NODES as usize);
 
 // The symbol beside a code: the node's on a name, a literal or a numbered member.
 fn symbol_on(code: u16, symbol: u16) -> u16
@@ -86,102 +116,213 @@ fn put(tokens: &mut [u16], at: usize, few: Few, symbol: u16) -> usize
     }
 }
 
-// The pair of a node's row, which is its first cell; 0 outside the rows.
-fn pair_at(rows: &[u16], node: u16) -> u16
-    requires { ⌜ 1 ≤ node ⌝ }
-    ensures { λ r. ⌜ r ≡ getD (now (rows .entry)) (rowCells * (node - 1)) 0 ⌝ }
+// A task on top of the stack; answers how many there are now.
+fn push(stack: &mut [u32], depth: usize, node: u16, what: u16) -> usize
+    requires { ⌜ depth < length (now stack) ⌝ }
+    ensures { λ r. ⌜ (now (stack .exit) ≡ set (now (stack .entry)) depth (taskOf node what)) × (r ≡ 1 + depth) × (length (now (stack .exit)) ≡ length (now (stack .entry))) ⌝ }
 {
-    let at = sizes::ROW_CELLS * ((node - 1) as usize);
-    if at < rows.len() { rows[at] } else { 0 }
+    stack[depth] = (node as u32) + TASK_STEP * (what as u32);
+    depth + 1
 }
 
-// Whether a node's row has an outer pair.
-fn has_pair(rows: &[u16], node: u16) -> bool
-    requires { ⌜ 1 ≤ node ⌝ }
-    ensures { λ r. ⌜ r ≡ hasPair (now (rows .entry)) node ⌝ }
+// What waits of a node: its first operand first, at its place, then what stands between the two, the second, and what stands behind it.
+fn lay(
+    stack: &mut [u32],
+    depth: usize,
+    node: u16,
+    last: u16,
+    second: u16,
+    after: u16,
+    first: u16,
+    ahead: u16,
+) -> usize
+    requires { ⌜ 4 + depth ≤ length (now stack) ⌝ }
+    ensures { λ r. ⌜ (now (stack .exit) ≡ laid (now (stack .entry)) depth (taskOf node last) (taskOf second after) (taskOf node betweenTask) (taskOf first ahead)) × (r ≡ 4 + depth) ⌝ }
 {
-    match pair_at(rows, node) {
-        1 | 3 => true,
-        _ => false,
-    }
+    let one = push(stack, depth, node, last);
+    let two = push(stack, one, second, after);
+    let three = push(stack, two, node, BETWEEN);
+    push(stack, three, first, ahead)
 }
 
-// How many of the nodes have a row whose pair is 1.
-fn pairs_in(rows: &[u16], count: u16) -> u16
-    ensures { λ r. ⌜ r ≡ sum (onePair (now (rows .entry))) count ⌝ }
+// The last task of a node: with the end of its pair, if it has one.
+fn last_of(pair: bool) -> u16
+    ensures { λ r. ⌜ r ≡ pick pair lastTask behindTask ⌝ }
 {
-    let mut pairs: u16 = 0;
-    let mut done: u16 = 0;
-    while done < count {
-        done += 1;
-        pairs += bit(pair_at(rows, done) == 1);
-    }
-    pairs
+    if pair { LAST } else { BEHIND }
 }
 
-// The tokens of a node and of all below it from `at` on; answers the place behind them. Number 0 stands for an
-// operand that is absent.
-fn write_from(
+// The same with what the node hands down from its place.
+fn wait(
     table: &[u16],
     count: u16,
-    rows: &[u16],
     node: u16,
+    here: u16,
+    pair: bool,
+    stack: &mut [u32],
+    depth: usize,
+) -> usize
+    requires { ⌜ 4 + depth ≤ length (now stack) ⌝ }
+    ensures { λ r. ⌜ (now (stack .exit) ≡ waiting (now (table .entry)) count node here pair (now (stack .entry)) depth) × (r ≡ 4 + depth) ⌝ }
+{
+    let form = cell(table, node, columns::FORM);
+    let detail = cell(table, node, columns::DETAIL);
+    let opens = and_not(opens_in(here), pair);
+    let condition = and_not(condition_in(here), pair);
+    let first = operand_number(table, count, node, columns::FIRST);
+    let second = operand_number(table, count, node, columns::SECOND);
+    let ahead = first_place(form, detail, opens, condition);
+    let after = second_place(form, detail, opens, condition);
+    lay(
+        stack,
+        depth,
+        node,
+        last_of(pair),
+        second,
+        after,
+        first,
+        ahead,
+    )
+}
+
+// The tree at a node is to be written at a place: what stands before its first operand, and the rest waits. Number 0 stands for an operand that is absent.
+fn enter(
+    table: &[u16],
+    count: u16,
+    node: u16,
+    here: u16,
+    stack: &mut [u32],
+    depth: usize,
     tokens: &mut [u16],
     at: usize,
-) -> usize
-    requires { ⌜ at + length (cellsAt (now table) count (now rows) node) ≤ length (now tokens) ⌝ }
-    ensures { λ r. ⌜ Put (now (tokens .entry)) at (cellsAt (now (table .entry)) count (now (rows .entry)) node) (now (tokens .exit)) r ⌝ }
+) -> Turn
+    requires { ⌜ (here < betweenTask) × (depth + enterWork (now table) count node ≤ length (now stack)) × (at + length (cellsBy (now table) count here node) ≤ length (now tokens)) ⌝ }
+    ensures { λ r. ⌜ Turned (now (table .entry)) count (taskOf node here) (now (stack .entry)) depth (now (tokens .entry)) at (now (stack .exit)) (now (tokens .exit)) r ⌝ }
 {
     if node == 0 {
-        return at;
+        return Turn {
+            depth: depth,
+            at: at,
+            pairs: 0,
+        };
     }
     if count < node {
-        return at;
+        return Turn {
+            depth: depth,
+            at: at,
+            pairs: 0,
+        };
     }
     let symbol = cell(table, node, columns::SYMBOL);
-    let pair = has_pair(rows, node);
+    let pair = needs_pair(table, count, node, here);
     let signs = signs_at(table, count, node);
     let before = signs.before;
-    let between = signs.between;
-    let behind = signs.behind;
     let open = put(tokens, at, one_if(pair, codes::LEFT_PAREN), symbol);
-    let first = put(tokens, open, before, symbol);
-    let after_first = write_from(
-        table,
-        count,
-        rows,
-        operand_number(table, count, node, columns::FIRST),
-        tokens,
-        first,
-    );
-    let second = put(tokens, after_first, between, symbol);
-    let after_second = write_from(
-        table,
-        count,
-        rows,
-        operand_number(table, count, node, columns::SECOND),
-        tokens,
-        second,
-    );
-    let close = put(tokens, after_second, behind, symbol);
-    put(tokens, close, one_if(pair, codes::RIGHT_PAREN), symbol)
+    let next = put(tokens, open, before, symbol);
+    let top = wait(table, count, node, here, pair, stack, depth);
+    Turn {
+        depth: top,
+        at: next,
+        pairs: bit(pair),
+    }
 }
 
-// The tokens of an accepted plain table, with the rows made in a buffer of just the length that they need.
-fn write_plain(
-    context: u16,
-    count: u16,
-    table: &[u16],
-    rows: &mut [u16],
-    tokens: &mut [u16],
-) -> Written
-    requires { ⌜ (now rows ≡ replicate (rowCells * count) 0) × (tokenCells * length (written context count (now table)) ≤ length (now tokens)) × (length (written context count (now table)) ≤ mostTokens) ⌝ }
-    ensures reply { λ r. ⌜ r ≡ Tokens (pairsWritten context count (now (table .entry))) (length (written context count (now (table .entry)))) ⌝ }
-    ensures tokens { λ r. ⌜ now (tokens .exit) ≡ over (cellsOf (written context count (now (table .entry)))) (now (tokens .entry)) ⌝ }
+// A node's own tokens between its operands, or behind them.
+fn settle(table: &[u16], count: u16, node: u16, what: u16, tokens: &mut [u16], at: usize) -> usize
+    requires { ⌜ at + length (signCells (now table) count what node) ≤ length (now tokens) ⌝ }
+    ensures { λ r. ⌜ Put (now (tokens .entry)) at (signCells (now (table .entry)) count what node) (now (tokens .exit)) r ⌝ }
 {
-    row_walk::decide(context, count, table, rows);
-    let end = write_from(table, count, rows, 1, tokens, 0);
-    Written::Tokens(pairs_in(rows, count), (end / sizes::TOKEN_CELLS) as u16)
+    let symbol = cell(table, node, columns::SYMBOL);
+    let signs = signs_at(table, count, node);
+    let between = signs.between;
+    let behind = signs.behind;
+    if what == BETWEEN {
+        return put(tokens, at, between, symbol);
+    }
+    let end = put(tokens, at, behind, symbol);
+    put(
+        tokens,
+        end,
+        one_if(what == LAST, codes::RIGHT_PAREN),
+        symbol,
+    )
+}
+
+// The task that lies `depth` deep, on top of the others, is done, or a part of it.
+fn take(
+    table: &[u16],
+    count: u16,
+    stack: &mut [u32],
+    depth: usize,
+    tokens: &mut [u16],
+    at: usize,
+) -> Turn
+    requires { ⌜ (depth < length (now stack)) × (depth + taskWork (now table) count (getD (now stack) depth 0) ≤ length (now stack)) × (at + length (taskCells (now table) count (getD (now stack) depth 0)) ≤ length (now tokens)) ⌝ }
+    ensures { λ r. ⌜ Turned (now (table .entry)) count (getD (now (stack .entry)) depth 0) (now (stack .entry)) depth (now (tokens .entry)) at (now (stack .exit)) (now (tokens .exit)) r ⌝ }
+{
+    let task = stack[depth];
+    let what = (task / TASK_STEP) as u16;
+    let node = (task % TASK_STEP) as u16;
+    if what < BETWEEN {
+        return enter(table, count, node, what, stack, depth, tokens, at);
+    }
+    Turn {
+        depth: depth,
+        at: settle(table, count, node, what, tokens, at),
+        pairs: 0,
+    }
+}
+
+// The tokens of the tree at node 1, which stands at a place: turn by turn, until nothing waits.
+fn write_tree(table: &[u16], count: u16, here: u16, stack: &mut [u32], tokens: &mut [u16]) -> Turn
+    requires { ⌜ (here < betweenTask) × (enterWork (now table) count 1 ≤ length (now stack)) × (length (cellsBy (now table) count here 1) ≤ length (now tokens)) × (pairsAt (now table) count here 1 ≤ mostNodes) ⌝ }
+    ensures { λ r. ⌜ Put (now (tokens .entry)) 0 (cellsBy (now (table .entry)) count here 1) (now (tokens .exit)) (r .at) × (r .pairs ≡ pairsAt (now (table .entry)) count here 1) ⌝ }
+{
+    let mut at: usize = 0;
+    let mut pairs: u16 = 0;
+    let mut depth: usize = push(stack, 0, 1, here);
+    while 0 < depth {
+        let next = take(table, count, stack, depth - 1, tokens, at);
+        at = next.at;
+        pairs += next.pairs;
+        depth = next.depth;
+    }
+    Turn {
+        depth: depth,
+        at: at,
+        pairs: pairs,
+    }
+}
+
+// The place of the root.
+fn root_place(context: u16) -> u16
+    ensures { λ r. ⌜ (r ≡ rootIn context) × (r < betweenTask) ⌝ }
+{
+    CONDITIONAL * bit(context == CONDITION)
+}
+
+// What was written in all, as an answer.
+fn told(turn: Turn) -> Written
+    requires { ⌜ turn .at ≤ tokenCells * mostTokens ⌝ }
+    ensures { λ r. ⌜ r ≡ Tokens (turn .pairs) (turn .at / tokenCells) ⌝ }
+{
+    let end = turn.at;
+    Written::Tokens(turn.pairs, (end / sizes::TOKEN_CELLS) as u16)
+}
+
+// The tokens of an accepted plain table.
+fn write_plain(context: u16, count: u16, table: &[u16], tokens: &mut [u16]) -> Written
+    requires { ⌜ (enterWork (now table) count 1 ≤ tasksFor count) × (count ≤ mostNodes) × (pairsAt (now table) count (rootIn context) 1 ≤ mostNodes) × (length (cellsBy (now table) count (rootIn context) 1) ≤ length (now tokens)) × (length (cellsBy (now table) count (rootIn context) 1) ≤ tokenCells * mostTokens) ⌝ }
+    ensures reply { λ r. ⌜ r ≡ Tokens (pairsAt (now (table .entry)) count (rootIn context) 1) (length (cellsBy (now (table .entry)) count (rootIn context) 1) / tokenCells) ⌝ }
+    ensures tokens { λ r. ⌜ now (tokens .exit) ≡ over (cellsBy (now (table .entry)) count (rootIn context) 1) (now (tokens .entry)) ⌝ }
+{
+    let here = root_place(context);
+    if count <= FEW_NODES {
+        let mut stack = [0u32; FEW_TASKS];
+        return told(write_tree(table, count, here, &mut stack, tokens));
+    }
+    let mut stack = [0u32; MOST_TASKS];
+    told(write_tree(table, count, here, &mut stack, tokens))
 }
 
 // Whether the tokens of a tree in this context are written.
@@ -216,7 +357,5 @@ pub fn write(context: u16, count: u16, table: &[u16], tokens: &mut [u16]) -> Wri
     if !is_plain_table(count, table) {
         return Written::Refused(13);
     }
-    let mut rows = [0u16; sizes::ROW_CELLS * (sizes::MOST_NODES as usize)];
-    let row_cells = sizes::ROW_CELLS * nodes;
-    write_plain(context, count, table, &mut rows[..row_cells], tokens)
+    write_plain(context, count, table, tokens)
 }

@@ -1,0 +1,38 @@
+-- `token_writer::take` meets its contract. Assumes nothing.
+use Prim.Native.Nat.{_/_, _%_}
+use lib.ListN.{getD}
+use native.Mathlib.Omega.{arith}
+use borrow.Author.Needs.{needs}
+use Rattle.token_writer.specs.Tasks.{taskStep}
+use Rattle.token_writer.proofs.Tasks.{taken-place, taken-sign, put-together}
+use Rattle.token_writer.proofs.Turns.{turned-sign}
+use Rattle.token_writer.proofs.take.Statement.{statement}
+use Rattle.token_writer.proofs.take.Tie as tie
+
+enter-requires : tie.Need-enter-requires
+enter-requires c κs =
+    let a = c .before .before .before .before .before .before .before .args in
+    let p = c .before .before .before .before .before .before .before .pre in
+    let t = taken-place (a .table .now) (a .count) _ (c .before .before .if1 .taken) in
+    (c .before .before .if1 .taken, rw (← t .1) (p .1), rw (← t .0) (p .2))
+
+returns : tie.Need-returns
+returns c =
+    let a = c .before .before .before .before .before .before .before .before .before .before .before .before .args in
+    rw (put-together (getD (a .stack .now) (a .depth) 0)) at (c .before .before .before .before .enter .ensures)
+
+settle-requires : tie.Need-settle-requires
+settle-requires c κs =
+    let a = c .before .before .before .before .before .before .args in
+    let p = c .before .before .before .before .before .before .pre in
+    rw (← taken-sign (a .table .now) (a .count) _ (c .before .if1 .left)) (p .2)
+
+returns-2 : tie.Need-returns-2
+returns-2 c =
+    let a = c .before .before .before .before .before .before .before .before .before .args in
+    let t = getD (a .stack .now) (a .depth) 0 in
+    rw (put-together t) at (turned-sign (a .table .now) (a .count) (t % taskStep) (t / taskStep) (c .before .before .before .before .if1 .left) (omega arith) (a .stack .now) (a .depth) (a .tokens .now) (a .at) _ _ (c .before .before .settle .ensures))
+
+pub take-spec : {M : Type 1} → statement M
+take-spec =
+    tie.close (tie.spec (λ c. search needs) (λ c. let p = c .before .before .before .before .pre in omega arith) (λ c. omega (arith, c .before .before .slice-known .given (c .before .before .before .before .args .depth))) (λ c. omega arith) enter-requires (λ c. search needs) (λ c. search needs) returns settle-requires (λ c. search needs) returns-2)
