@@ -1,5 +1,6 @@
 pub mod Cells
 pub mod Nodes
+pub mod Mirrored
 pub mod First
 pub mod Lists
 pub mod Tells

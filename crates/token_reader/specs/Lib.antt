@@ -1,3 +1,4 @@
 pub mod Reading
 pub mod Tables
 pub mod Pieces
+pub mod Mirrored

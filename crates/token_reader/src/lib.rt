@@ -1,16 +1,17 @@
 // The reading of a token list, as a node table.
 mod expressions; // expressions.rt: expressions and their lists
 mod node; // node.rt: the reader's own table
+mod numbering; // numbering.rt: its nodes numbered anew
 mod piece; // piece.rt: what is handed on
 mod token; // token.rt: what a token says
 mod types; // types.rt: types and their lists
 
 use expressions::expr;
+use numbering::number;
 use token::is_token;
 use token_grammar::level;
 use tree::sizes;
 use tree_numbering::Renumbered;
-use tree_numbering::renumber;
 ghost use mathlib.Core.Path.{_≡_};
 ghost use Prim.Native.Nat.{_*_, _≤_};
 ghost use lib.ListN.{length};
@@ -83,7 +84,7 @@ fn read_by(tokens: &[u16], own: &mut [u16], nodes: u16, table: &mut [u16], condi
     if whole.at != tokens.len() / sizes::TOKEN_CELLS {
         return Reply::Refused(15);
     }
-    reply_of(renumber(own, OWN, whole.free + 1, table))
+    reply_of(number(own, nodes, whole.free, table))
 }
 
 // The same for few tokens, with an array that is quickly made.
