@@ -29,10 +29,18 @@ const TOKENS: usize = sizes::TOKEN_CELLS * sizes::MOST_TOKENS;
 // The most nodes of the reader's own table: a node has a token of its own, so that one for each token is enough.
 const OWN: u16 = sizes::MOST_TOKENS as u16;
 
-// The nodes of one that is quickly made, and the cells of as many tokens.
-const FEW: u16 = 512;
+// The nodes of those that are quickly made, and the cells of as many tokens.
+const FEW: u16 = 32;
 
 const FEW_TOKENS: usize = sizes::TOKEN_CELLS * (FEW as usize);
+
+const SOME: u16 = 512;
+
+const SOME_TOKENS: usize = sizes::TOKEN_CELLS * (SOME as usize);
+
+const MANY: u16 = 8_192;
+
+const MANY_TOKENS: usize = sizes::TOKEN_CELLS * (MANY as usize);
 
 // The contexts that the reader takes.
 const NONE: u16 = 0;
@@ -88,12 +96,30 @@ fn read_by(tokens: &[u16], own: &mut [u16], nodes: u16, table: &mut [u16], condi
 }
 
 // The same for few tokens, with an array that is quickly made.
-fn read_small(tokens: &[u16], table: &mut [u16], condition: bool) -> Reply
-    requires { ⌜ Readable (now tokens) (now table) × (length (now tokens) ≤ tokenCells * 512) ⌝ }
+fn read_few(tokens: &[u16], table: &mut [u16], condition: bool) -> Reply
+    requires { ⌜ Readable (now tokens) (now table) × (length (now tokens) ≤ tokenCells * 32) ⌝ }
     ensures { λ r. ⌜ AnswersIn (standsIn condition) (now (tokens .entry)) (now (table .entry)) r (now (table .exit)) ⌝ }
 {
     let mut own = [0u16; sizes::NODE_CELLS * (FEW as usize)];
     read_by(tokens, &mut own, FEW, table, condition)
+}
+
+// The same for some more.
+fn read_some(tokens: &[u16], table: &mut [u16], condition: bool) -> Reply
+    requires { ⌜ Readable (now tokens) (now table) × (length (now tokens) ≤ tokenCells * 512) ⌝ }
+    ensures { λ r. ⌜ AnswersIn (standsIn condition) (now (tokens .entry)) (now (table .entry)) r (now (table .exit)) ⌝ }
+{
+    let mut own = [0u16; sizes::NODE_CELLS * (SOME as usize)];
+    read_by(tokens, &mut own, SOME, table, condition)
+}
+
+// The same for many.
+fn read_many(tokens: &[u16], table: &mut [u16], condition: bool) -> Reply
+    requires { ⌜ Readable (now tokens) (now table) × (length (now tokens) ≤ tokenCells * 8192) ⌝ }
+    ensures { λ r. ⌜ AnswersIn (standsIn condition) (now (tokens .entry)) (now (table .entry)) r (now (table .exit)) ⌝ }
+{
+    let mut own = [0u16; sizes::NODE_CELLS * (MANY as usize)];
+    read_by(tokens, &mut own, MANY, table, condition)
 }
 
 // The same for any number of tokens.
@@ -119,7 +145,13 @@ fn read_in(tokens: &[u16], table: &mut [u16], condition: bool) -> Reply
         return Reply::Refused(14);
     }
     if tokens.len() <= FEW_TOKENS {
-        return read_small(tokens, table, condition);
+        return read_few(tokens, table, condition);
+    }
+    if tokens.len() <= SOME_TOKENS {
+        return read_some(tokens, table, condition);
+    }
+    if tokens.len() <= MANY_TOKENS {
+        return read_many(tokens, table, condition);
     }
     read_large(tokens, table, condition)
 }
