@@ -59,11 +59,11 @@ pub enum Reply {
 fn are_tokens(tokens: &[u16]) -> bool
     ensures { λ r. ⌜ r ≡ areTokens (now (tokens .entry)) ⌝ }
 {
+    if sizes::TOKEN_CELLS * (tokens.len() / sizes::TOKEN_CELLS) < tokens.len() {
+        return false;
+    }
     let mut at = 0;
     while at < tokens.len() {
-        if tokens.len() - at < sizes::TOKEN_CELLS {
-            return false;
-        }
         if !is_token(tokens[at], tokens[at + 1]) {
             return false;
         }
