@@ -4,10 +4,9 @@ use mathlib.Core.Bool.{Bool, true, false, _||_}
 use mathlib.Core.List.{List, [], _∷_}
 use Prim.Native.Nat.{ℕ, suc, _+_, _*_, _-_, _≤_, _<_}
 use native.Mathlib.Omega.{arith}
-use native.Mathlib.Numerals.{towards-suc}
 use native.Mathlib.Decide.{decLe}
 use lib.Dec.{ltb}
-use lib.ListN.{length, set, length-set}
+use lib.ListN.{length}
 use borrow.Author.Tests.{lt-ltb, le-ltb}
 use Rattle.laws.specs.Each.{some}
 use Rattle.laws.specs.Lists.{over}
@@ -106,7 +105,3 @@ module _ (count : ℕ) (held : List ℕ) where
   pub none-yet : some (outside count held) 0 ≡ false
   unfolding some
   none-yet = refl
-
--- six numbers
-pub put-six : (before : List ℕ) (at a b c d e f : ℕ) → Put before at (a ∷ b ∷ c ∷ d ∷ e ∷ f ∷ []) (set (set (set (set (set (set before at a) (at + attributesColumn) b) (at + detailColumn) c) (at + firstColumn) d) (at + secondColumn) e) (at + symbolColumn) f) (at + nodeCells)
-put-six before at a b c d e f = record { cells = simp towards-suc; ends = refl; room = simp length-set }

@@ -6,8 +6,7 @@ use Prim.Native.Nat.{ℕ, suc, _*_, _-_, _≤_, _<_}
 use native.Mathlib.Omega.{arith}
 use native.Mathlib.Decide.{decLe}
 use lib.Dec.{ltb}
-use lib.ListN.{length, take, drop, length-drop, take-append-drop}
-use lib.Seq.{length-take-le}
+use lib.ListN.{length, take, drop, length-drop}
 use borrow.Author.Tests.{eq-eqb, ne-eqb, lt-ltb, le-ltb, ltb-false}
 use Rattle.laws.specs.Lists.{over}
 use Rattle.laws.proofs.Choice.{pick-true, pick-false, true-not-false, or-false}
@@ -268,10 +267,3 @@ pub numbers-stored : (file table : List ℕ) (context count at : ℕ) → Begun 
 unfolding numbersLoaded numbersTable cellsIn
 numbers-stored file table context count at b e =
     (sym (pick-true _ _ (eq-eqb _ 0 e) ∙ rw (b .is-context, b .is-count)), rw (← b .is-body) (sym (pick-true _ _ (eq-eqb _ 0 e))))
-
--- the table once all its cells are stored
-pub all-stored : (n : ℕ) (bytes r new old : List ℕ) → numbersOf n bytes ≡ numbers (take n new) r → drop n new ≡ drop n old → n ≤ length new → new ≡ over (valuesIn (numbersOf n bytes)) old
-unfolding over valuesIn
-all-stored n bytes r new old e d l =
-    let k = length-take-le n new l in
-    sym (take-append-drop n new) ∙ rw (e, k, d)

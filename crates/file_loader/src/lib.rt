@@ -1,17 +1,21 @@
 // Tree files: the loader of a file into a lent node table.
 use file_numbers::Number;
 use file_numbers::number_at;
+use file_numbers::wide;
+use tree::offsets;
 use tree::sizes;
 ghost use mathlib.Core.Path.{_≡_};
 ghost use mathlib.Core.Bool.{false};
-ghost use Prim.Native.Nat.{_+_, _≤_, _<_};
+ghost use Prim.Native.Nat.{_+_, _*_, _≤_, _<_};
 ghost use lib.ListN.{length, drop};
 ghost use Rattle.laws.specs.Lists.{over};
 ghost use Rattle.tree.specs.Sizes.{nodeCells, mostFileBytes};
-ghost use Rattle.tree_source.specs.Source.{behindHeader};
+ghost use Rattle.file_numbers.specs.Numbers.{malformed};
+ghost use Rattle.tree_source.specs.Source.{nextAt, behindHeader};
+ghost use Rattle.file_loader.specs.declared.Body.the-variants.{End};
 ghost use Rattle.file_loader.specs.Several.{numbersOf, isBroken, valuesIn};
 ghost use Rattle.file_loader.specs.Files.{badBody, fileRefusal, loaded, loadedTable, numbersLoaded, numbersTable};
-ghost use Rattle.file_loader.specs.Reads.{HeaderRead, Passed, LaidOut, Begun, Counted, bodyRefusal};
+ghost use Rattle.file_loader.specs.Reads.{HeaderRead, Passed, LaidOut, KnownAt, StoredNode, Begun, Counted, bodyRefusal};
 
 // ---- several numbers
 
@@ -82,6 +86,71 @@ fn after_numbers(file: &[u8], from: usize, numbers: usize) -> Body
     Body::End(at)
 }
 
+// The place after the number that starts at a place where three bytes are left; 0 where it is malformed.
+fn skip_at(file: &[u8], at: usize) -> usize
+    requires { ⌜ at + 2 < length (now file) ⌝ }
+    ensures { λ r. ⌜ (r ≡ nextAt (now (file .entry)) at) × (r ≤ at + 3) ⌝ }
+{
+    let low = wide(file[at]);
+    if low < 128 {
+        return at + 1;
+    }
+    let middle = wide(file[at + 1]);
+    if middle == 0 {
+        return 0;
+    }
+    if middle < 128 {
+        return at + 2;
+    }
+    let high = wide(file[at + 2]);
+    if high == 0 {
+        return 0;
+    }
+    if high > 3 {
+        return 0;
+    }
+    at + 3
+}
+
+// The bytes that a node has at most whose form, attributes and detail are a byte each.
+const QUICK: usize = 12;
+
+// The place after a node's numbers from a place on, where so many bytes are left and its first three numbers are small, as they are in accepted files; 0 otherwise.
+fn after_quick_node(file: &[u8], at: usize) -> usize
+    ensures { λ r. ⌜ ((r ≡ 0 → ⊥) → Passed (now (file .entry)) at nodeCells (End r)) ⌝ }
+{
+    let end = file.len();
+    if end < QUICK {
+        return 0;
+    }
+    if end - QUICK < at {
+        return 0;
+    }
+    if 127 < wide(file[at]) + wide(file[at + 1]) + wide(file[at + 2]) {
+        return 0;
+    }
+    let second = skip_at(file, at + 3);
+    if second == 0 {
+        return 0;
+    }
+    let symbol = skip_at(file, second);
+    if symbol == 0 {
+        return 0;
+    }
+    skip_at(file, symbol)
+}
+
+// The numbers of a node from a place on, most of them quickly.
+fn pass_node(file: &[u8], from: usize) -> Body
+    ensures { λ r. ⌜ Passed (now (file .entry)) from nodeCells r ⌝ }
+{
+    let quick = after_quick_node(file, from);
+    if quick != 0 {
+        return Body::End(quick);
+    }
+    after_node(file, from)
+}
+
 // The nodes from a place on, one and so many others: where the others begin.
 fn lay_out(file: &[u8], from: usize, others: usize, places: &mut [u16]) -> Body
     requires { ⌜ (length (now file) ≤ mostFileBytes) × (others ≤ length (now places)) ⌝ }
@@ -94,7 +163,7 @@ fn lay_out(file: &[u8], from: usize, others: usize, places: &mut [u16]) -> Body
     let mut at = second;
     let mut done = 0;
     while done < others {
-        let Body::End(next) = after_node(file, at) else {
+        let Body::End(next) = pass_node(file, at) else {
             return Body::Malformed;
         };
         places[done] = at as u16;
@@ -104,19 +173,67 @@ fn lay_out(file: &[u8], from: usize, others: usize, places: &mut [u16]) -> Body
     Body::End(at)
 }
 
-// So many numbers from a place on, over the start of the lent table.
-fn store(file: &[u8], from: usize, cells: usize, table: &mut [u16])
-    requires { ⌜ (cells ≤ length (now table)) × (isBroken (numbersOf cells (drop from (now file))) ≡ false) ⌝ }
-    ensures { λ _. ⌜ now (table .exit) ≡ over (valuesIn (numbersOf cells (drop from (now (file .entry))))) (now (table .entry)) ⌝ }
+// A number, and the place after it.
+struct Reading {
+    value: u16,
+    next: usize,
+}
+
+// The number that starts at a place, where one is well formed: there are as many bytes as it says, and its last group is none of zero.
+fn known_at(file: &[u8], at: usize) -> Reading
+    requires { ⌜ malformed (drop at (now file)) ≡ false ⌝ }
+    ensures { λ r. ⌜ KnownAt (now (file .entry)) at r ⌝ }
+{
+    let low = wide(file[at]);
+    if low < 128 {
+        return Reading {
+            value: low,
+            next: at + 1,
+        };
+    }
+    let middle = wide(file[at + 1]);
+    if middle < 128 {
+        return Reading {
+            value: (low - 128) + 128 * middle,
+            next: at + 2,
+        };
+    }
+    let high = wide(file[at + 2]);
+    Reading {
+        value: (low - 128) + 128 * (middle - 128) + 16384 * high,
+        next: at + 3,
+    }
+}
+
+// A node's numbers from a place on, into the lent table from a cell on: the place after them.
+fn store_node(file: &[u8], at: usize, cell: usize, table: &mut [u16]) -> usize
+    requires { ⌜ (cell + nodeCells ≤ length (now table)) × (isBroken (numbersOf nodeCells (drop at (now file))) ≡ false) ⌝ }
+    ensures { λ r. ⌜ StoredNode (now (file .entry)) at cell (now (table .entry)) (now (table .exit)) r ⌝ }
+{
+    let form = known_at(file, at);
+    let attributes = known_at(file, form.next);
+    let detail = known_at(file, attributes.next);
+    let first = known_at(file, detail.next);
+    let second = known_at(file, first.next);
+    let symbol = known_at(file, second.next);
+    table[cell] = form.value;
+    table[cell + offsets::ATTRIBUTES] = attributes.value;
+    table[cell + offsets::DETAIL] = detail.value;
+    table[cell + offsets::FIRST] = first.value;
+    table[cell + offsets::SECOND] = second.value;
+    table[cell + offsets::SYMBOL] = symbol.value;
+    symbol.next
+}
+
+// So many nodes from a place on, over the start of the lent table.
+fn store(file: &[u8], from: usize, nodes: usize, table: &mut [u16])
+    requires { ⌜ (nodeCells * nodes ≤ length (now table)) × (isBroken (numbersOf (nodeCells * nodes) (drop from (now file))) ≡ false) ⌝ }
+    ensures { λ _. ⌜ now (table .exit) ≡ over (valuesIn (numbersOf (nodeCells * nodes) (drop from (now (file .entry))))) (now (table .entry)) ⌝ }
 {
     let mut at = from;
     let mut done = 0;
-    while done < cells {
-        let Number::Value(value, next) = number_at(file, at) else {
-            return;
-        };
-        table[done] = value;
-        at = next;
+    while done < nodes {
+        at = store_node(file, at, sizes::NODE_CELLS * done, table);
         done += 1;
     }
 }
@@ -218,7 +335,7 @@ pub fn load(file: &[u8], table: &mut [u16]) -> Loaded
     let Header::Read(context, count, at) = read_header(file) else {
         return Loaded::Refused(2);
     };
-    store(file, at, sizes::NODE_CELLS * (count as usize), table);
+    store(file, at, count as usize, table);
     Loaded::Accepted(context, count)
 }
 
@@ -243,6 +360,6 @@ pub fn load_numbers(file: &[u8], table: &mut [u16]) -> Loaded
     if is_bad_body(file, at, cells) {
         return Loaded::Refused(5);
     }
-    store(file, at, cells, table);
+    store(file, at, count as usize, table);
     Loaded::Accepted(context, count)
 }

@@ -11,7 +11,8 @@ pub enum Number {
     Value(u16, usize),
 }
 
-fn wide(byte: u8) -> u16
+// A byte as one of the numbers that it is a part of.
+pub fn wide(byte: u8) -> u16
     ensures { λ r. ⌜ (r ≡ byte) × (r < 256) ⌝ }
 {
     byte as u16

@@ -8,7 +8,7 @@ use Rattle.laws.proofs.Choice.{or-false}
 use Rattle.tree.specs.Sizes.{nodeCells}
 use Rattle.tree.specs.Table.{firstColumn, secondColumn}
 use Rattle.file_columns.specs.Columns.{operandIn, mostRestored}
-use Rattle.file_columns.proofs.Restoring.{put-six}
+use Rattle.file_loader.proofs.Storing.{put-six}
 use borrow.Author.Needs.{needs}
 use Rattle.file_columns.proofs.put_node.Statement.{statement}
 use Rattle.file_columns.proofs.put_node.Tie as tie

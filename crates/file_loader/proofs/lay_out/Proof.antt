@@ -30,13 +30,13 @@ returns-2 : tie.Need-returns-2 Inv-loop μ-loop
 returns-2 c =
     let l = c .before .before .before .before .loop in
     let t = c .before .before .before .loop-test .taken in
-    (numbers-break (nodeCells * suc (l .done)) nodeCells (nodeCells * suc (c .before .before .before .before .before .before .before .before .before .before .before .args .others)) _ _ _ (omega arith) (l .inv .2) (rw (c .enum-told2 .given .1) at (c .before .before .after-node2 .ensures)), l .inv .1)
+    (numbers-break (nodeCells * suc (l .done)) nodeCells (nodeCells * suc (c .before .before .before .before .before .before .before .before .before .before .before .args .others)) _ _ _ (omega arith) (l .inv .2) (rw (c .enum-told2 .given .1) at (c .before .before .pass-node .ensures)), l .inv .1)
 
 cast-places : tie.Need-cast-places Inv-loop μ-loop
 cast-places c =
     let p = c .before .before .before .before .before .before .before .before .before .before .before .before .pre in
     let l = c .before .before .before .before .before .loop in
-    let h = some-left nodeCells (l .at) _ _ _ (omega arith) (passed-end _ _ nodeCells _ _ (c .before .next .given .1) (c .before .before .before .after-node2 .ensures)) in
+    let h = some-left nodeCells (l .at) _ _ _ (omega arith) (passed-end _ _ nodeCells _ _ (c .before .next .given .1) (c .before .before .before .pass-node .ensures)) in
     record { fits = omega arith }
 
 loop-again : tie.Need-loop-again Inv-loop μ-loop
@@ -46,7 +46,7 @@ loop-again c =
       omega arith,
       simp length-set (l .inv .1),
       rw (e, take-suc-set (l .places) (l .done) (l .at) (omega arith))
-          (runs-next (l .done) _ (c .before .before .before .before .before .before .before .before .before .before .before .before .args .from) (l .at) (take (l .done) (l .places)) _ _ (c .before .next .given .1) (l .inv .2) (c .before .before .before .after-node2 .ensures)),
+          (runs-next (l .done) _ (c .before .before .before .before .before .before .before .before .before .before .before .before .args .from) (l .at) (take (l .done) (l .places)) _ _ (c .before .next .given .1) (l .inv .2) (c .before .before .before .pass-node .ensures)),
     )
 
 returns-3 : tie.Need-returns-3 Inv-loop μ-loop

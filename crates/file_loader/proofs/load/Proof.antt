@@ -25,4 +25,4 @@ returns-3 c =
 pub load-spec : {M : Type 1} → statement M
 load-spec =
     tie.close (tie.spec free (λ c. refused _ _ _ (sym (c .before .check .ensures)) (c .if1 .taken)) free (λ c. search needs)
-    (λ c. search needs) returns-2 (λ c. search needs) (λ c. search needs) store-requires (λ c. search needs) returns-3)
+    (λ c. search needs) returns-2 (λ c. search needs) store-requires (λ c. search needs) returns-3)

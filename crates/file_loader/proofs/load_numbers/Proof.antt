@@ -51,4 +51,4 @@ returns-6 c =
 pub load-numbers-spec : {M : Type 1} → statement M
 load-numbers-spec =
     tie.close (tie.spec returns free (λ c. search needs) (λ c. search needs) returns-2 returns-3 free returns-4
-    (λ c. search needs) (λ c. search needs) free returns-5 store-requires (λ c. search needs) returns-6)
+    (λ c. search needs) (λ c. search needs) free returns-5 (λ c. search needs) store-requires (λ c. search needs) returns-6)
