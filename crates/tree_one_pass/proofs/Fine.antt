@@ -1,7 +1,7 @@
 -- The marks of the one pass over all nodes: where it gets through, nothing is refused. Assumes nothing.
 use mathlib.Core.Path.{_≡_, refl, sym, ap, _∙_}
 use mathlib.Core.Bool.{Bool, true, false, not, _&&_}
-use mathlib.Core.List.{List}
+use mathlib.Core.List.{List, [], _∷_}
 use mathlib.Core.Logic.{inl, inr}
 use Prim.Native.Nat.{ℕ, zero, suc, _+_, _*_, _-_, _/_, _%_, _≤_, _<_, max}
 use native.Mathlib.Omega.{arith}
@@ -22,10 +22,10 @@ use Rattle.tree.specs.Trees.{operandOf, treeAt, ownLevel, levels}
 use Rattle.tree_places.specs.Places.{firstPlaces, firstPlace, wrongClass, wrongList, wrongItem, wrongNext, wrongAt, badOperands}
 use Rattle.tree_places.specs.Steps.{isRequired, wrongPresent}
 use Rattle.tree_places.proofs.Places.{wrong-absent, wrong-present}
-use Rattle.tree_rules.specs.Refusals.{refusal6, refusal7, refusal8, refusal9, refusal10, refusal11, badNumbers, misplaced, badOrder, owners, badOwner, empty, badOutput, firstOf, nodeRefusals}
+use Rattle.tree_rules.specs.Refusals.{refusal6, refusal7, refusal8, refusal9, refusal10, refusal11, badNumbers, misplaced, badOrder, owners, badOwner, empty, badOutput, refuse, firstOf, nodeRefusals}
 use Rattle.tree_one_pass.specs.Marks.{kindBy, kindAt, IsList, Fits, markBy, markAt, Takes, absent as no-operand, taken as takes, refused as refuses, Marks, Sound, claim, Marked}
 use Rattle.tree_one_pass.proofs.Codes.{link-form}
-use Rattle.tree_rules.proofs.First.{skip, no-more}
+use Rattle.tree_rules.proofs.First.{stop, skip, no-more}
 use Rattle.tree_rules.proofs.Depth.{levels-node, none-levels}
 use Rattle.tree.proofs.Unfold.{operand-in, operand-zero, tree-zero, levels-most}
 
@@ -403,7 +403,7 @@ module _ (cells : List ℕ) (count : ℕ) where
   none-some f zero h = refl
   none-some f (suc n) h = rw (none-some f n (λ i a b. h i a (omega arith)), h (suc n) (omega arith) (omega arith))
 
-  module _ (xs : List ℕ) (m : Marked cells count 0 xs) (low : 1 ≤ count) (kind : getD xs 1 0 % 8 ≡ 1) (depth : getD xs 1 0 / 8 ≤ mostLevels)
+  module _ (xs : List ℕ) (m : Marked cells count 0 xs) (low : 1 ≤ count) (kind : getD xs 1 0 % 8 ≡ 1)
       (free : (j : ℕ) → 2 ≤ j → j ≤ count → getD xs j 0 ≡ 0) where
     root : getD xs 1 0 ≡ markAt cells count 1
     root = m .marks 1 (omega arith) low (λ z. omega arith)
@@ -422,18 +422,27 @@ module _ (cells : List ℕ) (count : ℕ) where
         go (yes s) = rw s
         go (no s) = rw (m .owned j a b, lt-ltb 0 j a, free j (omega arith) b) (both-false (not (eqb j 1)))
 
-    pub nothing-refused : firstOf (nodeRefusals count cells) ≡ 0
-    unfolding nodeRefusals refusal6 refusal7 refusal8 refusal9 refusal10 refusal11
-    nothing-refused =
+    deep : getD xs 1 0 / 8 ≡ levels (treeAt cells count 1)
+    deep = ap (λ (v : ℕ). v / 8) root ∙ mark-levels 1
+
+    -- 11 is what is left
+    eleven : firstOf (nodeRefusals count cells) ≡ firstOf (refuse 11 (refusal11 cells count) ∷ [])
+    unfolding nodeRefusals refusal6 refusal7 refusal8 refusal9 refusal10
+    eleven =
         let s = m .sound in
-        let d = sym (mark-levels 1) ∙ ap (λ (v : ℕ). v / 8) (sym root) in
         skip _ _ (none-some (badNumbers cells) count (λ i a b. s i a b .numbers))
         ∙ skip _ _ (rw (root-class) (none-some (badOperands cells count) count (λ i a b. s i a b .operands)))
         ∙ skip _ _ (rw (none-some (badOrder cells count) count (λ i a b. s i a b .order)) (none-some (badOwner cells count) count owned-well))
         ∙ skip _ _ (none-some (empty cells) count (λ i a b. s i a b .full))
         ∙ skip _ _ (none-some (badOutput cells) count (λ i a b. s i a b .output))
-        ∙ skip _ _ (le-ltb mostLevels (levels (treeAt cells count 1)) (rw d depth))
-        ∙ no-more
+
+    pub nothing-refused : getD xs 1 0 / 8 ≤ mostLevels → 0 ≡ firstOf (nodeRefusals count cells)
+    unfolding refusal11
+    nothing-refused h = sym (eleven ∙ skip _ _ (le-ltb mostLevels (levels (treeAt cells count 1)) (rw deep at h)) ∙ no-more)
+
+    pub too-deep : mostLevels < getD xs 1 0 / 8 → 11 ≡ firstOf (nodeRefusals count cells)
+    unfolding refusal11
+    too-deep h = sym (eleven ∙ stop _ _ (lt-ltb mostLevels (levels (treeAt cells count 1)) (rw deep at h)))
 
 -- a new array
 pub none-yet : (n j : ℕ) → _≡_ {A = ℕ} (getD (replicate n 0) j 0) 0

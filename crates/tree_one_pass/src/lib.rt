@@ -1,4 +1,4 @@
-// The refusals 3, 4 and 6 to 11 of a context, a count and the nodes of a source: nothing is refused in most, which one pass over the nodes finds out.
+// The refusals 3, 4 and 6 to 11 of a context, a count and the nodes of a source: nothing is refused in most, which one pass over the nodes finds out; the same pass finds 11.
 mod marks; // marks.rt: what the pass knows of a node
 mod rows; // rows.rt: what the pass knows of a form
 
@@ -105,25 +105,28 @@ fn all_taken(marks: &[u16], count: u16) -> bool
     true
 }
 
-// Whether it is certain that none of 6 to 11 applies: from the last node to the first, as operands come after their owners.
-fn is_fine(file: &[u8], held: &[u16], count: u16, marks: &mut [u16]) -> bool
+// In place of a refusal that the pass does not find: it takes the passes of `tree_rules` to say which one applies first.
+const UNKNOWN: u16 = 1;
+
+// The first of 6 to 11 that applies, or 0, where the pass finds it, that is where none but 11 applies: from the last node to the first, as operands come after their owners.
+fn quick_refusal(file: &[u8], held: &[u16], count: u16, marks: &mut [u16]) -> u16
     requires { ⌜ (1 ≤ count) × (count ≤ mostNodes) × (nodeCells * count ≤ length (cellsOf (now file) (now held))) × (count < length (now marks)) × ((j : ℕ) → getD (now marks) j 0 ≡ 0) ⌝ }
-    ensures { λ r. ⌜ (r ≡ true → firstOf (nodeRefusals count (cellsOf (now (file .entry)) (now (held .entry)))) ≡ 0) ⌝ }
+    ensures { λ r. ⌜ ((r ≡ 1 → ⊥) → r ≡ firstOf (nodeRefusals count (cellsOf (now (file .entry)) (now (held .entry))))) ⌝ }
 {
     let mut node = count;
     while 0 < node {
         let numbers = numbers_at(file, held, node);
         let one = take(marks, count, numbers.first);
         if one == TAKEN {
-            return false;
+            return UNKNOWN;
         }
         let two = take(marks, count, numbers.second);
         if two == TAKEN {
-            return false;
+            return UNKNOWN;
         }
         let mark = mark_at(file, held, node, numbers, one, two);
         if mark == 0 {
-            return false;
+            return UNKNOWN;
         }
         let at = node as usize;
         marks[at] = mark;
@@ -131,54 +134,58 @@ fn is_fine(file: &[u8], held: &[u16], count: u16, marks: &mut [u16]) -> bool
     }
     let root = marks[1];
     if root % 8 != 1 {
-        return false;
+        return UNKNOWN;
+    }
+    if !all_taken(marks, count) {
+        return UNKNOWN;
     }
     if sizes::MOST_LEVELS < root / 8 {
-        return false;
+        return 11;
     }
-    all_taken(marks, count)
+    0
 }
 
 // The same for fewer than 64 nodes, with an array that is quickly made.
-fn is_small_fine(file: &[u8], held: &[u16], count: u16) -> bool
+fn quick_of_few(file: &[u8], held: &[u16], count: u16) -> u16
     requires { ⌜ (1 ≤ count) × (count < 64) × (nodeCells * count ≤ length (cellsOf (now file) (now held))) ⌝ }
-    ensures { λ r. ⌜ (r ≡ true → firstOf (nodeRefusals count (cellsOf (now (file .entry)) (now (held .entry)))) ≡ 0) ⌝ }
+    ensures { λ r. ⌜ ((r ≡ 1 → ⊥) → r ≡ firstOf (nodeRefusals count (cellsOf (now (file .entry)) (now (held .entry))))) ⌝ }
 {
     let mut marks = [0u16; 64];
-    is_fine(file, held, count, &mut marks)
+    quick_refusal(file, held, count, &mut marks)
 }
 
 // The same for up to 4,096 nodes.
-fn is_large_fine(file: &[u8], held: &[u16], count: u16) -> bool
+fn quick_of_many(file: &[u8], held: &[u16], count: u16) -> u16
     requires { ⌜ (1 ≤ count) × (count ≤ mostNodes) × (nodeCells * count ≤ length (cellsOf (now file) (now held))) ⌝ }
-    ensures { λ r. ⌜ (r ≡ true → firstOf (nodeRefusals count (cellsOf (now (file .entry)) (now (held .entry)))) ≡ 0) ⌝ }
+    ensures { λ r. ⌜ ((r ≡ 1 → ⊥) → r ≡ firstOf (nodeRefusals count (cellsOf (now (file .entry)) (now (held .entry))))) ⌝ }
 {
     let mut marks = [0u16; sizes::MOST_NODES as usize + 1];
-    is_fine(file, held, count, &mut marks)
+    quick_refusal(file, held, count, &mut marks)
 }
 
-// Whether it is certain that nothing is refused.
-fn is_accepted(context: u16, count: u16, file: &[u8], held: &[u16]) -> bool
-    ensures { λ r. ⌜ (r ≡ true → refusal context count (cellsOf (now (file .entry)) (now (held .entry))) ≡ 0) ⌝ }
+// The first refusal that applies, or 0, where the pass finds it.
+fn quick_check(context: u16, count: u16, file: &[u8], held: &[u16]) -> u16
+    ensures { λ r. ⌜ ((r ≡ 1 → ⊥) → r ≡ refusal context count (cellsOf (now (file .entry)) (now (held .entry)))) ⌝ }
 {
     if context > 3 {
-        return false;
+        return UNKNOWN;
     }
     if has_bad_count(file, held, count) {
-        return false;
+        return UNKNOWN;
     }
     if count < 64 {
-        return is_small_fine(file, held, count);
+        return quick_of_few(file, held, count);
     }
-    is_large_fine(file, held, count)
+    quick_of_many(file, held, count)
 }
 
 // The number of the first refusal that applies to a context, a count and the nodes of a source, or 0.
 pub fn check_source(context: u16, count: u16, file: &[u8], held: &[u16]) -> u16
     ensures { λ r. ⌜ r ≡ refusal context count (cellsOf (now (file .entry)) (now (held .entry))) ⌝ }
 {
-    if is_accepted(context, count, file, held) {
-        return 0;
+    let quick = quick_check(context, count, file, held);
+    if quick != UNKNOWN {
+        return quick;
     }
     tree_rules::refusal::check(context, count, file, held)
 }

@@ -1,15 +1,15 @@
--- `tree_one_pass::is_fine` meets its contract. The loop's invariant: the nodes above the one that it has come to break no rule, and the array holds the marks of those that no owner has taken yet. Assumes nothing.
+-- `tree_one_pass::quick_refusal` meets its contract. The loop's invariant: the nodes above the one that it has come to break no rule, and the array holds the marks of those that no owner has taken yet. Assumes nothing.
 use mathlib.Core.Path.{_≡_, refl, sym, _∙_}
 use Prim.Native.Nat.{_≤_}
 use native.Mathlib.Omega.{arith}
 use borrow.Author.Needs.{needs}
 use lib.ListN.{length}
-use Rattle.laws.proofs.Choice.{true-not-false}
+use borrow.Author.Tests.{not-false}
 use Rattle.tree_source.specs.Source.{cellsOf}
 use Rattle.tree_one_pass.specs.Marks.{Marked}
-use Rattle.tree_one_pass.proofs.Fine.{takes-length, first-most, second-most, second-size, length-more, marked-more, marked-none, nothing-refused}
-use Rattle.tree_one_pass.proofs.is_fine.Statement.{statement}
-use Rattle.tree_one_pass.proofs.is_fine.Tie as tie
+use Rattle.tree_one_pass.proofs.Fine.{takes-length, first-most, second-most, second-size, length-more, marked-more, marked-none, nothing-refused, too-deep}
+use Rattle.tree_one_pass.proofs.quick_refusal.Statement.{statement}
+use Rattle.tree_one_pass.proofs.quick_refusal.Tie as tie
 
 abbrev Inv-loop : tie.InvT-loop
 Inv-loop file held count marks₀ node₀ marks node = (node ≤ count) × (length marks ≡ length marks₀) × Marked (cellsOf file held) count node marks
@@ -67,31 +67,37 @@ slice-read-root c =
     let z = c .before .before .loop .inv .2 .size in
     omega arith
 
+-- the marks at the end of the loop
+at-end : (c : tie.After-all-taken Inv-loop μ-loop) → Marked (cellsOf (c .before .before .before .before .before .before .before .before .before .args .file .now) (c .before .before .before .before .before .before .before .before .before .args .held .now)) (c .before .before .before .before .before .before .before .before .before .args .count) 0 (c .before .before .before .before .before .loop .marks)
+at-end c =
+    let l = c .before .before .before .before .before .loop in
+    let j = c .before .before .before .before .loop-test in
+    let z : l .node ≡ 0 = omega arith in
+    rw z at (l .inv .2)
+
 returns-6 : tie.Need-returns-6 Inv-loop μ-loop
 returns-6 c =
-    let a = c .before .before .before .before .before .before .before .before .before .before .args in
-    let p = c .before .before .before .before .before .before .before .before .before .before .pre in
-    let l = c .before .before .before .before .before .before .loop in
-    let i = l .inv in
-    let j = c .before .before .before .before .before .loop-test in
-    let z : l .node ≡ 0 = omega arith in
-    let d = c .before .before .if5 .left in
-    λ e. nothing-refused (cellsOf (a .file .now) (a .held .now)) (a .count) (l .marks) (rw z at (i .2)) (p .0) (c .before .before .before .if4 .left) (omega arith) (c .all-taken .ensures e)
+    λ h. too-deep _ _ _ (at-end (c .before .before)) (c .before .before .before .before .before .before .before .before .before .before .before .pre .0) (c .before .before .before .before .if4 .left) (c .before .before .all-taken .ensures (not-false _ (c .before .if5 .left))) (omega arith)
 
-pub is-fine-spec : {M : Type 1} → statement M
-is-fine-spec =
+returns-7 : tie.Need-returns-7 Inv-loop μ-loop
+returns-7 c =
+    λ h. nothing-refused _ _ _ (at-end (c .before .before)) (c .before .before .before .before .before .before .before .before .before .before .before .pre .0) (c .before .before .before .before .if4 .left) (c .before .before .all-taken .ensures (not-false _ (c .before .if5 .left))) (omega arith)
+
+pub quick-refusal-spec : {M : Type 1} → statement M
+quick-refusal-spec =
     tie.close (tie.spec Inv-loop μ-loop loop-holds numbers-at-requires
     (λ c κs. c .before .before .before .loop .inv .2 .size)
     (λ c. takes-length _ _ _ _ _ (c .before .before .before .take .ensures) ∙ c .before .before .before .before .before .before .before .loop .inv .1)
-    (λ c. λ e. true-not-false (sym e))
+    (λ c. λ h. absurd (h refl))
     (λ c κs. let e = takes-length _ _ _ _ _ (c .before .before .before .before .take .ensures) in let z = c .before .before .before .before .before .before .before .before .loop .inv .2 .size in omega arith)
     (λ c. takes-length _ _ _ _ _ (c .before .before .before .take2 .ensures) ∙ takes-length _ _ _ _ _ (c .before .before .before .before .before .before .before .before .take .ensures) ∙ c .before .before .before .before .before .before .before .before .before .before .before .before .loop .inv .1)
-    (λ c. λ e. true-not-false (sym e)) mark-at-requires
+    (λ c. λ h. absurd (h refl)) mark-at-requires
     (λ c. takes-length _ _ _ _ _ (c .before .before .before .before .before .take2 .ensures) ∙ takes-length _ _ _ _ _ (c .before .before .before .before .before .before .before .before .before .before .take .ensures) ∙ c .before .before .before .before .before .before .before .before .before .before .before .before .before .before .loop .inv .1)
-    (λ c. λ e. true-not-false (sym e)) (λ c. search needs) (λ c. search needs) slice-write-marks
+    (λ c. λ h. absurd (h refl)) (λ c. search needs) (λ c. search needs) slice-write-marks
     (λ c. omega (arith, c .before .before .before .before .before .before .before .before .before .before .before .before .before .loop-test))
     (λ c. omega (arith, c .before .before .before .before .before .before .before .before .before .before .before .before .before .loop-test))
-    loop-again slice-read-root (λ c. c .before .before .before .loop .inv .1) (λ c. λ e. true-not-false (sym e))
-    (λ c. c .before .before .before .before .loop .inv .1) (λ c. λ e. true-not-false (sym e))
-    (λ c κs. (c .before .before .before .before .before .before .before .before .before .pre .1, c .before .before .before .before .before .loop .inv .2 .size))
-    (λ c. c .before .before .before .before .before .before .loop .inv .1) returns-6)
+    loop-again slice-read-root (λ c. c .before .before .before .loop .inv .1) (λ c. λ h. absurd (h refl))
+    (λ c κs. (c .before .before .before .before .before .before .before .before .pre .1, c .before .before .before .before .loop .inv .2 .size))
+    (λ c. c .before .before .before .before .before .before .loop .inv .1) (λ c. λ h. absurd (h refl))
+    (λ c. c .before .before .before .before .before .before .before .loop .inv .1) returns-6
+    (λ c. c .before .before .before .before .before .before .before .loop .inv .1) returns-7)
