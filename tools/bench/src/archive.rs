@@ -2,29 +2,18 @@
 //!
 //! - recorded: the accepted trees of the recorded files, rows and tokens, each once, and of
 //!   these every fourth.
-//! - sheets: made like surveyors' sheets, formulas over few names and numbers: sums and
-//!   products, calls and method calls on them, members, indexes, casts, with comparisons or an
-//!   assignment at the top.
+//! - sheets: made like surveyors' sheets (sheets.rs).
 //! - large: calls whose arguments are such formulas, of some 1,000 nodes each.
 
-use model::forms::{operator::*, *};
-use model::generate::Dice;
+use crate::sheets::Sheet;
 use model::recorded::records;
-use model::sizes::NODE_CELLS;
-use model::table::{self, NodeTable, FIRST};
+use model::table;
 use std::collections::BTreeSet;
 use std::path::Path;
-use tezhukor::{contexts, Tree};
+use tezhukor::Tree;
 
 const SHEETS: u64 = 2_000;
 const LARGE_SHEETS: u64 = 100;
-
-/// A large sheet ends with the argument that takes it to so many nodes.
-const LARGE: usize = 1_000;
-
-/// So many names and numbers are in use on a unit.
-const NAMES: usize = 60;
-const NUMBERS: usize = 25;
 
 /// Writes both sets into a folder.
 pub fn write(folder: &str) {
@@ -47,129 +36,5 @@ fn put(folder: &Path, files: impl Iterator<Item = Vec<u8>>) {
     std::fs::create_dir_all(folder).expect("a folder");
     for (number, file) in files.enumerate() {
         std::fs::write(folder.join(format!("{number:05}.tree")), file).expect("a file");
-    }
-}
-
-/// A sheet that grows, its nodes numbered from the root on.
-struct Sheet {
-    cells: Vec<u16>,
-    dice: Dice,
-}
-
-impl Sheet {
-    fn made(seed: u64, index: u64, make: fn(&mut Sheet)) -> NodeTable {
-        let mut sheet = Sheet { cells: Vec::new(), dice: Dice::new(seed, index) };
-        make(&mut sheet);
-        let count = (sheet.cells.len() / NODE_CELLS) as u16;
-        NodeTable { context: contexts::NONE, count, cells: sheet.cells }
-    }
-
-    fn make(&mut self) {
-        let levels = self.dice.between(2, 6);
-        match self.dice.below(10) {
-            0..=2 => self.pair(BINARY, AND, |sheet| sheet.comparison(levels)),
-            3 | 4 => self.comparison(levels),
-            5 => self.pair(ASSIGN, 0, |sheet| sheet.formula(levels)),
-            _ => self.formula(levels),
-        }
-    }
-
-    fn large(&mut self) {
-        self.called(CALL, 0, |sheet| {
-            let is_more = sheet.cells.len() < NODE_CELLS * LARGE;
-            is_more.then_some(Sheet::make)
-        });
-    }
-
-    /// A node, which gives its place.
-    fn node(&mut self, form: u16, detail: u16, symbol: u16) -> usize {
-        self.cells.extend([form, 0, detail, 0, 0, symbol]);
-        self.cells.len() - NODE_CELLS
-    }
-
-    /// Puts an operand into a node's first (0) or second (1) place.
-    fn operand(&mut self, node: usize, place: usize, plant: impl FnOnce(&mut Self)) {
-        self.cells[node + FIRST + place] = (self.cells.len() / NODE_CELLS + 1) as u16;
-        plant(self);
-    }
-
-    fn pair(&mut self, form: u16, detail: u16, mut plant: impl FnMut(&mut Self)) {
-        let node = self.node(form, detail, 0);
-        self.operand(node, 0, &mut plant);
-        self.operand(node, 1, &mut plant);
-    }
-
-    fn comparison(&mut self, levels: usize) {
-        let operator = self.dice.pick(&[LT, LE, GT, EQ]);
-        self.pair(BINARY, operator, |sheet| sheet.formula(levels / 2));
-    }
-
-    /// A name: the first ones are in use most.
-    fn name(&mut self) -> u16 {
-        let most = 1 + self.dice.below(NAMES);
-        1 + self.dice.below(most) as u16
-    }
-
-    fn formula(&mut self, levels: usize) {
-        let name = self.name();
-        if levels == 0 || self.dice.percent(20) {
-            let number = (NAMES + 1 + self.dice.below(NUMBERS)) as u16;
-            match self.dice.percent(70) {
-                true => self.node(PATH, 0, name),
-                false => self.node(LIT, 0, number),
-            };
-            return;
-        }
-        let below = |sheet: &mut Self| sheet.formula(levels - 1);
-        match self.dice.below(20) {
-            0..=9 => {
-                let operator = self.dice.pick(&[ADD, ADD, SUB, SUB, MUL, MUL, MUL + 1]);
-                self.pair(BINARY, operator, below);
-            }
-            form @ 10..=13 => {
-                let (form, symbol) = if form < 12 { (CALL, 0) } else { (METHOD_CALL, name) };
-                let mut left = self.dice.below(4);
-                self.called(form, symbol, |_| {
-                    let is_more = left > 0;
-                    left = left.saturating_sub(1);
-                    is_more.then_some(below)
-                });
-            }
-            14 | 15 => self.alone(FIELD, 0, name, below),
-            16 => self.pair(INDEX, 0, below),
-            17 => {
-                let node = self.node(CAST, 0, 0);
-                self.operand(node, 0, below);
-                self.operand(node, 1, |sheet| {
-                    sheet.node(TYPE_PATH, 1, name);
-                });
-            }
-            18 => self.alone(REFERENCE, 0, 0, below),
-            _ => self.alone(UNARY, 2, 0, below),
-        }
-    }
-
-    fn alone(&mut self, form: u16, detail: u16, symbol: u16, plant: impl FnOnce(&mut Self)) {
-        let node = self.node(form, detail, symbol);
-        self.operand(node, 0, plant);
-    }
-
-    /// A call of a name with arguments as long as there is a next one.
-    fn called<Plant: FnOnce(&mut Self)>(
-        &mut self,
-        form: u16,
-        symbol: u16,
-        mut next: impl FnMut(&Self) -> Option<Plant>,
-    ) {
-        let mut owner = self.node(form, 0, symbol);
-        self.operand(owner, 0, |sheet| {
-            let name = sheet.name();
-            sheet.node(PATH, 0, name);
-        });
-        while let Some(argument) = next(self) {
-            self.cells[owner + FIRST + 1] = (self.cells.len() / NODE_CELLS + 1) as u16;
-            owner = self.node(LINK, 0, 0);
-            self.operand(owner, 0, argument);
-        }
     }
 }

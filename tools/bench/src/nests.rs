@@ -1,13 +1,16 @@
 //! Nests, which double the crate's work with each level and not ours; and the
 //! slowest trees that a search finds.
 
+use crate::cases::{decide, Case, Lent};
 use crate::clock::Clock;
 use crate::sets::{numbered, BARE, NAME, RANGE_TO};
-use crate::sides::{Prepared, Side};
 use model::forms::{operator::*, *};
 use model::generate::{call_of, planted, Dice, Draft, Stem, NESTS, NEXTS};
-use model::sizes::MOST_LEVELS;
-use model::{accept, NodeTable};
+use model::sizes::{MOST_LEVELS, ROW_CELLS};
+use model::{accept, CalleeOrder, NodeTable};
+use oracle::direct::context_of_root;
+use oracle::BuiltTree;
+use std::hint::black_box;
 
 const GROUP_OF: Stem = Stem::one(GROUP, 0, 0);
 const MINUS: Stem = Stem::one(UNARY, 0, 2);
@@ -28,8 +31,7 @@ pub fn time_nests(folder: Option<&str>) {
         if let Some(folder) = folder {
             write(folder, &format!("nest{number}"), &accepted(&nest.draft(LEVELS[5])));
         }
-        let ours = LEVELS
-            .map(|levels| format!("{:.0}", a_node(&accepted(&nest.draft(levels)), Side::Ours)));
+        let ours = LEVELS.map(|levels| format!("{:.0}", ours(&accepted(&nest.draft(levels)))));
         println!("| {} | ours | {} |", nest.name, ours.join(" | "));
         // A nest of more levels takes it at least as much longer as one of two levels less took.
         let (mut last, mut growth): (Option<(usize, f64)>, f64) = (None, 1.0);
@@ -40,13 +42,14 @@ pub fn time_nests(folder: Option<&str>) {
                     return "-".to_string();
                 }
             }
-            let a_node = a_node(&tree, Side::TheirRows);
+            let a_node = theirs(&tree);
             let time = a_node * f64::from(tree.count);
             if let Some((before, earlier)) = last {
                 growth = (time / earlier).powf(1.0 / (levels - before) as f64).max(1.0);
             }
             last = Some((levels, time));
-            Prepared::new(tree).check();
+            let mut lent = Lent::new();
+            Case::new(0, tree, &mut lent).check(&mut lent);
             format!("{a_node:.0}")
         });
         println!("| | the crate | {} |", theirs.join(" | "));
@@ -60,14 +63,29 @@ fn accepted(draft: &Draft) -> NodeTable {
 }
 
 /// The least of a few times, by the node.
-fn a_node(tree: &NodeTable, side: Side) -> f64 {
-    let mut prepared = Prepared::new(tree.clone());
+fn a_node(tree: &NodeTable, mut ask: impl FnMut()) -> f64 {
     let least = (0..5).map(|_| {
         let clock = Clock::start();
-        prepared.ask(side);
+        ask();
         clock.nanoseconds()
     });
     least.min().expect("some times") as f64 / f64::from(tree.count)
+}
+
+fn ours(tree: &NodeTable) -> f64 {
+    let mut rows = vec![0; ROW_CELLS * usize::from(tree.count)];
+    a_node(tree, || {
+        black_box(decide(black_box(tree), &mut rows));
+    })
+}
+
+/// The crate's, with rows recorded.
+fn theirs(tree: &NodeTable) -> f64 {
+    let built = BuiltTree::new(tree.count, &tree.cells);
+    let context = context_of_root(tree.context);
+    a_node(tree, || {
+        black_box(black_box(&built).printed(CalleeOrder::Crate, context));
+    })
 }
 
 /// How many changes are tried of a slow nest.
@@ -114,7 +132,7 @@ pub fn search_slowest(folder: Option<&str>) {
                     }
                     for context in 0..4 {
                         let tree = NodeTable { context, ..tree.clone() };
-                        let time = a_node(&tree, Side::Ours);
+                        let time = ours(&tree);
                         if time > slowest[usize::from(context)].0 {
                             slowest[usize::from(context)] = (time, stems.clone());
                         }
@@ -139,7 +157,7 @@ pub fn search_slowest(folder: Option<&str>) {
     for (number, (a_nest, stems)) in found.into_iter().take(60).step_by(10).enumerate() {
         let (steps, stems) = climbed(number as u64, stems);
         let full = accepted(&arguments(&stems));
-        let time = a_node(&full, Side::Ours) * f64::from(full.count);
+        let time = ours(&full) * f64::from(full.count);
         println!(
             "{}: {a_nest:.0} ns a node; after {steps} changes, {} nodes: {:.2} ms",
             labels(&stems),
@@ -165,7 +183,7 @@ fn climbed(seed: u64, mut stems: Vec<Stem>) -> (usize, Vec<Stem>) {
     let mut dice = Dice::new(seed, 0);
     let time = |stems: &[Stem]| {
         let tree = numbered(&arguments(stems));
-        (accept::refusal(&tree) == 0).then(|| a_node(&tree, Side::Ours) * f64::from(tree.count))
+        (accept::refusal(&tree) == 0).then(|| ours(&tree) * f64::from(tree.count))
     };
     let (mut slowest, mut steps) = (time(&stems).expect("an accepted tree"), 0);
     for _ in 0..CHANGES {

@@ -1,7 +1,9 @@
 //! How often tezhukor_decide reads the cells of a table, as valgrind's lackey sees
 //! it: every load of the machine code from the memory that holds the table.
 
-use crate::sides::{Prepared, Side};
+use crate::cases::decide;
+use model::sizes::ROW_CELLS;
+use model::NodeTable;
 use std::io::{BufRead, BufReader};
 use std::process::{Command, Stdio};
 
@@ -10,33 +12,36 @@ pub fn count_reads(files: &[&str]) {
     println!("| tree | nodes | reads a node | of them by the checks |");
     println!("|---|---:|---:|---:|");
     for file in files {
-        let nodes = prepared(file).nodes();
-        let [all, checks] = ["0", "1"].map(|side| loads(side, file) as f64 / nodes as f64);
+        let nodes = read(file).count;
+        let [all, checks] =
+            [ROW_CELLS, 0].map(|cells| loads(cells, file) as f64 / f64::from(nodes));
         println!("| {file} | {nodes} | {all:.1} | {checks:.1} |");
     }
 }
 
-/// What lackey looks at: says where the table lies, and asks our side once.
-pub fn read_once(side: Side, file: &str) {
-    let mut tree = prepared(file);
-    let cells = tree.cells().as_ptr_range();
+/// What lackey looks at: says where the table lies, and decides once, with so many cells a
+/// node for rows.
+pub fn read_once(row_cells: usize, file: &str) {
+    let tree = read(file);
+    let mut rows = vec![0; row_cells * usize::from(tree.count)];
+    let cells = tree.cells.as_ptr_range();
     println!("table {:x} {:x}", cells.start as usize, cells.end as usize);
-    tree.ask(side);
+    decide(&tree, &mut rows);
     // Nothing else is to read the table.
     std::process::exit(0);
 }
 
-fn prepared(file: &str) -> Prepared {
+fn read(file: &str) -> NodeTable {
     let bytes = std::fs::read(file).expect("a tree file");
-    Prepared::new(model::table::read(&bytes).expect("an accepted tree"))
+    model::table::read(&bytes).expect("an accepted tree")
 }
 
 /// The loads from the table after it was said where it lies.
-fn loads(side: &str, file: &str) -> u64 {
+fn loads(row_cells: usize, file: &str) -> u64 {
     let mut child = Command::new("valgrind")
         .args(["--tool=lackey", "--trace-mem=yes", "--log-fd=1"])
         .arg(std::env::current_exe().expect("a program that runs"))
-        .args(["read", side, file])
+        .args(["read", &row_cells.to_string(), file])
         .stdout(Stdio::piped())
         .spawn()
         .expect("valgrind");
