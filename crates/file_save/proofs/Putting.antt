@@ -1,5 +1,5 @@
 -- Laws of bytes put into a buffer. Assumes nothing.
-use mathlib.Core.Path.{_≡_, sym, _∙_}
+use mathlib.Core.Path.{_≡_, sym, ap, _∙_}
 use mathlib.Core.Bool.{true, false}
 use mathlib.Core.List.{List, _∷_}
 use Prim.Native.Nat.{ℕ, suc, _+_, _-_, _≤_, _<_}
@@ -23,6 +23,12 @@ pub put-next : {before mid after : List ℕ} {from at next : ℕ} (ns : List ℕ
 put-next ns j h p q =
     let s : j + 1 ≡ suc j = omega arith in
     rw (s, all-next ns j h) (put-more p q)
+
+-- and how long they are with it
+pub bytes-next : (ns : List ℕ) (j : ℕ) → j < length ns → length (allBytes (take (j + 1) ns)) ≡ length (allBytes (take j ns)) + length (bytesOf (getD ns j 0))
+bytes-next ns j h =
+    let s : j + 1 ≡ suc j = omega arith in
+    rw s (ap length (all-next ns j h) ∙ length-append (allBytes (take j ns)) (bytesOf (getD ns j 0)))
 
 -- ---- a whole file
 

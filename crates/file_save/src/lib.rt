@@ -2,6 +2,7 @@
 use tree::sizes;
 use tree_numbering::accepted::number;
 ghost use mathlib.Core.Path.{_≡_};
+ghost use mathlib.Core.Bool.{true};
 ghost use mathlib.Core.List.{_∷_};
 ghost use Prim.Native.Nat.{_+_, _*_, _≤_, _<_};
 ghost use lib.Dec.{ltb};
@@ -59,6 +60,31 @@ fn left_after(numbers: &[u16], room: usize) -> Room
     Room::Left(left)
 }
 
+// How many numbers take more than one byte; none takes more than three.
+fn longer(numbers: &[u16]) -> usize
+    ensures { λ r. ⌜ length (allBytes (now (numbers .entry))) ≤ length (now (numbers .entry)) + 2 * r ⌝ }
+{
+    let mut found = 0;
+    let mut done = 0;
+    while done < numbers.len() {
+        if 128 <= numbers[done] {
+            found += 1;
+        }
+        done += 1;
+    }
+    found
+}
+
+// Whether so many bytes are enough for several numbers even if each that takes more than one takes three: no number's bytes are counted.
+fn is_enough(numbers: &[u16], room: usize) -> bool
+    ensures { λ r. ⌜ (r ≡ true → length (allBytes (now (numbers .entry))) ≤ room) ⌝ }
+{
+    if room < numbers.len() {
+        return false;
+    }
+    longer(numbers) <= (room - numbers.len()) / 2
+}
+
 // A number from a place on; answers the place behind it.
 fn put(file: &mut [u8], at: usize, value: u16) -> usize
     requires { ⌜ at + length (bytesOf value) ≤ length (now file) ⌝ }
@@ -94,7 +120,7 @@ fn put_all(file: &mut [u8], from: usize, numbers: &[u16]) -> usize
 
 // ---- files
 
-// Whether so many bytes are too few for a context, a count and the numbers of the nodes. They are counted only where three for each might be too many.
+// Whether so many bytes are too few for a context, a count and the numbers of the nodes. They are counted only where three for each might be too many, and also three for each that takes more than one.
 fn is_short(context: u16, count: u16, numbers: &[u16], room: usize) -> bool
     ensures { λ r. ⌜ r ≡ ltb room (length (allBytes (context ∷ count ∷ now (numbers .entry)))) ⌝ }
 {
@@ -107,6 +133,9 @@ fn is_short(context: u16, count: u16, numbers: &[u16], room: usize) -> bool
     let header = long(context) + long(count);
     if room < header {
         return true;
+    }
+    if is_enough(numbers, room - header) {
+        return false;
     }
     let Room::Left(_) = left_after(numbers, room - header) else {
         return true;

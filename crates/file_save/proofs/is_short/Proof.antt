@@ -38,23 +38,32 @@ returns-2 c =
 
 returns-3 : tie.Need-returns-3
 returns-3 c =
-    let a = c .before .before .before .before .before .before .before .before .args in
+    let a = c .before .before .before .before .before .before .before .args in
     let l = whole-long (a .context) (a .count) (a .numbers .now) in
-    let p = c .before .before .before .before .before .long .ensures in
-    let q = c .before .before .before .before .long2 .ensures in
-    let r = rw (c .enum-told2 .given .1) at (c .before .before .left-after .ensures) in
-    sym (lt-ltb (a .room) (length (whole (a .context) (a .count) (a .numbers .now))) (omega arith))
+    let p = c .before .before .before .before .long .ensures in
+    let q = c .before .before .before .long2 .ensures in
+    let r = c .before .is-enough .ensures (c .if4 .taken) in
+    sym (le-ltb (a .room) (length (whole (a .context) (a .count) (a .numbers .now))) (omega arith))
 
 returns-4 : tie.Need-returns-4
 returns-4 c =
-    let a = c .before .before .before .before .before .before .before .before .args in
+    let a = c .before .before .before .before .before .before .before .before .before .before .args in
     let l = whole-long (a .context) (a .count) (a .numbers .now) in
-    let p = c .before .before .before .before .before .long .ensures in
-    let q = c .before .before .before .before .long2 .ensures in
+    let p = c .before .before .before .before .before .before .before .long .ensures in
+    let q = c .before .before .before .before .before .before .long2 .ensures in
+    let r = rw (c .enum-told2 .given .1) at (c .before .before .left-after .ensures) in
+    sym (lt-ltb (a .room) (length (whole (a .context) (a .count) (a .numbers .now))) (omega arith))
+
+returns-5 : tie.Need-returns-5
+returns-5 c =
+    let a = c .before .before .before .before .before .before .before .before .before .before .args in
+    let l = whole-long (a .context) (a .count) (a .numbers .now) in
+    let p = c .before .before .before .before .before .before .before .long .ensures in
+    let q = c .before .before .before .before .before .before .long2 .ensures in
     let r = rw (c .enum-told .given .1) at (c .before .before .left-after .ensures) in
     sym (le-ltb (a .room) (length (whole (a .context) (a .count) (a .numbers .now))) (omega arith))
 
 pub is-short-spec : {M : Type 1} → statement M
 is-short-spec =
-    tie.close (tie.spec (λ c. search needs) returns free free add-header returns-2 free (λ c. search needs) (λ c. search needs)
-    returns-3 returns-4)
+    tie.close (tie.spec (λ c. search needs) returns free free add-header returns-2 free returns-3 free (λ c. search needs) (λ c. search needs)
+    returns-4 returns-5)

@@ -1,14 +1,14 @@
 -- `file_save::left_after` meets its contract. Assumes nothing.
-use mathlib.Core.Path.{_≡_, ap, _∙_}
-use mathlib.Core.List.{List}
-use Prim.Native.Nat.{ℕ, suc, _+_, _-_, _≤_, _<_}
+use mathlib.Core.Path.{_≡_}
+use Prim.Native.Nat.{_+_, _-_, _≤_}
 use native.Mathlib.Omega.{arith}
 use borrow.Author.Needs.{needs}
-use lib.ListN.{length, getD, take, length-append}
+use lib.ListN.{length, take}
 use lib.Seq.{take-length}
 use Rattle.laws.proofs.Calls.{free}
-use Rattle.file_bytes.specs.Bytes.{bytesOf, allBytes}
-use Rattle.file_bytes.proofs.Several.{all-next, part-long}
+use Rattle.file_bytes.specs.Bytes.{allBytes}
+use Rattle.file_bytes.proofs.Several.{part-long}
+use Rattle.file_save.proofs.Putting.{bytes-next}
 use Rattle.file_save.proofs.left_after.Statement.{statement}
 use Rattle.file_save.proofs.left_after.Tie as tie
 
@@ -18,25 +18,19 @@ Inv-loop numbers room left₀ done₀ left done = (done ≤ length numbers) × (
 abbrev μ-loop : tie.MeasureT-loop
 μ-loop numbers room left₀ done₀ left done = length numbers - done
 
--- what one number more takes
-module _ (numbers : List ℕ) (done more : ℕ) (h : done < length numbers) (f : more ≡ length (bytesOf (getD numbers done 0))) where
-  one-more : length (allBytes (take done numbers)) + more ≡ length (allBytes (take (done + 1) numbers))
-  one-more =
-      let s : done + 1 ≡ suc done = omega arith in
-      let n = ap length (all-next numbers done h) ∙ length-append (allBytes (take done numbers)) (bytesOf (getD numbers done 0)) in
-      rw s (omega arith)
-
 returns : tie.Need-returns Inv-loop μ-loop
 returns c =
     let l = c .before .before .before .before .loop in
-    let o = one-more (c .before .before .before .before .before .before .args .numbers .now) (l .done) (c .before .long .result) (omega arith) (c .before .long .ensures) in
+    let o = bytes-next (c .before .before .before .before .before .before .args .numbers .now) (l .done) (omega arith) in
+    let f = c .before .long .ensures in
     let p = part-long (c .before .before .before .before .before .before .args .numbers .now) (l .done + 1) in
     omega arith
 
 loop-again : tie.Need-loop-again Inv-loop μ-loop
 loop-again c =
     let l = c .before .before .before .before .loop in
-    let o = one-more (c .before .before .before .before .before .before .args .numbers .now) (l .done) (c .before .long .result) (omega arith) (c .before .long .ensures) in
+    let o = bytes-next (c .before .before .before .before .before .before .args .numbers .now) (l .done) (omega arith) in
+    let f = c .before .long .ensures in
     (omega arith, omega arith)
 
 returns-2 : tie.Need-returns-2 Inv-loop μ-loop
