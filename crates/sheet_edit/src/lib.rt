@@ -17,10 +17,11 @@ use tree_one_pass::check;
 ghost use mathlib.Core.Path.{_≡_};
 ghost use mathlib.Core.Bool.{not, _&&_};
 ghost use Prim.Native.Nat.{_*_, _≤_, min};
+ghost use lib.Dec.{ltb};
 ghost use lib.ListN.{length, take};
 ghost use Rattle.laws.specs.Each.{some};
 ghost use Rattle.laws.specs.Lists.{over};
-ghost use Rattle.tree.specs.Sizes.{nodeCells, mostNodes};
+ghost use Rattle.tree.specs.Sizes.{nodeCells, mostNodes, mostLevels};
 ghost use Rattle.tree.specs.Trees.{treeAt, levels};
 ghost use Rattle.tree_rules.specs.Refusals.{plainBlock};
 ghost use Rattle.tree_numbering.specs.Replaced.{replacedAt};
@@ -65,6 +66,21 @@ fn levels_edited(
     let other = operand_number(table, count, node, columns::SECOND);
     let two = levels_edited(table, count, place, second, nodes, deep, other);
     own_level(table, node) + larger(one, two)
+}
+
+// Whether a path of the result holds too many nodes. None does where the two trees have no more together.
+fn is_deep(table: &[u16], count: u16, place: u16, second: &[u16], nodes: u16) -> bool
+    requires { ⌜ (count ≤ mostNodes) × (nodes ≤ mostNodes) ⌝ }
+    ensures { λ r. ⌜ r ≡ ltb mostLevels (levels (replacedAt (now (table .entry)) count place (treeAt (now (second .entry)) nodes 1) 1)) ⌝ }
+{
+    if count + nodes <= sizes::MOST_LEVELS {
+        return false;
+    }
+    let deep = levels_at(second, nodes, 1);
+    if levels_edited(table, count, place, second, nodes, deep, 1) > sizes::MOST_LEVELS {
+        return true;
+    }
+    false
 }
 
 // ---- copying
@@ -165,8 +181,7 @@ fn first_refusal(
     if breaks_output(table, count, place, second) {
         return 18;
     }
-    let deep = levels_at(second, nodes, 1);
-    if levels_edited(table, count, place, second, nodes, deep, 1) > sizes::MOST_LEVELS {
+    if is_deep(table, count, place, second, nodes) {
         return 18;
     }
     if cells < sizes::NODE_CELLS * (result as usize) {
