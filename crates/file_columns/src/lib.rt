@@ -324,7 +324,7 @@ fn load_with(columns: &[u8], held: &mut [u16], cells: &mut [u16], table: &mut [u
     load_in(columns, &mut held[..room], cells, table)
 }
 
-// ---- arrays by the count: those for fewer than 64 nodes are quickly made
+// ---- arrays by the count: those for fewer than 64 nodes are quickly made, and those for fewer than 512 more quickly than those for all
 
 fn to_small(file: &[u8], columns: &mut [u8]) -> Saved
     requires { ⌜ countIn (now file) < 64 ⌝ }
@@ -333,6 +333,16 @@ fn to_small(file: &[u8], columns: &mut [u8]) -> Saved
 {
     let mut cells = [0u16; sizes::NODE_CELLS * 64];
     let mut held = [0u16; sizes::NODE_CELLS * 64];
+    to_with(file, &mut cells, &mut held, columns)
+}
+
+fn to_medium(file: &[u8], columns: &mut [u8]) -> Saved
+    requires { ⌜ countIn (now file) < 512 ⌝ }
+    ensures { λ r. ⌜ r ≡ toColumns (now (file .entry)) (length (now (columns .entry))) ⌝ }
+    ensures { λ r. ⌜ now (columns .exit) ≡ toColumnsAfter (now (file .entry)) (now (columns .entry)) ⌝ }
+{
+    let mut cells = [0u16; sizes::NODE_CELLS * 512];
+    let mut held = [0u16; sizes::NODE_CELLS * 512];
     to_with(file, &mut cells, &mut held, columns)
 }
 
@@ -355,6 +365,16 @@ fn from_small(columns: &[u8], file: &mut [u8]) -> Saved
     from_with(columns, &mut held, &mut cells, file)
 }
 
+fn from_medium(columns: &[u8], file: &mut [u8]) -> Saved
+    requires { ⌜ countIn (now columns) < 512 ⌝ }
+    ensures { λ r. ⌜ r ≡ fromColumns (now (columns .entry)) (length (now (file .entry))) ⌝ }
+    ensures { λ r. ⌜ now (file .exit) ≡ fromColumnsAfter (now (columns .entry)) (now (file .entry)) ⌝ }
+{
+    let mut held = [0u16; sizes::NODE_CELLS * 512];
+    let mut cells = [0u16; sizes::NODE_CELLS * 512];
+    from_with(columns, &mut held, &mut cells, file)
+}
+
 fn from_large(columns: &[u8], file: &mut [u8]) -> Saved
     ensures { λ r. ⌜ r ≡ fromColumns (now (columns .entry)) (length (now (file .entry))) ⌝ }
     ensures { λ r. ⌜ now (file .exit) ≡ fromColumnsAfter (now (columns .entry)) (now (file .entry)) ⌝ }
@@ -374,6 +394,16 @@ fn load_small(columns: &[u8], table: &mut [u16]) -> Loaded
     load_with(columns, &mut held, &mut cells, table)
 }
 
+fn load_medium(columns: &[u8], table: &mut [u16]) -> Loaded
+    requires { ⌜ countIn (now columns) < 512 ⌝ }
+    ensures { λ r. ⌜ r ≡ columnsLoaded (now (columns .entry)) (length (now (table .entry))) ⌝ }
+    ensures { λ r. ⌜ now (table .exit) ≡ columnsTable (now (columns .entry)) (now (table .entry)) ⌝ }
+{
+    let mut held = [0u16; sizes::NODE_CELLS * 512];
+    let mut cells = [0u16; sizes::NODE_CELLS * 512];
+    load_with(columns, &mut held, &mut cells, table)
+}
+
 fn load_large(columns: &[u8], table: &mut [u16]) -> Loaded
     ensures { λ r. ⌜ r ≡ columnsLoaded (now (columns .entry)) (length (now (table .entry))) ⌝ }
     ensures { λ r. ⌜ now (table .exit) ≡ columnsTable (now (columns .entry)) (now (table .entry)) ⌝ }
@@ -390,8 +420,12 @@ pub fn to_columns(file: &[u8], columns: &mut [u8]) -> Saved
     ensures reply { λ r. ⌜ r ≡ toColumns (now (file .entry)) (length (now (columns .entry))) ⌝ }
     ensures columns { λ r. ⌜ now (columns .exit) ≡ toColumnsAfter (now (file .entry)) (now (columns .entry)) ⌝ }
 {
-    if count_in(file) < 64 {
+    let count = count_in(file);
+    if count < 64 {
         return to_small(file, columns);
+    }
+    if count < 512 {
+        return to_medium(file, columns);
     }
     to_large(file, columns)
 }
@@ -401,8 +435,12 @@ pub fn from_columns(columns: &[u8], file: &mut [u8]) -> Saved
     ensures reply { λ r. ⌜ r ≡ fromColumns (now (columns .entry)) (length (now (file .entry))) ⌝ }
     ensures file { λ r. ⌜ now (file .exit) ≡ fromColumnsAfter (now (columns .entry)) (now (file .entry)) ⌝ }
 {
-    if count_in(columns) < 64 {
+    let count = count_in(columns);
+    if count < 64 {
         return from_small(columns, file);
+    }
+    if count < 512 {
+        return from_medium(columns, file);
     }
     from_large(columns, file)
 }
@@ -412,8 +450,12 @@ pub fn load_columns(columns: &[u8], table: &mut [u16]) -> Loaded
     ensures reply { λ r. ⌜ r ≡ columnsLoaded (now (columns .entry)) (length (now (table .entry))) ⌝ }
     ensures table { λ r. ⌜ now (table .exit) ≡ columnsTable (now (columns .entry)) (now (table .entry)) ⌝ }
 {
-    if count_in(columns) < 64 {
+    let count = count_in(columns);
+    if count < 64 {
         return load_small(columns, table);
+    }
+    if count < 512 {
+        return load_medium(columns, table);
     }
     load_large(columns, table)
 }
