@@ -58,7 +58,8 @@ fn line(programs: &[PathBuf; 2], number: usize, a: A, how: How) -> Vec<String> {
         }
         How::Times(_) => {
             let is_asked = |side: &Side| sides.contains(side);
-            let sides: Vec<Side> = EXPORTS.into_iter().filter(is_asked).collect();
+            let sides = EXPORTS.into_iter().chain([Side::Nothing]).filter(is_asked);
+            let sides: Vec<Side> = sides.collect();
             let [mut old, mut new] = [0, 1].map(|at: usize| Served::start(&programs[at], number));
             rounds([&mut old, &mut new], &sides)
         }

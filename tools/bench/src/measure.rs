@@ -12,8 +12,8 @@ pub const ROUNDS: usize = 81;
 /// What one side takes in a round, at least.
 const ROUND_NANOSECONDS: u64 = 5_000_000;
 
-/// What a side takes for all trees of a set once, by its number; not a number where it is not
-/// asked.
+/// What a side takes for all trees of a set once, by its number, without what this program
+/// itself takes; not a number where it is not asked.
 pub type Figures = [f64; Side::ALL.len()];
 
 const NO_FIGURES: Figures = [f64::NAN; Side::ALL.len()];
@@ -42,7 +42,7 @@ pub fn rounds<const N: usize>(
                 figures[program][side as usize] = time as f64 / repeats as f64;
             }
         }
-        figures
+        figures.map(alone)
     };
     (0..ROUNDS).map(round).collect()
 }
@@ -86,7 +86,12 @@ pub fn counts(program: &Path, set: usize, sides: &[Side]) -> Figures {
         figures[side as usize] = total.trim().parse().expect("a number of instructions");
     }
     fs::remove_dir_all(&folder).expect("a folder");
-    figures
+    alone(figures)
+}
+
+/// Without what asking nothing takes.
+fn alone(figures: Figures) -> Figures {
+    figures.map(|figure| figure - figures[Side::Nothing as usize])
 }
 
 /// What valgrind looks at: each side once for all trees.

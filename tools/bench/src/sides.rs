@@ -69,14 +69,20 @@ sides! {
     Open "decide_open, up to three entries",
     /// How one operator binds.
     Binding "binding",
+    /// Nothing: what this program itself takes for a call, which is taken off all others.
+    Nothing "nothing",
 }
 
 impl Side {
+    /// All that stand in tables.
+    pub const SHOWN: &'static [Side] = Side::ALL.split_at(Side::Nothing as usize).0;
+
     /// Asks once. The reply is the export's, or 0.
     #[inline]
     pub fn ask(self, case: &Case, lent: &mut Lent) -> u64 {
         let (context, nodes, cells) = (case.tree.context, case.tree.count, &case.tree.cells[..]);
         let count = usize::from(nodes);
+        let bytes = file_bytes(count);
         match self {
             Side::Decide => decide(&case.tree, &mut lent.rows[..ROW_CELLS * count]).into(),
             Side::Checks => decide(&case.tree, &mut []).into(),
@@ -89,9 +95,7 @@ impl Side {
                 0
             }
             Side::Load => boundary::load(&case.file, &mut lent.cells).into(),
-            Side::Save => {
-                boundary::save(context, nodes, cells, &mut lent.bytes[..file_bytes(count)]).into()
-            }
+            Side::Save => boundary::save(context, nodes, cells, &mut lent.bytes[..bytes]).into(),
             Side::Compare => boundary::compare(&case.file, &case.file).into(),
             Side::Write => {
                 let room = TOKEN_CELLS_PER_NODE * count;
@@ -117,12 +121,15 @@ impl Side {
                 let rows = &mut lent.rows[..ROW_CELLS * count];
                 edits::carry(edits::Sheet { order: 0, ..case.sheet() }, cells, rows).into()
             }
-            Side::ToColumns => columns::to_columns(&case.file, &mut lent.bytes).into(),
-            Side::FromColumns => columns::from_columns(&case.columns, &mut lent.bytes).into(),
+            Side::ToColumns => columns::to_columns(&case.file, &mut lent.bytes[..bytes]).into(),
+            Side::FromColumns => {
+                columns::from_columns(&case.columns, &mut lent.bytes[..bytes]).into()
+            }
             Side::LoadColumns => columns::load_columns(&case.columns, &mut lent.cells).into(),
             Side::Closed => case.open(&[], &mut lent.answers[..count]).into(),
             Side::Open => case.open(&case.entries, &mut lent.answers[..count]).into(),
             Side::Binding => boundary::binding(case.operator).into(),
+            Side::Nothing => 0,
         }
     }
 }

@@ -162,8 +162,8 @@ pub const OPEN: View = View {
 
 /// Every export on sets of surveyors' size, on all other sets, and of tokens as issues ask.
 pub const ALL: [View; 4] = [
-    View { kind: Kind::Surveyors, a: A::Call, sides: &Side::ALL, sides_are_lines: true, ..DECIDE },
-    View { sides: &Side::ALL, sides_are_lines: true, ..DECIDE },
+    View { kind: Kind::Surveyors, a: A::Call, sides: Side::SHOWN, sides_are_lines: true, ..DECIDE },
+    View { sides: Side::SHOWN, sides_are_lines: true, ..DECIDE },
     View {
         kind: Kind::Differences,
         a: A::Call,
@@ -205,7 +205,7 @@ impl View {
         let figures: Vec<Figures> = match how {
             How::Instructions => vec![counts(&measure::this(), number, &sides)],
             How::Times(_) => {
-                let asked = |side: &&Side| self.sides.contains(side);
+                let asked = |side: &&Side| self.sides.contains(side) || **side == Side::Nothing;
                 let sides: Vec<Side> = sides.iter().filter(asked).copied().collect();
                 rounds([&mut cases], &sides).into_iter().map(|[figures]| figures).collect()
             }
