@@ -139,7 +139,7 @@ pub fn reply(
 }
 
 /// Whether all nodes of an accepted table are plain.
-fn is_plain(tree: &NodeTable) -> bool {
+pub fn is_plain(tree: &NodeTable) -> bool {
     (1..=tree.count).map(|number| table::node(&tree.cells, number)).all(|node| {
         let form = match node.form {
             PATH

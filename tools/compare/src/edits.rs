@@ -4,12 +4,11 @@
 
 use model::edit::{carried, lent, over, reply, Asked, CARRIED};
 use model::generate::edits::{self, Edit, Run, FAULTS, OF_A_TREE};
-use model::generate::{levels, Dice, Draft, LONGEST_NEST};
+use model::generate::Dice;
 use model::lent::Cell;
 use model::sizes::{LAST_REFUSAL, REFUSAL_UNIT, ROW_CELLS};
 use model::{CalleeOrder, NodeTable};
-use oracle::direct::context_of_root;
-use oracle::{keeping, BuiltTree};
+use oracle::rows_of;
 use tezhukor::boundary::edits as ours;
 
 /// How many edits a run has.
@@ -100,19 +99,6 @@ impl Done {
             },
         }
     }
-}
-
-/// The crate's rows of a tree in a callee order, five cells a node.
-fn rows_of(tree: &NodeTable, order: CalleeOrder) -> Vec<u16> {
-    let ask = || {
-        let built = BuiltTree::new(tree.count, &tree.cells);
-        built.rows(order, &[context_of_root(tree.context)])
-    };
-    let rows = match levels(&Draft::of(tree)) <= LONGEST_NEST {
-        true => ask(),
-        false => keeping(ask),
-    };
-    rows[0].iter().flat_map(|row| row.cells()).collect()
 }
 
 /// What the sheet is beside its table and its rows.

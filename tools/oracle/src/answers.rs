@@ -1,6 +1,8 @@
 //! What prettyplease's files answer about the nodes of an accepted tree.
 
 use crate::classify;
+#[cfg(feature = "kept_scans")]
+use crate::direct::context_of_root;
 use crate::direct::Context;
 use crate::fixup::FixupContext;
 use crate::precedence::Precedence;
@@ -8,6 +10,10 @@ use crate::recorder::{Recorder, Row};
 use crate::stand_in::algorithm::Printer;
 use crate::tree::{self, Built};
 use model::forms::{self, Side};
+#[cfg(feature = "kept_scans")]
+use model::generate::{levels, Draft, LONGEST_NEST};
+#[cfg(feature = "kept_scans")]
+use model::NodeTable;
 use model::{table, CalleeOrder};
 use std::rc::Rc;
 use syn::{Expr, ExprCast, Type, TypeInfer};
@@ -95,6 +101,21 @@ pub fn answers_by(order: CalleeOrder, context: u16, count: u16, cells: &[u16]) -
 /// content, in the crate's callee order; zeros for types and links.
 pub fn rows(contexts: &[Context], count: u16, cells: &[u16]) -> Vec<Vec<Row>> {
     BuiltTree::new(count, cells).rows(CalleeOrder::Crate, contexts)
+}
+
+/// The rows of an accepted tree in its own context and in one of the callee orders, five cells
+/// a node; scan_right's answers are kept where a nest is long.
+#[cfg(feature = "kept_scans")]
+pub fn rows_of(tree: &NodeTable, order: CalleeOrder) -> Vec<u16> {
+    let ask = || {
+        let built = BuiltTree::new(tree.count, &tree.cells);
+        built.rows(order, &[context_of_root(tree.context)])
+    };
+    let rows = match levels(&Draft::of(tree)) <= LONGEST_NEST {
+        true => ask(),
+        false => crate::keeping(ask),
+    };
+    rows[0].iter().flat_map(|row| row.cells()).collect()
 }
 
 /// An accepted tree that is built once and printed many times.

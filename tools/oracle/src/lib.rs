@@ -36,6 +36,8 @@ mod fixup;
 #[allow(dead_code, clippy::all)]
 mod precedence;
 
+#[cfg(feature = "kept_scans")]
+pub use answers::rows_of;
 pub use answers::{
     answers, answers_by, rows, Answers, BuiltTree, ExpressionAnswers, NodeAnswers, TypeAnswers,
 };

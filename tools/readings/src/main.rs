@@ -1,6 +1,5 @@
 //! Every reading of a token list, and what is held against them.
 
-mod ast;
 mod changes;
 mod commas;
 mod fewest;
@@ -9,6 +8,7 @@ mod long;
 mod makers;
 mod ours;
 mod plain;
+mod read;
 mod record;
 mod rustc;
 #[cfg(feature = "library")]

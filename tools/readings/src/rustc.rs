@@ -1,10 +1,10 @@
 //! rustc as a judge: what it reads where the grammar gives a reading, and where
 //! an added pair is left out. What is read in context 3 stands as the condition of an `if`.
 
-use crate::ast;
 use crate::commas::{self, Charts};
 use crate::lists;
 use crate::makers;
+use crate::read::{self, Read};
 use crate::trees::{self, Random, Structs};
 use crate::written::written;
 use model::chart::Chart;
@@ -15,32 +15,21 @@ use model::rules::Rules;
 use model::table::NodeTable;
 use model::verdict;
 use model::written::without_parens;
-use std::path::PathBuf;
-use std::process::{Command, Stdio};
+use readings::printed;
 use std::time::Instant;
 
 /// Texts in one file.
 const BATCH: usize = 250;
 
-/// The parser of rustc, with a folder for its files, and the context of what it reads.
+/// The parser of rustc, and the context of what it reads.
 struct Judge {
     context: u16,
-    file: PathBuf,
     runs: u64,
-}
-
-/// What rustc makes of a text: a tree, a tree that is not plain, or an error.
-#[derive(Clone, PartialEq, Eq, Debug)]
-enum Read {
-    Tree(Vec<u16>),
-    Other(String),
-    Error,
 }
 
 impl Judge {
     fn new(context: u16) -> Self {
-        let name = format!("readings-{}.rs", std::process::id());
-        Judge { context, file: std::env::temp_dir().join(name), runs: 0 }
+        Judge { context, runs: 0 }
     }
 
     /// What rustc reads for each text of one file, if it has no error.
@@ -51,49 +40,14 @@ impl Judge {
             _ => format!("let _ = {text} ;\n"),
         };
         let lines: String = texts.iter().map(line).collect();
-        std::fs::write(&self.file, format!("fn f() {{\n{lines}}}\n"))
-            .expect("a file can be written");
-        let output = Command::new("rustc")
-            .env("RUSTC_BOOTSTRAP", "1")
-            .args(["--edition", "2021", "-Zunpretty=ast-tree"])
-            .arg(&self.file)
-            .stderr(Stdio::null())
-            .output()
-            .expect("rustc runs");
-        if !output.status.success() {
-            return None;
-        }
-        let printed = String::from_utf8(output.stdout).expect("rustc prints UTF-8");
-        let read: Vec<Read> = ast::tables(&printed, self.context)
-            .into_iter()
-            .map(|table| table.map_or_else(Read::Other, Read::Tree))
-            .collect();
-        assert_eq!(read.len(), texts.len(), "a tree for each text");
-        Some(read)
+        let printed = printed::of_source(&format!("fn f() {{\n{lines}}}\n"), "2021").ok()?;
+        Some(read::all(&printed, self.context))
     }
 
     /// What rustc reads for each text, those with an error found by halving.
     fn all(&mut self, texts: &[String]) -> Vec<Read> {
-        if texts.is_empty() {
-            return Vec::new();
-        }
-        match self.file(texts) {
-            Some(read) => read,
-            None if texts.len() == 1 => vec![Read::Error],
-            None => {
-                let (one, other) = texts.split_at(texts.len() / 2);
-                let mut read = self.all(one);
-                read.extend(self.all(other));
-                read
-            }
-        }
-    }
-}
-
-impl Drop for Judge {
-    fn drop(&mut self) {
-        // Nothing is lost if it stays.
-        let _ = std::fs::remove_file(&self.file);
+        let read = printed::halved(texts, &mut |texts| self.file(texts));
+        read.into_iter().map(|read| read.unwrap_or(Read::Error)).collect()
     }
 }
 
