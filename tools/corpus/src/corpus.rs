@@ -3,13 +3,13 @@
 use crate::checks::{in_plain_context, Checks};
 use crate::figures::{Classes, Figure, Figures};
 use crate::sources::{edition, text, Package};
-use crate::taken::{Named, Taken};
+use crate::taken::{Joined, Named, Taken};
 use crate::texts::Texts;
 use crate::together;
 use model::table;
 use model::written::is_plain;
 use std::collections::HashSet;
-use std::path::{Path, PathBuf};
+use std::path::Path;
 
 /// All that was met.
 #[derive(Default)]
@@ -26,27 +26,29 @@ pub struct Corpus {
 impl Corpus {
     /// Takes all files of some packages.
     pub fn packages(&mut self, packages: &[Package]) {
-        let files: Vec<(usize, &PathBuf)> = (0..)
-            .zip(packages)
-            .flat_map(|(at, package)| package.files.iter().map(move |file| (at, file)))
-            .collect();
+        let of_package = |(at, package): (usize, &Package)| {
+            batches(package).into_iter().map(move |batch| (at, batch)).collect::<Vec<_>>()
+        };
+        let batches: Vec<(usize, Batch)> = (0..).zip(packages).flat_map(of_package).collect();
         let mut figures = vec![Figures::default(); packages.len()];
         let mut left: Vec<usize> = packages.iter().map(|package| package.files.len()).collect();
-        let work = |(_, file): &(usize, &PathBuf)| taken(file);
-        together::each(&files, work, |&(package, file), taken| {
-            let own = &mut figures[package];
-            own.count(Figure::Files, 1);
-            match taken {
-                Ok(taken) => self.take(taken, own),
-                Err(said) => {
-                    own.count(Figure::Unparsed, 1);
-                    let said = said.lines().next().unwrap_or("");
-                    println!("not parsed: {}: {said}", file.display());
+        let work = |(_, batch): &(usize, Batch)| batch.taken();
+        together::each(&batches, work, |(package, batch), taken| {
+            let own = &mut figures[*package];
+            own.count(Figure::Files, batch.files.len() as u64);
+            own.count(Figure::Lines, batch.lines());
+            for taken in taken {
+                match taken {
+                    Ok(taken) => self.take(taken, own),
+                    Err(said) => {
+                        own.count(Figure::Unparsed, 1);
+                        println!("not parsed: {said}");
+                    }
                 }
             }
-            left[package] -= 1;
-            if left[package] == 0 {
-                own.print_line(&packages[package].name);
+            left[*package] -= batch.files.len();
+            if left[*package] == 0 {
+                own.print_line(&packages[*package].name);
             }
         });
         figures.iter().for_each(|figures| self.total.add(figures));
@@ -92,8 +94,49 @@ impl Corpus {
     }
 }
 
-/// What a file gives, or why it gives nothing.
-fn taken(file: &Path) -> Result<Taken, String> {
-    let text = text(file).ok_or("no text")?;
-    Taken::new(&file.display().to_string(), &edition(file), &text)
+/// Files of one edition that rustc reads at a time, by their names and texts.
+struct Batch {
+    edition: String,
+    files: Vec<(String, String)>,
+}
+
+/// A batch ends with the file that takes it to so many bytes.
+const BATCH: usize = 200_000;
+
+/// The files of a package. One that is no text is an empty one.
+fn batches(package: &Package) -> Vec<Batch> {
+    let mut batches: Vec<Batch> = Vec::new();
+    for path in &package.files {
+        let (edition, text) = (edition(path), text(path).unwrap_or_default());
+        let file = (path.display().to_string(), text);
+        match batches.last_mut() {
+            Some(batch) if batch.edition == edition && batch.bytes() < BATCH => {
+                batch.files.push(file);
+            }
+            _ => batches.push(Batch { edition, files: vec![file] }),
+        }
+    }
+    batches
+}
+
+impl Batch {
+    fn bytes(&self) -> usize {
+        self.files.iter().map(|(_, text)| text.len()).sum()
+    }
+
+    fn lines(&self) -> u64 {
+        self.files.iter().map(|(_, text)| text.lines().count() as u64).sum()
+    }
+
+    /// What its files give; each alone, or why it gives nothing, if rustc does not parse all.
+    fn taken(&self) -> Vec<Result<Taken, String>> {
+        if let Ok(taken) = Taken::new(&Joined::new(&self.files), &self.edition) {
+            return vec![Ok(taken)];
+        }
+        let alone = |file: &(String, String)| {
+            let taken = Taken::new(&Joined::new(std::slice::from_ref(file)), &self.edition);
+            taken.map_err(|said| format!("{}: {}", file.0, said.lines().next().unwrap_or("")))
+        };
+        self.files.iter().map(alone).collect()
+    }
 }

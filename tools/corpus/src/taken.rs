@@ -35,28 +35,58 @@ pub struct Taken {
     pairs: HashMap<Vec<u8>, Pairs>,
 }
 
-/// A file's name and its text.
+/// Files that rustc reads as one: each is a module of its own.
+pub struct Joined {
+    text: String,
+    /// The line before the first one of each file, and its name.
+    files: Vec<(usize, String)>,
+}
+
+impl Joined {
+    /// Files by their names and texts. One alone is as it is.
+    pub fn new(files: &[(String, String)]) -> Joined {
+        let mut joined = Joined { text: String::new(), files: Vec::new() };
+        for (at, (name, text)) in files.iter().enumerate() {
+            let is_alone = files.len() == 1;
+            let head = if is_alone { String::new() } else { format!("mod m{at} {{\n") };
+            joined.text.push_str(&head);
+            joined.files.push((joined.text.lines().count(), name.clone()));
+            joined.text.push_str(text);
+            joined.text.push_str(if is_alone { "" } else { "\n}\n" });
+        }
+        joined
+    }
+
+    /// The file and the line of a line of the whole.
+    fn place(&self, line: usize) -> String {
+        let at = self.files.partition_point(|(before, _)| *before < line);
+        let (before, name) = &self.files[at - 1];
+        format!("{name}:{}", line - before)
+    }
+}
+
+/// Files and their text.
 struct File<'a> {
-    name: &'a str,
+    joined: &'a Joined,
     source: Source<'a>,
 }
 
 impl File<'_> {
     /// Where a pair stands that only one side has, and what it stands round.
     fn shown(&self, tree: &NodeTable, apart: &Apart) -> String {
-        let line = self.source.line(apart.bytes.start);
+        let place = self.joined.place(self.source.line(apart.bytes.start));
         let text = shown(&self.source.text[apart.bytes.clone()]);
-        format!("{}:{line}: {}: {text}", self.name, class(tree, apart.node as u16))
+        format!("{place}: {}: {text}", class(tree, apart.node as u16))
     }
 }
 
 impl Taken {
-    /// Takes a source text of an edition. Refused is what rustc does not parse.
-    pub fn new(name: &str, edition: &str, text: &str) -> Result<Taken, String> {
-        let printed = printed::of_source(text, edition)?;
+    /// Takes files of an edition. Refused is what rustc does not parse.
+    pub fn new(joined: &Joined, edition: &str) -> Result<Taken, String> {
+        let printed = printed::of_source(&joined.text, edition)?;
         let mut taken = Taken::default();
-        taken.figures.count(Figure::Lines, text.lines().count() as u64);
-        let (file, value) = (File { name, source: Source::new(text) }, printed::parsed(&printed));
+        let file = File { joined, source: Source::new(&joined.text) };
+        let value = printed::parsed(&printed);
         let found = places(&file.source, &value);
         taken.figures.count(Figure::Patterns, found.in_patterns);
         taken.figures.count(Figure::Macros, found.macros);
@@ -75,7 +105,7 @@ impl Taken {
         let tree = found.table().filter(|tree| match accept::refusal(tree) {
             0 => true,
             4 | 11 => false,
-            refusal => panic!("{}: a tree is refused by {refusal}: {tree:?}", file.name),
+            refusal => panic!("a tree is refused by {refusal}: {tree:?}"),
         });
         let Some(tree) = tree else {
             self.figures.count(Figure::TooLarge, 1);

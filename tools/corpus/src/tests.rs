@@ -5,13 +5,14 @@ use crate::figures::{Figure, Figures};
 use crate::places::places;
 use crate::rewritten::{judged, Compared, Pairs};
 use crate::spans::Source;
-use crate::taken::Taken;
+use crate::taken::{Joined, Taken};
 use readings::printed;
 
 /// The figures of a text in which nothing may be read otherwise.
 fn figures(text: &str) -> Figures {
     let (mut corpus, mut figures) = (Corpus::default(), Figures::default());
-    let taken = Taken::new("a text", "2021", text).expect("a text that rustc parses");
+    let joined = Joined::new(&[("a text".to_string(), text.to_string())]);
+    let taken = Taken::new(&joined, "2021").expect("a text that rustc parses");
     corpus.take(taken, &mut figures);
     assert_eq!(corpus.finish() + figures.of(Figure::Otherwise), 0);
     figures
