@@ -5,7 +5,8 @@
 
 pub mod columns;
 pub mod edits;
-mod library;
+#[doc(hidden)] // for tools/fuzz, which asks with any numbers
+pub mod library;
 pub mod questions;
 
 use crate::Refusal;

@@ -155,15 +155,8 @@ fn largest() {
 
 /// How one file must stand to another.
 fn order(first: &[u8], second: &[u8]) -> Result<Ordering, u16> {
-    let accepted = |file| {
-        let table = table::read(file)?;
-        match accept::refusal(&table) {
-            0 => Ok(table),
-            refusal => Err(refusal),
-        }
-    };
-    let first = accepted(first)?;
-    Ok(first.cmp(&accepted(second)?))
+    let first = accept::file(first)?;
+    Ok(first.cmp(&accept::file(second)?))
 }
 
 /// Compares two files.

@@ -6,7 +6,7 @@
 
 use model::columns;
 use model::generate::{Dice, Draft, Family, Order};
-use model::lent::{told, Lent};
+use model::lent::{told, told_loaded, Lent};
 use model::recorded::records;
 use model::sizes::*;
 use model::table::{self, NodeTable};
@@ -32,10 +32,7 @@ fn make(by: fn(&[u8], &mut [u8]) -> u32, file: &[u8], length: usize, meant: &Res
 fn load(file: &[u8], length: usize, meant: &Result<NodeTable, u16>) {
     let mut lent = Lent::new(length);
     let reply = load_columns(file, lent.lend(length));
-    let (number, stored) = match meant {
-        Ok(table) => (u32::from(CONTEXT_UNIT * table.context + table.count), &table.cells[..]),
-        Err(refusal) => (REFUSAL_UNIT * u32::from(*refusal), &[][..]),
-    };
+    let (number, stored) = told_loaded(meant);
     assert_eq!(reply, number, "{file:?}");
     assert_eq!(lent.take(stored.len()).as_deref(), Some(stored), "{file:?}");
 }

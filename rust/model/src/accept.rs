@@ -5,10 +5,19 @@
 
 use crate::forms::{self, Class, Place};
 use crate::sizes::{LAST_CONTEXT, MOST_LEVELS, MOST_NODES, NODE_CELLS};
-use crate::table::{node, Node, NodeTable};
+use crate::table::{self, node, Node, NodeTable};
 
 /// Whether a refusal applies to the nodes of a table.
 type Test = fn(&[Node]) -> bool;
+
+/// The table of an accepted tree file, or the first refusal that applies: 1 to 11.
+pub fn file(file: &[u8]) -> Result<NodeTable, u16> {
+    let table = table::read(file)?;
+    match refusal(&table) {
+        0 => Ok(table),
+        refusal => Err(refusal),
+    }
+}
 
 /// The first refusal that applies to a node table, 0 if none does.
 pub fn refusal(table: &NodeTable) -> u16 {

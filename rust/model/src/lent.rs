@@ -1,7 +1,32 @@
 //! Buffers that are lent, with a pattern in every cell and on both sides, so that each
 //! cell shows whether it was written to.
 
-use crate::sizes::REFUSAL_UNIT;
+use crate::sizes::{CONTEXT_UNIT, NODE_CELLS, REFUSAL_UNIT};
+use crate::table::NodeTable;
+
+/// What loading a file must give where so many cells are lent for its table, by what is stated
+/// of the file: 4, as soon as the header is in order, where they are too few for its count.
+pub fn loaded(stated: Result<NodeTable, u16>, file: &[u8], lent: usize) -> Result<NodeTable, u16> {
+    match stated {
+        Err(..=4) => stated,
+        _ if lent < NODE_CELLS * count(file) => Err(4),
+        _ => stated,
+    }
+}
+
+/// The count of a header that is in order: the context is one byte, the count one or two.
+pub fn count(file: &[u8]) -> usize {
+    let high = if file[1] < 0x80 { 0 } else { usize::from(file[2]) << 7 };
+    usize::from(file[1] & 0x7F) | high
+}
+
+/// The reply to a file that is loaded, and the cells that are then stored.
+pub fn told_loaded(meant: &Result<NodeTable, u16>) -> (u32, &[u16]) {
+    match meant {
+        Ok(table) => (u32::from(CONTEXT_UNIT * table.context + table.count), &table.cells),
+        Err(refusal) => (REFUSAL_UNIT * u32::from(*refusal), &[]),
+    }
+}
 
 /// The reply, and what is stored, where these bytes must be written and so many are lent: their
 /// number, 12, or the refusal.

@@ -51,7 +51,7 @@ pub fn of(chart: &mut Chart, context: u16, tokens: &[Token]) -> Result<Verdict, 
     if let Some(refusal) = before_tokens(context, MOST_CELLS) {
         return Ok(Err(refusal));
     }
-    if tokens.len() > MOST_TOKENS || !tokens.iter().all(is_token) {
+    if !is_list(tokens) {
         return Ok(Err(14));
     }
     chart.read(tokens);
@@ -64,6 +64,11 @@ pub fn of_cells(chart: &mut Chart, context: u16, cells: &[u16]) -> Result<Verdic
         0 => of(chart, context, &Token::of_cells(cells)),
         _ => Ok(Err(before_tokens(context, MOST_CELLS).unwrap_or(14))),
     }
+}
+
+/// Whether 14 does not apply to tokens.
+pub fn is_list(tokens: &[Token]) -> bool {
+    tokens.len() <= MOST_TOKENS && tokens.iter().all(is_token)
 }
 
 /// Whether there is such a code, and it carries a symbol only if it may.

@@ -16,7 +16,7 @@ use model::chart::Chart;
 use model::codes::{self, Token, CLOSE, COMMA, EQUALS, MINUS, NAME, OPEN};
 use model::commas;
 use model::generate::{self, Dice, Family};
-use model::lent::Lent;
+use model::lent::{self, Lent};
 use model::rules::Rules;
 use model::sizes::*;
 use model::table::{self, NodeTable, DETAIL, FIRST, FORM, SECOND, SYMBOL};
@@ -52,20 +52,7 @@ impl Tally {
 
 /// What loading a file into a table of so many cells must give.
 fn loaded(file: &[u8], lent: usize) -> Result<NodeTable, u16> {
-    let parsed = table::read(file);
-    if matches!(parsed, Err(1..=4)) {
-        return parsed;
-    }
-    // The context is one byte, the count one or two.
-    let high = if file[1] < 0x80 { 0 } else { usize::from(file[2]) << 7 };
-    if lent < NODE_CELLS * (usize::from(file[1] & 0x7F) | high) {
-        return Err(4);
-    }
-    let table = parsed?;
-    match accept::refusal(&table) {
-        0 => Ok(table),
-        refusal => Err(refusal),
-    }
+    lent::loaded(accept::file(file), file, lent)
 }
 
 /// Loads a file with so many cells lent.
@@ -73,13 +60,10 @@ fn load(file: &[u8], length: usize, tally: &mut Tally) -> Option<NodeTable> {
     let mut lent = Lent::new(length);
     let reply = boundary::load(file, lent.lend(length));
     let meant = loaded(file, length);
-    let (refusal, number) = match &meant {
-        Ok(table) => (0, u32::from(CONTEXT_UNIT * table.context + table.count)),
-        Err(refusal) => (*refusal, REFUSAL_UNIT * u32::from(*refusal)),
-    };
+    let (number, cells) = lent::told_loaded(&meant);
     assert_eq!(reply, number, "{file:?}");
-    holds(lent, meant.as_ref().map_or(&[], |table| &table.cells[..]));
-    tally.count(refusal);
+    holds(lent, cells);
+    tally.count(meant.as_ref().err().copied().unwrap_or(0));
     meant.ok()
 }
 

@@ -3,8 +3,7 @@
 use crate::counts::Counts;
 use crate::kinds::Kind;
 use crate::library;
-use crate::tally::{loaded_cells, loaded_reply};
-use model::lent::Lent;
+use model::lent::{self, told_loaded, Lent};
 use model::sizes::{file_bytes, MOST_CELLS, MOST_FILE_BYTES, MOST_NODES, NODE_CELLS, REFUSAL_UNIT};
 use model::NodeTable;
 
@@ -119,18 +118,13 @@ impl Rearranged {
         if self.kind == Kind::Tree {
             return true;
         }
-        let count = match stated {
-            Err(..=4) => 0,
-            // The context is one byte, the count one or two.
-            _ if file[1] < 0x80 => file[1].into(),
-            _ => usize::from(file[1] & 0x7F) | usize::from(file[2]) << 7,
-        };
+        let count = if matches!(stated, Err(..=4)) { 0 } else { lent::count(file) };
         let (needed, too_short) = (NODE_CELLS * count, Err(4));
         let mut is_loaded = |room: usize| {
             let meant = if room < needed { &too_short } else { stated };
             let told = library::load_columns(file, self.table.lend(room));
-            let cells = loaded_cells(meant);
-            self.table.take(cells.len()).as_deref() == Some(cells) && told == loaded_reply(meant)
+            let (reply, cells) = told_loaded(meant);
+            self.table.take(cells.len()).as_deref() == Some(cells) && told == reply
         };
         is_loaded(MOST_CELLS) && is_loaded(needed) && is_loaded(needed.saturating_sub(1))
     }

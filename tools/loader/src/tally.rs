@@ -2,7 +2,8 @@
 
 use crate::counts::Counts;
 use crate::{files, library};
-use model::sizes::{CONTEXT_UNIT, MOST_NODES, NODE_CELLS, REFUSAL_UNIT};
+use model::lent::told_loaded;
+use model::sizes::{MOST_NODES, NODE_CELLS, REFUSAL_UNIT};
 use model::NodeTable;
 use std::cmp::Ordering;
 
@@ -50,10 +51,9 @@ impl Tally {
         let old = OLD ^ self.counts.files as u16;
         self.lent[..=room].fill(old);
         let reply = library::load(file, &mut self.lent[..room]);
-        let (new, kept) = self.lent[..=room].split_at(loaded_cells(stated).len());
-        reply == loaded_reply(stated)
-            && new == loaded_cells(stated)
-            && kept.iter().all(|&cell| cell == old)
+        let (meant, cells) = told_loaded(stated);
+        let (new, kept) = self.lent[..=room].split_at(cells.len());
+        reply == meant && new == cells && kept.iter().all(|&cell| cell == old)
     }
 
     /// How the file before stands to this one.
@@ -79,17 +79,4 @@ impl Tally {
         println!("accepted beside accepted: {before} before, {equal} equal, {after} after");
         self.counts.finish()
     }
-}
-
-/// The reply to a file that is loaded, by what is stated of it.
-pub fn loaded_reply(stated: &Result<NodeTable, u16>) -> u32 {
-    match stated {
-        Err(refusal) => REFUSAL_UNIT * u32::from(*refusal),
-        Ok(NodeTable { context, count, .. }) => u32::from(CONTEXT_UNIT * context + count),
-    }
-}
-
-/// The cells that are then stored.
-pub fn loaded_cells(stated: &Result<NodeTable, u16>) -> &[u16] {
-    stated.as_ref().map_or(&[], |table| &table.cells)
 }
