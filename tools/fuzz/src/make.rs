@@ -109,6 +109,13 @@ fn number(dice: &mut Dice) -> u16 {
     }
 }
 
+/// The numbers of a question about a node: what is asked, two operators, flags, a cell or an
+/// offset, two more of either, and a precedence; now and then any.
+fn question(dice: &mut Dice) -> [u16; 8] {
+    let below = [dice.pick(&[6, 20]), 20, 20, 256, 6, 3, 3, 18];
+    below.map(|most| if dice.percent(6) { number(dice) } else { dice.below(most) as u16 })
+}
+
 /// How often something grows: mostly seldom, now and then as often as bounds are met.
 fn times(dice: &mut Dice) -> u16 {
     let bound = match dice.below(40) {
@@ -145,8 +152,7 @@ pub fn fresh(export: usize, dice: &mut Dice) -> Input {
         "decide_open" => open(dice),
         "write" if dice.percent(70) => [table::write(&plain(dice)), Vec::new()],
         "answer" | "fixup_answer" | "scan_right" | "context" | "handed" => {
-            let numbers: Vec<u16> = (0..8).map(|_| number(dice)).collect();
-            [file(dice), table::numbers(&numbers)]
+            [file(dice), table::numbers(&question(dice))]
         }
         _ => [file(dice), Vec::new()],
     };
