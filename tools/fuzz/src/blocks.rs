@@ -7,13 +7,17 @@ use std::collections::{BTreeSet, HashSet};
 use std::path::Path;
 use std::process::Command;
 
-/// A function of the library, and where its blocks begin, in the addresses of the linked program.
+/// A function of the library, where its blocks begin and where it branches, in the addresses of
+/// the linked program.
 #[derive(Debug)]
 pub struct Function {
     pub name: String,
+    /// Which of the archives it is from, by its place among these.
+    pub archive: usize,
     pub start: usize,
     pub end: usize,
     pub blocks: Vec<usize>,
+    pub branches: Vec<usize>,
 }
 
 /// What a program of the system prints.
@@ -23,19 +27,13 @@ fn printed(program: &str, words: &[&str], file: &Path) -> Option<String> {
     output.status.success().then(text)
 }
 
-/// The functions that archives define.
-pub fn names(archives: &[impl AsRef<Path>]) -> Option<HashSet<String>> {
-    let mut names = HashSet::new();
-    for archive in archives {
-        for line in printed("nm", &["--defined-only"], archive.as_ref())?.lines() {
-            if let [_, "t" | "T" | "w" | "W", name] =
-                line.split_whitespace().collect::<Vec<_>>()[..]
-            {
-                names.insert(name.to_string());
-            }
-        }
-    }
-    Some(names)
+/// The functions that an archive defines.
+pub fn names(archive: &Path) -> Option<HashSet<String>> {
+    let is_function = |line: &str| match line.split_whitespace().collect::<Vec<_>>()[..] {
+        [_, "t" | "T" | "w" | "W", name] => Some(name.to_string()),
+        _ => None,
+    };
+    Some(printed("nm", &["--defined-only"], archive)?.lines().filter_map(is_function).collect())
 }
 
 /// One instruction, or the head of a function.
@@ -83,19 +81,23 @@ fn flow(code: &str) -> Flow {
     }
 }
 
-/// The functions with those names in a program, none if it cannot be taken apart.
-pub fn of(program: &Path, names: &HashSet<String>) -> Option<Vec<Function>> {
+/// The functions that archives define in a program that they are linked to, one after the other;
+/// none if it cannot be taken apart.
+pub fn of(program: &Path, mut archives: Vec<HashSet<String>>) -> Option<Vec<Function>> {
     let text = printed("objdump", &["-d", "--no-show-raw-insn"], program)?;
     let (mut functions, mut starts) = (Vec::<Function>::new(), BTreeSet::new());
     let (mut is_ours, mut begins) = (false, false);
     for line in text.lines().filter_map(parsed) {
         match line {
             Line::Head { at, name } => {
-                is_ours = names.contains(name);
+                // A function of two archives is met twice.
+                let archive = archives.iter_mut().position(|names| names.remove(name));
+                is_ours = archive.is_some();
                 begins = is_ours;
-                if is_ours {
-                    let (name, blocks) = (name.to_string(), Vec::new());
-                    functions.push(Function { name, start: at, end: at, blocks });
+                if let Some(archive) = archive {
+                    let (name, [blocks, branches]) = (name.to_string(), Default::default());
+                    let function = Function { name, archive, start: at, end: at, blocks, branches };
+                    functions.push(function);
                 }
             }
             Line::Code { at, code } if is_ours => {
@@ -104,7 +106,11 @@ pub fn of(program: &Path, names: &HashSet<String>) -> Option<Vec<Function>> {
                     starts.insert(at);
                     begins = false;
                 }
-                functions.last_mut().expect("the head came before").end = at + 1;
+                let function = functions.last_mut().expect("the head came before");
+                function.end = at + 1;
+                if let Flow::Branch(_) = flow {
+                    function.branches.push(at);
+                }
                 match flow {
                     Flow::Branch(target) | Flow::Away(target) => {
                         starts.extend(target);

@@ -11,12 +11,20 @@ use model::sizes::LAST_REFUSAL;
 use std::collections::{BTreeMap, HashSet};
 use std::path::{Path, PathBuf};
 
+/// The static libraries: that of the header, and what lies behind a row.
+const ARCHIVES: [&str; 2] = ["answers", "answers_asked"];
+
+/// How many inputs are tried after the corpus on a library with a turned branch.
+const TURNED: u64 = 30_000;
+
 /// How many inputs have which reply.
 type Replies = [u64; LAST_REFUSAL as usize + 1];
 
 pub struct Driver {
     asker: Asker,
     functions: Vec<Function>,
+    /// How far these stand from where they were linked.
+    moved: usize,
     /// None where the program cannot be taken apart.
     armed: Option<Armed>,
     /// What reached a block that none before did, by export.
@@ -31,41 +39,48 @@ pub extern "C" fn tezhukor_fuzz_anchor() -> u16 {
     LAST_REFUSAL
 }
 
+fn anchor() -> usize {
+    tezhukor_fuzz_anchor as *const () as usize
+}
+
 /// The static libraries, as `rust/build.rs` looks for them.
 fn libraries() -> [PathBuf; 2] {
     let own = Path::new(env!("CARGO_MANIFEST_DIR")).join("../../target/staticlib");
     let folder = std::env::var_os("TEZHUKOR_LIB").map_or(own, PathBuf::from);
-    ["libanswers.a", "libanswers_asked.a"].map(|name| folder.join(name))
+    ARCHIVES.map(|name| folder.join(format!("lib{name}.a")))
 }
 
 /// The library's functions, and how far they are moved.
 fn taken_apart() -> Option<(Vec<Function>, usize)> {
-    let anchor = "tezhukor_fuzz_anchor";
-    let mut names = blocks::names(&libraries())?;
-    names.insert(anchor.to_string());
-    let program = std::env::current_exe().ok()?;
-    let mut functions = blocks::of(&program, &names)?;
-    let at = functions.iter().position(|function| function.name == anchor)?;
+    let name = "tezhukor_fuzz_anchor";
+    let of_libraries = libraries().map(|path| blocks::names(&path));
+    let own = Some(HashSet::from([name.to_string()]));
+    let names: Option<Vec<_>> = of_libraries.into_iter().chain([own]).collect();
+    let mut functions = blocks::of(&std::env::current_exe().ok()?, names?)?;
+    let at = functions.iter().position(|function| function.name == name)?;
     let linked = functions.remove(at).start;
-    Some((functions, (tezhukor_fuzz_anchor as *const () as usize).wrapping_sub(linked)))
+    Some((functions, anchor().wrapping_sub(linked)))
 }
 
 impl Driver {
     pub fn new() -> Driver {
         traps::watch_faults();
-        let (functions, armed) = match taken_apart() {
+        match taken_apart() {
             Some((functions, moved)) => {
                 let armed = Armed::new(&functions, moved);
                 println!("{} functions, {} blocks", functions.len(), armed.all());
-                (functions, Some(armed))
+                Driver { moved, ..Driver::with(functions, Some(armed)) }
             }
             None => {
                 println!("no nm or objdump is at hand, so blocks are not counted");
-                (Vec::new(), None)
+                Driver::with(Vec::new(), None)
             }
-        };
+        }
+    }
+
+    fn with(functions: Vec<Function>, armed: Option<Armed>) -> Driver {
         let (kept, replies) = (vec![Vec::new(); EXPORTS.len()], Default::default());
-        Driver { asker: Asker::new(), functions, armed, kept, replies, different: 0 }
+        Driver { asker: Asker::new(), functions, moved: 0, armed, kept, replies, different: 0 }
     }
 
     fn reached(&self) -> usize {
@@ -173,12 +188,9 @@ impl Driver {
         if let Some(longest) = longest.filter(|longest| longest.input.len() < 4_096) {
             println!("the longest call: {}", corpus::hex(&longest.input));
         }
-        println!(
-            "inputs {}, blocks {}, different {}",
-            self.tried(),
-            self.reached(),
-            self.different
-        );
+        self.print_blocks();
+        let [tried, reached] = [self.tried(), self.reached() as u64];
+        println!("inputs {tried}, blocks {reached}, different {}", self.different);
     }
 
     /// Tries one input and says what it reaches.
@@ -229,31 +241,121 @@ impl Driver {
         self.different
     }
 
+    /// The branches of the header's library in blocks that the corpus reaches: the function, how far from its start they
+    /// stand, and how far from the anchor.
+    fn branches(&mut self) -> Vec<(&Function, usize, isize)> {
+        corpus::read(&corpus::path()).into_iter().for_each(|input| self.try_one(input));
+        let armed = self.armed.as_ref().expect("blocks are counted");
+        let met: HashSet<usize> = armed.reached().iter().map(|&block| block as usize).collect();
+        let moved = self.moved;
+        let (mut found, mut before) = (Vec::new(), 0);
+        for function in &self.functions {
+            let is_reached = |branch: usize| {
+                let at = function.blocks.partition_point(|&block| block <= branch);
+                met.contains(&(before + at - 1))
+            };
+            let reached = function.branches.iter().filter(|&&branch| is_reached(branch));
+            for &branch in reached.filter(|_| function.archive == 0) {
+                let stands = branch.wrapping_add(moved);
+                if traps::condition(stands).is_some() {
+                    let far = stands.wrapping_sub(anchor()) as isize;
+                    found.push((function, branch - function.start, far));
+                }
+            }
+            before += function.blocks.len();
+        }
+        found
+    }
+
+    /// Turns so many branches, one after the other, each in a process of its own, and counts
+    /// those that are told: by a difference, or by a fault, a panic or no end.
+    pub fn turned(&mut self, times: usize, seed: u64) -> u64 {
+        let mut branches = self.branches();
+        let (all, dice) = (branches.len(), &mut Dice::new(seed, 0));
+        let mut told = [0; 3];
+        for _ in 0..times.min(all) {
+            let (function, at, far) = branches.swap_remove(dice.below(branches.len()));
+            let program = std::env::current_exe().expect("this program");
+            let mut child = std::process::Command::new(program);
+            let output = child.args(["turned-at", &far.to_string()]).output();
+            let way = match output.expect("it can be started").status.code() {
+                Some(1) => 0,
+                Some(0) => 2,
+                _ => 1,
+            };
+            told[way] += 1;
+            if way == 2 {
+                println!("not told: {} {at:x}", function.name);
+            }
+        }
+        let [different, faults, untold] = told;
+        println!(
+            "of {all} branches turned {}: told by a difference {different}, by a fault, a panic \
+             or no end {faults}, not told {untold}",
+            times.min(all)
+        );
+        0
+    }
+
+    /// Turns one branch, and tries inputs until one tells; the answer is whether one does.
+    pub fn turned_at(branch: isize) -> u64 {
+        traps::watch_faults();
+        traps::be_patient(5);
+        let mut driver = Driver::with(Vec::new(), None);
+        traps::turn(anchor().wrapping_add_signed(branch));
+        for input in corpus::read(&corpus::path()) {
+            let export = export(input.head[EXPORT]);
+            driver.kept[export].push(input.clone());
+            driver.try_one(input);
+        }
+        for index in 0..TURNED {
+            if driver.different > 0 {
+                break;
+            }
+            let input = driver.next(&mut Dice::new(1, index));
+            driver.try_one(input);
+        }
+        driver.different.min(1)
+    }
+
+    /// The blocks of each function that were not reached, as far from its start as they stand.
+    fn missed(&self) -> Vec<(&Function, Vec<usize>)> {
+        let Some(armed) = &self.armed else { return Vec::new() };
+        let met: HashSet<u32> = armed.reached().iter().copied().collect();
+        let mut numbers = 0..;
+        let missed = |function: &Function| {
+            let blocks = function.blocks.iter().zip(numbers.by_ref());
+            let of = blocks.filter(|(_, number)| !met.contains(number));
+            of.map(|(block, _)| block - function.start).collect()
+        };
+        let of: Vec<Vec<usize>> = self.functions.iter().map(missed).collect();
+        self.functions.iter().zip(of).collect()
+    }
+
     /// Prints the blocks that the corpus does not reach, by function.
     pub fn unreached(&mut self) -> u64 {
-        for input in corpus::read(&corpus::path()) {
-            self.try_one(input);
+        corpus::read(&corpus::path()).into_iter().for_each(|input| self.try_one(input));
+        for (function, missed) in self.missed().iter().filter(|(_, missed)| !missed.is_empty()) {
+            let Function { name, archive, blocks, .. } = function;
+            let at: Vec<String> = missed.iter().map(|at| format!("{at:x}")).collect();
+            let [all, reached] = [blocks.len(), blocks.len() - missed.len()];
+            println!("{name} ({}): {reached} of {all}, not {}", ARCHIVES[*archive], at.join(" "));
         }
-        let Some(armed) = &self.armed else { return self.different };
-        let met: HashSet<u32> = armed.reached().iter().copied().collect();
-        let mut number = 0;
-        for function in &self.functions {
-            let mut missed = Vec::new();
-            for block in &function.blocks {
-                if !met.contains(&number) {
-                    missed.push(format!("{:x}", block - function.start));
-                }
-                number += 1;
-            }
-            let all = function.blocks.len();
-            println!(
-                "{}: {} of {all}; not {}",
-                function.name,
-                all - missed.len(),
-                missed.join(" ")
-            );
-        }
-        println!("blocks {} of {}", met.len(), armed.all());
+        self.print_blocks();
         self.different
+    }
+
+    /// Prints how many blocks are reached, by library.
+    fn print_blocks(&self) {
+        let missed = self.missed();
+        for (number, archive) in ARCHIVES.iter().enumerate() {
+            let of = missed.iter().filter(|(function, _)| function.archive == number);
+            let [mut all, mut not] = [0, 0];
+            for (function, missed) in of {
+                all += function.blocks.len();
+                not += missed.len();
+            }
+            println!("{archive}: blocks {} of {all}", all - not);
+        }
     }
 }

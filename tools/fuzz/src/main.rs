@@ -28,6 +28,8 @@ const USAGE: &str = "usage:
   fuzz corpus [FOUND ..]   makes the corpus anew, of the present one and of such files: for each
                            block the shortest input that reaches it
   fuzz blocks              the blocks that the corpus does not reach
+  fuzz turned TIMES [SEED] turns so many branches of the library, one at a time, and counts those
+                           that are told
   fuzz input HEX           tries one input";
 
 /// How many inputs a short run tries.
@@ -59,6 +61,9 @@ fn run(words: &[&str]) -> Option<u64> {
         ["run", inputs, seed] => Driver::new().run(number(inputs)?, number(seed)?),
         ["short"] => Driver::new().run(SHORT, 1),
         ["corpus", found @ ..] => Driver::new().make_corpus(found),
+        ["turned", times] => Driver::new().turned(number(times)? as usize, 1),
+        ["turned", times, seed] => Driver::new().turned(number(times)? as usize, number(seed)?),
+        ["turned-at", branch] => Driver::turned_at(branch.parse().ok()?),
         ["blocks"] => Driver::new().unreached(),
         ["input", hex] => Driver::new().one(&corpus::of_hex(hex)?),
         _ => return None,

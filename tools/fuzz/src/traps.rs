@@ -3,7 +3,7 @@
 
 use crate::blocks::Function;
 use crate::system::{self, State};
-use std::sync::atomic::{AtomicPtr, AtomicUsize, Ordering::Relaxed};
+use std::sync::atomic::{AtomicPtr, AtomicU32, AtomicUsize, Ordering::Relaxed};
 
 /// The instruction that traps.
 const TRAP: u8 = 0xCC;
@@ -72,6 +72,26 @@ impl Armed {
     }
 }
 
+/// Where the byte of a branch stands whose lowest bit says which way it goes, if it has one.
+pub fn condition(branch: usize) -> Option<usize> {
+    const SHORT: std::ops::RangeInclusive<u8> = 0x70..=0x7F;
+    const NEAR: std::ops::RangeInclusive<u8> = 0x80..=0x8F;
+    // SAFETY: a branch has two bytes at least.
+    match [0, 1].map(|at| unsafe { *((branch + at) as *const u8) }) {
+        [first, _] if SHORT.contains(&first) => Some(branch),
+        [0x0F, second] if NEAR.contains(&second) => Some(branch + 1),
+        _ => None,
+    }
+}
+
+/// Has a branch go where it did not, and on where it went.
+pub fn turn(branch: usize) {
+    let at = condition(branch).expect("it can be turned");
+    system::open_code(at, at + 1);
+    // SAFETY: the byte is one of this program's code.
+    put(at, unsafe { *(at as *const u8) } ^ 1);
+}
+
 /// Writes a byte of code.
 fn put(address: usize, byte: u8) {
     // SAFETY: the address is a block's, whose pages may be written to.
@@ -101,7 +121,7 @@ static TRIED: AtomicUsize = AtomicUsize::new(0);
 static TRIED_BEFORE: AtomicUsize = AtomicUsize::new(usize::MAX);
 
 /// Seconds after which an input that is still tried counts as hanging, and up to twice as many.
-const PATIENCE: u32 = 60;
+static PATIENCE: AtomicU32 = AtomicU32::new(60);
 
 /// Has faults, panics and hangs end the program with the input that they come from.
 pub fn watch_faults() {
@@ -113,7 +133,13 @@ pub fn watch_faults() {
         system::handle(signal, on_fault);
     }
     system::handle(system::ALARM, on_alarm);
-    system::alarm_after(PATIENCE);
+    system::alarm_after(PATIENCE.load(Relaxed));
+}
+
+/// Waits no longer than so many seconds for an input.
+pub fn be_patient(seconds: u32) {
+    PATIENCE.store(seconds, Relaxed);
+    system::alarm_after(seconds);
 }
 
 /// Says which input is tried now.
@@ -147,5 +173,5 @@ extern "C" fn on_alarm(_: i32, _: *const u8, _: *mut State) {
     if TRIED_BEFORE.swap(tried, Relaxed) == tried {
         end_with("no end, by the input ");
     }
-    system::alarm_after(PATIENCE);
+    system::alarm_after(PATIENCE.load(Relaxed));
 }
