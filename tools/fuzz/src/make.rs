@@ -112,7 +112,7 @@ fn number(dice: &mut Dice) -> u16 {
 /// The numbers of a question about a node: what is asked, two operators, flags, a cell or an
 /// offset, two more of either, and a precedence; now and then any.
 fn question(dice: &mut Dice) -> [u16; 8] {
-    let below = [dice.pick(&[6, 20]), 20, 20, 256, 6, 3, 3, 18];
+    let below = [dice.pick(&[6, 20]), 20, 20, 1_024, 6, 3, 3, 18];
     below.map(|most| if dice.percent(6) { number(dice) } else { dice.below(most) as u16 })
 }
 
