@@ -14,6 +14,9 @@ use std::path::{Path, PathBuf};
 /// The static libraries: that of the header, and what lies behind a row.
 const ARCHIVES: [&str; 2] = ["answers", "answers_asked"];
 
+/// How many inputs a short run tries.
+const SHORT: u64 = 60_000;
+
 /// How many inputs are tried after the corpus on a library with a turned branch.
 const TURNED: u64 = 30_000;
 
@@ -108,18 +111,23 @@ impl Driver {
         self.replies.iter().flatten().sum()
     }
 
+    fn print_so_far(&self, what: &str) {
+        let [tried, reached] = [self.tried(), self.reached() as u64];
+        println!("{what}: inputs {tried}, blocks {reached}, different {}", self.different);
+    }
+
     /// Tries so many inputs, the corpus and what is recorded first; the answer is how many differ.
     pub fn run(&mut self, inputs: u64, seed: u64) -> u64 {
         for input in corpus::read(&corpus::path()) {
             self.try_one(input);
         }
-        println!("the corpus: {} inputs, {} blocks", self.tried(), self.reached());
+        self.print_so_far("the corpus");
         corpus::at_bounds().into_iter().for_each(|input| self.try_one(input));
-        println!("with those at bounds: {} inputs, {} blocks", self.tried(), self.reached());
+        self.print_so_far("with those at bounds");
         let recorded = corpus::recorded();
         let step = (recorded.len() as u64 * 4 / inputs).max(1) as usize;
         recorded.into_iter().step_by(step).for_each(|input| self.try_one(input));
-        println!("with recorded ones: {} inputs, {} blocks", self.tried(), self.reached());
+        self.print_so_far("with recorded ones");
         for index in 0.. {
             if self.tried() >= inputs {
                 break;
@@ -127,16 +135,25 @@ impl Driver {
             let input = self.next(&mut Dice::new(seed, index));
             self.try_one(input);
             if index % 500_000 == 499_999 {
-                let [tried, reached] = [self.tried(), self.reached() as u64];
-                println!("{tried} inputs, {reached} blocks, {} different", self.different);
+                self.print_so_far("with made ones");
             }
         }
-        if inputs > crate::SHORT {
-            let found: Vec<Input> = self.kept.concat();
-            let folder = Path::new(env!("CARGO_MANIFEST_DIR")).join("../../target");
-            corpus::write(&folder.join(format!("fuzz-found-{seed}")), &found);
-        }
+        self.different
+    }
+
+    /// The same, with all that came of them printed and what was found kept.
+    pub fn run_and_tell(&mut self, inputs: u64, seed: u64) -> u64 {
+        self.run(inputs, seed);
+        let folder = Path::new(env!("CARGO_MANIFEST_DIR")).join("../../target");
+        corpus::write(&folder.join(format!("fuzz-found-{seed}")), &self.kept.concat());
         self.print();
+        self.different
+    }
+
+    /// The same in seconds.
+    pub fn run_short(&mut self) -> u64 {
+        self.run(SHORT, 1);
+        self.print_together();
         self.different
     }
 
@@ -188,9 +205,12 @@ impl Driver {
         if let Some(longest) = longest.filter(|longest| longest.input.len() < 4_096) {
             println!("the longest call: {}", corpus::hex(&longest.input));
         }
+        self.print_together();
+    }
+
+    fn print_together(&self) {
         self.print_blocks();
-        let [tried, reached] = [self.tried(), self.reached() as u64];
-        println!("inputs {tried}, blocks {reached}, different {}", self.different);
+        self.print_so_far("together");
     }
 
     /// Tries one input and says what it reaches.

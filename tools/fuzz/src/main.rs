@@ -32,9 +32,6 @@ const USAGE: &str = "usage:
                            that are told
   fuzz input HEX           tries one input";
 
-/// How many inputs a short run tries.
-const SHORT: u64 = 60_000;
-
 /// The longest lists take up to 4.4 MiB of stack.
 const STACK: usize = 64 << 20;
 
@@ -57,9 +54,9 @@ fn main() -> ExitCode {
 fn run(words: &[&str]) -> Option<u64> {
     let number = |text: &str| text.parse::<u64>().ok();
     Some(match words {
-        ["run", inputs] => Driver::new().run(number(inputs)?, 1),
-        ["run", inputs, seed] => Driver::new().run(number(inputs)?, number(seed)?),
-        ["short"] => Driver::new().run(SHORT, 1),
+        ["run", inputs] => Driver::new().run_and_tell(number(inputs)?, 1),
+        ["run", inputs, seed] => Driver::new().run_and_tell(number(inputs)?, number(seed)?),
+        ["short"] => Driver::new().run_short(),
         ["corpus", found @ ..] => Driver::new().make_corpus(found),
         ["turned", times] => Driver::new().turned(number(times)? as usize, 1),
         ["turned", times, seed] => Driver::new().turned(number(times)? as usize, number(seed)?),
