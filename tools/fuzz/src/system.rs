@@ -1,4 +1,4 @@
-//! What is asked of Linux on x86-64: pages, signals and an alarm.
+//! What is asked of Linux on x86-64: pages, signals and an alarm by the time that is run.
 
 use std::ptr::null_mut;
 
@@ -35,14 +35,14 @@ extern "C" {
     fn mmap(at: *mut u8, length: usize, may: i32, kind: i32, file: i32, offset: i64) -> *mut u8;
     fn mprotect(at: *mut u8, length: usize, may: i32) -> i32;
     fn sigaction(signal: i32, new: *const Action, old: *mut Action) -> i32;
-    fn alarm(seconds: u32) -> u32;
+    fn setitimer(clock: i32, new: *const [i64; 4], old: *mut [i64; 4]) -> i32;
     fn write(file: i32, bytes: *const u8, length: usize) -> isize;
     fn _exit(status: i32) -> !;
 }
 
 /// Signals, by number.
 pub const TRAP: i32 = 5;
-pub const ALARM: i32 = 14;
+pub const ALARM: i32 = 27;
 /// Those of a fault: illegal instruction, abort, bus error, wrong arithmetic, wrong address.
 pub const FAULTS: [i32; 5] = [4, 6, 7, 8, 11];
 
@@ -83,10 +83,14 @@ pub fn handle(signal: i32, handler: Handler) {
     assert_eq!(reply, 0, "signal {signal} cannot be handled");
 }
 
-/// Sends an alarm after so many seconds, and forgets the one before.
+/// Sends an alarm after so many seconds that the program has run, and forgets the one before.
 pub fn alarm_after(seconds: u32) {
-    // SAFETY: a number.
-    unsafe { alarm(seconds) };
+    const TIME_RUN: i32 = 2;
+    // The seconds and microseconds of what comes again, and of what comes first.
+    let times = [0, 0, seconds.into(), 0];
+    // SAFETY: the pointer is that of C's `struct itimerval`; the old one is not asked for.
+    let reply = unsafe { setitimer(TIME_RUN, &times, null_mut()) };
+    assert_eq!(reply, 0, "no alarm can be set");
 }
 
 /// Prints text from within a handler.

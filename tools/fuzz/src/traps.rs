@@ -120,7 +120,8 @@ static LENGTH: AtomicUsize = AtomicUsize::new(0);
 static TRIED: AtomicUsize = AtomicUsize::new(0);
 static TRIED_BEFORE: AtomicUsize = AtomicUsize::new(usize::MAX);
 
-/// Seconds after which an input that is still tried counts as hanging, and up to twice as many.
+/// Seconds of processor time after which an input that is still tried counts as one without an
+/// end, and up to twice as many.
 static PATIENCE: AtomicU32 = AtomicU32::new(60);
 
 /// Has faults, panics and hangs end the program with the input that they come from.
