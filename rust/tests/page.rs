@@ -132,6 +132,26 @@ fn refused_files() {
 }
 
 #[test]
+fn rearranged_files() {
+    let name = format!("tezhukor-{}-page.tree.columns", std::process::id());
+    let path = std::env::temp_dir().join(name);
+    let page_of = |bytes: &[u8], status| {
+        std::fs::write(&path, bytes).expect("a file");
+        page(&[path.to_str().expect("text")], b"", status)
+    };
+    let columns = tezhukor::to_columns(&file(nested(), Context::None)).expect("a sheet");
+    assert!(page_of(&columns, 0).contains("<title>a - (b - (c - d))</title>"));
+    // Node 2 is a Try without an operand; a form below 0; the first number of a node.
+    let page = page_of(&[0, 2, 66, 0, 0, 0, 0, 0, 1, 0, 0, 0, 0, 0], 1);
+    assert!(page.contains("<tr class=\"marked\"><td>2</td><td class=\"name\">Try</td>"), "{page}");
+    for bytes in [&[0, 1, 1, 0, 0, 0, 0, 0][..], &[0, 1, 52]] {
+        let page = page_of(bytes, 1);
+        assert!(page.contains("<h1>No sheet</h1>") && !page.contains("<table>"), "{page}");
+    }
+    std::fs::remove_file(&path).expect("the file goes");
+}
+
+#[test]
 fn usage() {
     for wrong in [
         &["page"][..],

@@ -76,9 +76,16 @@ fn body(kind: Kind, numbers: &[u16], malformed: usize) -> String {
     }
 }
 
-/// The nodes of a tree file, up to the first number that is malformed.
-pub fn listed(file: &[u8]) -> Vec<Node> {
-    nodes(numbers(file).0.get(2..).unwrap_or(&[]))
+/// The nodes of a tree file, up to the first number that is malformed; of a rearranged file,
+/// where all its numbers are there.
+pub fn listed(kind: Kind, file: &[u8]) -> Vec<Node> {
+    let numbers = numbers(file).0;
+    let count = numbers.get(1).copied().map_or(0, usize::from);
+    match kind {
+        Kind::Tree => nodes(numbers.get(2..).unwrap_or(&[])),
+        Kind::Columns if numbers.len() != 2 + NODE_CELLS * count => Vec::new(),
+        Kind::Columns => restored(&numbers).map_or(Vec::new(), |cells| nodes(&cells)),
+    }
 }
 
 fn nodes(cells: &[u16]) -> Vec<Node> {

@@ -13,7 +13,7 @@ use markup::{escaped, expression, Mark};
 use std::collections::HashMap;
 use std::ffi::{OsStr, OsString};
 use tezhukor::text::{Names, Pair, Text};
-use tezhukor::{forms, Refusal, Sight, Tree};
+use tezhukor::{forms, Node, Refusal, Sight, Tree};
 
 const STYLE: &str = include_str!("page/page.css");
 const SCRIPT: &str = include_str!("page/page.js");
@@ -58,12 +58,12 @@ impl Asked<'_> {
             return Ok(Answer::done(of_edit(&edit)));
         }
         let names = Names::new(&names_text(self.names)?);
-        let bytes = tree_bytes(file)?;
-        match Tree::load(&bytes) {
+        let (kind, bytes) = (Kind::of(file), tree_bytes(file)?);
+        match kind.load(&bytes) {
             Ok(tree) => Ok(Answer::done(of_tree(&tree, &names))),
             Err(refusal) => {
-                let said = words(refusal, &blame::place(Kind::Tree, refusal, &bytes));
-                let page = of_refusal(refusal, &said, &bytes);
+                let said = words(refusal, &blame::place(kind, refusal, &bytes));
+                let page = of_refusal(refusal, &said, &blame::listed(kind, &bytes));
                 Ok(Answer { output: page.into(), ..Answer::refused(said) })
             }
         }
@@ -228,22 +228,25 @@ fn of_edit(edit: &edits::Seen) -> String {
 }
 
 /// A refused file: the refusal, and the nodes as far as they can be told.
-fn of_refusal(refusal: Refusal, said: &str, file: &[u8]) -> String {
-    let nodes = blame::listed(file);
-    let blamed = blame::node(refusal, &nodes);
-    let row = |(number, node): (usize, &tezhukor::Node)| {
+fn of_refusal(refusal: Refusal, said: &str, nodes: &[Node]) -> String {
+    let blamed = blame::node(refusal, nodes);
+    let row = |(number, node): (usize, &Node)| {
         let class = if blamed == Some(number) { " class=\"marked\"" } else { "" };
         let name = forms::name(node.form).unwrap_or("no form");
         let cells: String = node.cells().iter().map(|cell| format!("<td>{cell}</td>")).collect();
         format!("<tr{class}><td>{number}</td><td class=\"name\">{name}</td>{cells}</tr>\n")
     };
-    let rows: String = (1..).zip(&nodes).map(row).collect();
-    let body = format!(
-        "<h1>No sheet</h1>\n<p class=\"expression\">{}</p>\n<h2>Its nodes, as far as they can be \
-         told</h2>\n<div class=\"wide\"><table>\n<tr><th>node</th><th class=\"name\">form</th>\
-         <th>form</th><th>attributes</th><th>detail</th><th>first</th><th>second</th>\
-         <th>symbol</th></tr>\n{rows}</table></div>\n",
-        escaped(said)
-    );
+    let rows: String = (1..).zip(nodes).map(row).collect();
+    let table = match &rows[..] {
+        "" => String::new(),
+        _ => format!(
+            "<h2>Its nodes, as far as they can be told</h2>\n<div class=\"wide\"><table>\n\
+             <tr><th>node</th><th class=\"name\">form</th><th>form</th><th>attributes</th>\
+             <th>detail</th><th>first</th><th>second</th><th>symbol</th></tr>\n\
+             {rows}</table></div>\n"
+        ),
+    };
+    let said = escaped(said);
+    let body = format!("<h1>No sheet</h1>\n<p class=\"expression\">{said}</p>\n{table}");
     whole("A file that is no sheet", &body)
 }
