@@ -165,6 +165,18 @@ fn the_front_page_builds_as_shown() -> Result<(), Box<dyn std::error::Error>> {
     Ok(())
 }
 
+/// The lines of the recipes' page are those of the recipes.
+#[test]
+fn recipes_are_as_shown() {
+    let files = ["curve/build.rs", "editor.rs", "archive.rs", "reads_back.rs"];
+    let sources = files.map(|file| text(&root().join("rust/recipes").join(file))).concat();
+    let document = text(&root().join("docs/RECIPES.md"));
+    let blocks = parts(&document).1.into_iter().filter(|lines| lines[0].starts_with("let "));
+    let shown: Vec<&str> = blocks.flatten().collect();
+    let is_there = |line: &&str| sources.contains(&format!("    {line}\n"));
+    assert!(shown.len() > 8 && shown.iter().all(is_there), "{shown:?}");
+}
+
 /// Each `$ ` line of a document with what it shows below it.
 fn transcript(document: &str) -> Vec<(String, String)> {
     let mut shown: Vec<(String, String)> = Vec::new();
