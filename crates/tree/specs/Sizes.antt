@@ -13,10 +13,6 @@ mostSymbol = 65535
 abbrev pub rowCells : ℕ
 rowCells = 5
 
--- 12: "three for the walk's scratch"
-abbrev pub scratchCells : ℕ
-scratchCells = 3
-
 -- document 02, Paper 4: "A token becomes two 16-bit cells, code and symbol"
 abbrev pub tokenCells : ℕ
 tokenCells = 2

@@ -8,9 +8,6 @@ pub const MOST_SYMBOL: u16 = 65_535;
 // The numbers of a row: pair, precedence, previous operator, next operator, flags.
 pub const ROW_CELLS: usize = 5;
 
-// The cells of scratch that the walk asks for, a node.
-pub const SCRATCH_CELLS: usize = 3;
-
 // The numbers of a token: its code and its symbol.
 pub const TOKEN_CELLS: usize = 2;
 
