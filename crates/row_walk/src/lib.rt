@@ -28,7 +28,7 @@ ghost use Rattle.expr.specs.declared.order.CalleeOrder.the-variants.{Ours};
 ghost use Rattle.row_pack.specs.Packs.{packedOf};
 ghost use Rattle.row.specs.Rows.{zeros, isExpression, rowOf, ownContext, rowsOf};
 ghost use Rattle.row.specs.Steps.{alone};
-ghost use Rattle.row.specs.Hands.{handedOf};
+ghost use Rattle.row.specs.Hands.{handOf, handedOf};
 ghost use Rattle.row_walk.specs.Stack.{within};
 ghost use Rattle.row_walk.specs.Walk.{contextNumbered, rootHanded, rowStored, placed, walkedAfter, decided, rowsAfter};
 
@@ -127,6 +127,7 @@ fn walk_from(order: CalleeOrder, root: u32, table: &[u16], count: u16, rows: &mu
             }
             if is_other(table, count, at) {
                 lone = true;
+                hand = 0;
                 at = first;
                 continue;
             }
@@ -149,6 +150,7 @@ fn walk_from(order: CalleeOrder, root: u32, table: &[u16], count: u16, rows: &mu
         at = operand_number(table, count, owner, columns::SECOND);
         if is_other(table, count, at) {
             lone = true;
+            hand = 0;
             continue;
         }
         let kept = contexts[depth];
@@ -181,6 +183,18 @@ fn root_handed(context: u16, table: &[u16], count: u16) -> Handed
     }
 }
 
+// That in one number; in context 0, which most trees have, without a context that is packed.
+fn root_hand(context: u16, table: &[u16], count: u16) -> u32
+    ensures { λ r. ⌜ r ≡ handOf (rootHanded context (treeAt (now (table .entry)) count 1)) ⌝ }
+{
+    if context == 0 {
+        let none = FixupContext::none();
+        let precedence = none.precedence(table, count, 1);
+        return CONTEXTS * (precedence.rank() as u32);
+    }
+    hand_of(root_handed(context, table, count))
+}
+
 // The rows of all nodes of a table whose rules nobody checks here; where `rows` is too short for them, it stays. A node with several owners is walked once for each path to it, and a second operand for which no entry is left is not walked: no accepted table has either.
 pub fn walk(order: CalleeOrder, context: u16, count: u16, table: &[u16], rows: &mut [u16])
     ensures { λ _. ⌜ now (rows .exit) ≡ walkedAfter order context count (now (table .entry)) (now (rows .entry)) ⌝ }
@@ -191,7 +205,7 @@ pub fn walk(order: CalleeOrder, context: u16, count: u16, table: &[u16], rows: &
     if count == 0 {
         return;
     }
-    let hand = hand_of(root_handed(context, table, count));
+    let hand = root_hand(context, table, count);
     walk_from(order, hand, table, count, rows);
 }
 

@@ -21,8 +21,8 @@ returns-2 c =
 
 returns-3 : tie.Need-returns-3
 returns-3 c =
-    let a = c .before .before .before .before .before .before .before .before .before .before .args in
-    walks (a .order) (a .context) (a .count) (a .table .now) (a .rows .now) (c .before .before .before .before .before .before .before .if1 .left) _ (ap handedOf (c .before .before .before .before .hand-of .ensures) ∙ handed-back _ ∙ c .before .before .before .before .before .root-handed .ensures) _ (c .before .before .walk-from .ensures)
+    let a = c .before .before .before .before .before .before .before .before .before .args in
+    walks (a .order) (a .context) (a .count) (a .table .now) (a .rows .now) (c .before .before .before .before .before .before .if1 .left) _ (ap handedOf (c .before .before .before .before .root-hand .ensures) ∙ handed-back _) _ (c .before .before .walk-from .ensures)
 
 pub walk-spec : {M : Type 1} → statement M
-walk-spec = tie.close (tie.spec (λ c. search needs) returns returns-2 free free (λ c κs. (omega arith, c .before .before .before .before .if1 .left)) (λ c. search needs) returns-3)
+walk-spec = tie.close (tie.spec (λ c. search needs) returns returns-2 free (λ c κs. (omega arith, c .before .before .before .if1 .left)) (λ c. search needs) returns-3)
