@@ -99,7 +99,7 @@ fn enter(hand: u32, table: &[u16], count: u16, node: u16, rows: &mut [u16]) -> u
     hand % CONTEXTS
 }
 
-// The rows of the root and of all below it. An entry is an owner whose second operand waits while what is below its first is walked, with the owner's own context. Where `lone` holds no owner tests the node, and `hand` is not looked at.
+// The rows of the root and of all below it. An entry is an owner whose second operand waits while what is below its first is walked, with the owner's own context. Where `lone` holds no owner tests the node, and `hand` is not looked at; it is 0 there, because a compiler unpacks a number that stays the same before it knows whether anyone asks.
 fn walk_from(order: CalleeOrder, root: u32, table: &[u16], count: u16, rows: &mut [u16])
     requires { ⌜ (1 ≤ count) × (rowCells * count ≤ length (now rows)) ⌝ }
     ensures { λ _. ⌜ now (rows .exit) ≡ placed (now (table .entry)) count 1 (within mostLevels (rowsOf order (handedOf root) (treeAt (now (table .entry)) count 1))) (now (rows .entry)) ⌝ }
