@@ -37,7 +37,7 @@ use Rattle.token_rows.proofs.Operands.{Settled}
 use Rattle.token_rows.proofs.Handed.{Operand, root, alone, prefix-first, binary-first, binary-second, cast-first, member-first, try-first, index-first, call-first, method-first, paren-first, index-second, link-first}
 use Rattle.token_rows.proofs.Tokens.{marked, inside, tokensFor, marked-other, marked-expression, own-expression}
 use Rattle.token_rows.proofs.Numbers.{within-by, inside-by}
-use Rattle.token_writer.specs.Levels.{opening, conditional, place, lowestIn, opensIn, conditionIn, callable, strengthLines, strengthOf, needsBy, needs, lowestAfter, firstLines, firstBy, secondLines, secondBy, kept, firstFrom, secondFrom, tokensBy, pairsBy}
+use Rattle.token_writer.specs.Levels.{opening, conditional, place, lowestIn, opensIn, conditionIn, callable, closed, strengthLines, strengthOf, needsBy, needs, lowestAfter, firstLines, firstBy, secondLines, secondBy, kept, firstFrom, secondFrom, tokensBy, pairsBy}
 
 -- ---- what a place's number says
 
@@ -86,18 +86,18 @@ needs-zero (node l a b) = needs-in 0 (omega arith) false false (node l a b) ∙ 
 
 -- strengths as levels have them, with those that may be called above all
 abbrev strong : Bool → Expr one → ℕ
-strong g (atom x) = callable
-strong g (paren a) = callable
+strong g (atom x) = closed
+strong g (paren a) = closed
 strong g (prefix p a) = level prefixes
 strong g (binary o a b) = level (kind o)
 strong g (cast a t) = pick (g && typeEndsInName t) 0 (level casts)
 strong g (member (byName y) a) = level postfixes
-strong g (member (byNumber y) a) = callable
-strong g (member awaited a) = callable
-strong g (try a) = callable
-strong g (index a b) = callable
-strong g (call a l) = callable
-strong g (method y a l) = callable
+strong g (member (byNumber y) a) = closed
+strong g (member awaited a) = closed
+strong g (try a) = closed
+strong g (index a b) = closed
+strong g (call a l) = closed
+strong g (method y a l) = closed
 
 needs-strong : (n : ℕ) (g c : Bool) (e : Expr one) → needsIn n g c (treeOf e) ≡ (c && isStruct e) || ltb (strong g e) n
 unfolding needsBy strengthOf strengthLines lookup pick operatorLabel kind
@@ -124,8 +124,8 @@ needs-strong n g c (index a b) = refl
 needs-strong n g c (call a l) = refl
 needs-strong n g c (method y a l) = refl
 
-both-strong : (n : ℕ) → n ≤ level postfixes → ltb callable n ≡ ltb (level postfixes) n
-both-strong n h = le-ltb callable n (omega arith) ∙ sym (le-ltb (level postfixes) n (omega arith))
+both-strong : (n : ℕ) → n ≤ level postfixes → ltb closed n ≡ ltb (level postfixes) n
+both-strong n h = le-ltb closed n (omega arith) ∙ sym (le-ltb (level postfixes) n (omega arith))
 
 off : (b : Bool) → b && false ≡ false
 off true = refl

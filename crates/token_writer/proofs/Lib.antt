@@ -4,6 +4,7 @@ pub mod Loops
 pub mod Pairs
 pub mod Plains
 pub mod Replies
+pub mod Shapes
 pub mod Spelling
 pub mod Strengths
 pub mod Tasks

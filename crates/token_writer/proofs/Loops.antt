@@ -1,11 +1,12 @@
 -- The loop of `write_tree`: what is written and what waits are the whole. Assumes nothing.
 use mathlib.Core.Path.{_≡_, refl, sym, ap, _∙_}
 use mathlib.Core.List.{List, [], _++_, append-assoc, append-nil}
-use Prim.Native.Nat.{ℕ, suc, _+_, _-_, _≤_, _<_}
+use Prim.Native.Nat.{ℕ, suc, _+_, _*_, _-_, _≤_, _<_}
 use native.Mathlib.Omega.{arith}
 use lib.ListN.{length, getD, set, length-append}
 use Rattle.laws.specs.Puts.{Put}
 use Rattle.laws.proofs.Putting.{put-none, put-more}
+use Rattle.tree.specs.Sizes.{nodeCells}
 use Rattle.token_writer.specs.declared.Turn.{Turn}
 use Rattle.token_writer.specs.Tasks.{taskStep, taskOf, betweenTask, cellsBy, pairsAt, taskCells, taskPairs, enterWork, taskWork, pile, waitingCells, waitingPairs, waitingWork, Turned}
 use Rattle.token_writer.proofs.Tasks.{enter-cells, enter-pairs, enter-work, some-work, pile-push, pile-top, deep}
@@ -53,13 +54,13 @@ module _ (cells : List ℕ) (count p : ℕ) (before : List ℕ) (lent : ℕ) whe
     top-work : waitingWork cells count stack depth ≡ taskWork cells count task + waitingWork cells count stack d
     top-work = pile-top (λ task r. taskWork cells count task + r) 0 stack depth d down
 
-    pub fits : length (cellsBy cells count p 1) ≤ length before → (d < length stack) × (d + taskWork cells count task ≤ length stack) × (at + length (taskCells cells count task) ≤ length tokens)
-    fits lent =
+    pub fits : length (cellsBy cells count p 1) ≤ length before → nodeCells * count ≤ length cells → (d < length stack) × (d + taskWork cells count task ≤ length stack) × (at + length (taskCells cells count task) ≤ length tokens) × (nodeCells * count ≤ length cells)
+    fits lent table =
         let low = deep cells count stack d in
         let own = some-work cells count task in
         let n = ap length (s .whole ∙ ap (λ r. s .written ++ r) top-cells) in
         let m = simp length-append at n in
-        (omega (arith, top-work, s .work, s .room, s .size), omega (arith, top-work, s .work, s .room, s .size), omega (arith, s .puts .ends, s .puts .room))
+        (omega (arith, top-work, s .work, s .room, s .size), omega (arith, top-work, s .work, s .room, s .size), omega (arith, s .puts .ends, s .puts .room), table)
 
     module _ (newStack newTokens : List ℕ) (turn : Turn) (t : Turned cells count task stack d tokens at newStack newTokens turn) where
       pub again : State newStack newTokens (turn .at) (pairs + turn .pairs) (turn .depth)

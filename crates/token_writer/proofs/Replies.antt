@@ -10,7 +10,7 @@ use borrow.Author.Tests.{eq-eqb, ne-eqb, lt-ltb, le-ltb, eqb-true}
 use Rattle.laws.specs.Choice.{pick}
 use Rattle.laws.specs.Lists.{over}
 use Rattle.laws.proofs.Choice.{pick-true, pick-false, or-here, or-next, true-not-false}
-use Rattle.tree.specs.Sizes.{tokenCells, tokensPerNode, mostNodes, mostTokens}
+use Rattle.tree.specs.Sizes.{nodeCells, tokenCells, tokensPerNode, mostNodes, mostTokens}
 use Rattle.tree.specs.Trees.{treeAt}
 use Rattle.tree_rules.specs.Refusals.{firstOf, refusal, Accepted}
 use Rattle.tree_rules.proofs.Accepted.{count-bounds}
@@ -114,6 +114,7 @@ module _ (context count : ℕ) (cells tokens : List ℕ) where
               × (pairsAt cells count (rootIn context) 1 ≤ mostNodes)
               × (length (cellsBy cells count (rootIn context) 1) ≤ length tokens)
               × (length (cellsBy cells count (rootIn context) 1) ≤ tokenCells * mostTokens)
+              × (nodeCells * count ≤ length cells)
           unfolding enterWork
           plainly =
               let nodes = size-accepted context count cells accepted in
@@ -125,6 +126,7 @@ module _ (context count : ℕ) (cells tokens : List ℕ) where
                 omega (arith, bounds .1, pairs-most (treeAt cells count 1) (rootIn context)),
                 omega (arith, most .0),
                 omega (arith, most .1),
+                bounds .2,
               )
 
           pub done : (r : Written) (last : List ℕ) → r ≡ Tokens (pairsAt cells count (rootIn context) 1) (length (cellsBy cells count (rootIn context) 1) / tokenCells) → last ≡ over (cellsBy cells count (rootIn context) 1) tokens → Answers r last

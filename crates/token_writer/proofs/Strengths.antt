@@ -18,7 +18,7 @@ use Rattle.classify.specs.Classify.{trailingPath}
 use Rattle.token_grammar.specs.Tokens.{Assign, number, operatorOf}
 use Rattle.token_grammar.specs.Levels.{assignments, kinds, kind, level, lowest, before}
 use Rattle.token_grammar.specs.Grammar.{opensArguments}
-use Rattle.token_writer.specs.Levels.{opening, lowestIn, opensIn, conditionIn, callable, strengthLines, strengthOf, needsBy, needs, lowestAfter}
+use Rattle.token_writer.specs.Levels.{opening, lowestIn, opensIn, conditionIn, closed, strengthLines, strengthOf, needsBy, needs, lowestAfter}
 use Rattle.token_writer.proofs.Spelling.{operator-low, operator-high}
 
 -- a rule of an operator's number that is the same from `=` on holds of any number
@@ -92,7 +92,7 @@ module _ (cells : List ℕ) (count i p form : ℕ) (condition : Bool) (f : form 
   needs-struct h = let e : conditionIn p && eqb (cellAt cells i formColumn) ExprStruct ≡ true = rw (← f, ← c) h in or-here _ e
 
   pub needs-weaker : (detail strength : ℕ) (weak : Bool) → detail ≡ cellAt cells i detailColumn → condition && eqb form ExprStruct ≡ false → weak ≡ (opensIn p && trailingPath (treeAt cells count (operandAt cells count i secondColumn)))
-      → strength ≡ lookup (strengthLines weak detail) callable form → needs p (labelAt cells i) (treeAt cells count (operandAt cells count i secondColumn)) ≡ ltb strength (p % opening)
+      → strength ≡ lookup (strengthLines weak detail) closed form → needs p (labelAt cells i) (treeAt cells count (operandAt cells count i secondColumn)) ≡ ltb strength (p % opening)
   unfolding needs needsBy labelAt strengthOf lowestIn
   needs-weaker detail strength weak d h w s =
       let e : conditionIn p && eqb (cellAt cells i formColumn) ExprStruct ≡ false = rw (← f, ← c) h in

@@ -10,7 +10,7 @@ use lib.Seq.{getD-set-same, getD-set-other}
 use borrow.Author.Tests.{lt-ltb, le-ltb}
 use Rattle.laws.specs.Choice.{pick}
 use Rattle.laws.proofs.Choice.{pick-true, pick-false}
-use Rattle.token_writer.specs.Tasks.{taskStep, taskOf, nodeIn, whatIn, betweenTask, cellsBy, pairsAt, signCells, taskCells, taskPairs, enterWork, taskWork, pile, laid}
+use Rattle.token_writer.specs.Tasks.{taskStep, taskOf, nodeIn, whatIn, betweenTask, cellsBy, pairsAt, codeTask, signCells, codeCells, ownCells, taskCells, taskPairs, enterWork, taskWork, pile, laid, laidThree}
 
 -- ---- a task's two numbers
 
@@ -43,7 +43,7 @@ module _ (cells : List ℕ) (count i what : ℕ) (low : i < taskStep) where
     no-place : ltb (whatIn (taskOf i what)) betweenTask ≡ false
     no-place = rw (what-in i what low) (le-ltb what betweenTask h)
 
-    pub sign-cells : taskCells cells count (taskOf i what) ≡ signCells cells count what i
+    pub sign-cells : taskCells cells count (taskOf i what) ≡ ownCells cells count what i
     unfolding taskCells
     sign-cells = pick-false _ _ no-place ∙ rw (what-in i what low, node-in i what low)
 
@@ -65,12 +65,21 @@ module _ (cells : List ℕ) (count task : ℕ) where
   unfolding taskCells taskWork nodeIn whatIn
   taken-place h = (pick-true _ _ (lt-ltb _ _ h), pick-true _ _ (lt-ltb _ _ h))
 
-  pub taken-sign : betweenTask ≤ task / taskStep → taskCells cells count task ≡ signCells cells count (task / taskStep) (task % taskStep)
+  pub taken-sign : betweenTask ≤ task / taskStep → taskCells cells count task ≡ ownCells cells count (task / taskStep) (task % taskStep)
   unfolding taskCells nodeIn whatIn
   taken-sign h = pick-false _ _ (le-ltb _ _ h)
 
 pub put-together : (task : ℕ) → taskOf (task % taskStep) (task / taskStep) ≡ task
 put-together task = omega arith
+
+module _ (cells : List ℕ) (count i what : ℕ) where
+  pub own-sign : what < codeTask → ownCells cells count what i ≡ signCells cells count what i
+  unfolding ownCells
+  own-sign h = pick-true _ _ (lt-ltb _ _ h)
+
+  pub own-code : codeTask ≤ what → ownCells cells count what i ≡ codeCells what
+  unfolding ownCells
+  own-code h = pick-false _ _ (le-ltb _ _ h)
 
 -- each task takes a turn
 pub some-work : (cells : List ℕ) (count task : ℕ) → 1 ≤ taskWork cells count task
@@ -100,6 +109,11 @@ module _ {A : Type 0} (f : ℕ → A → A) (z : A) where
       (pile-push (set (set stack d p) (1 + d) q) (1 + (1 + d)) r (1 + (1 + (1 + d))) (simp length-set (omega arith)) (omega arith)
       ∙ ap (f r)
       (pile-push (set stack d p) (1 + d) q (1 + (1 + d)) (simp length-set (omega arith)) (omega arith) ∙ ap (f q) (pile-push stack d p (1 + d) (omega arith) (omega arith))))
+
+  pub pile-three : (stack : List ℕ) (d p q r : ℕ) → 3 + d ≤ length stack → pile f z (laidThree stack d p q r) (3 + d) ≡ f r (f q (f p (pile f z stack d)))
+  pile-three stack d p q r h =
+      pile-push (set (set stack d p) (1 + d) q) (1 + (1 + d)) r (3 + d) (simp length-set (omega arith)) (omega arith)
+      ∙ ap (f r) (pile-push (set stack d p) (1 + d) q (1 + (1 + d)) (simp length-set (omega arith)) (omega arith) ∙ ap (f q) (pile-push stack d p (1 + d) (omega arith) (omega arith)))
 
   -- the task on top
   pub pile-top : (stack : List ℕ) (n d : ℕ) → n ≡ suc d → pile f z stack n ≡ f (getD stack d 0) (pile f z stack d)

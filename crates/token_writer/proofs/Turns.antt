@@ -1,8 +1,8 @@
 -- Turns: what each kind of task puts and leaves. Assumes nothing.
 use mathlib.Core.Path.{_≡_, refl, sym, ap, ap₂, _∙_}
 use mathlib.Core.Bool.{Bool, true, false, not, _&&_}
-use mathlib.Core.List.{List, [], _∷_, _++_, append-assoc}
-use Prim.Native.Nat.{ℕ, zero, suc, _+_, _*_, _≤_, _<_}
+use mathlib.Core.List.{List, [], _∷_, _++_, append-assoc, append-nil}
+use Prim.Native.Nat.{ℕ, _+_, _*_, _-_, _≤_, _<_}
 use native.Mathlib.Omega.{arith}
 use lib.Dec.{eqb}
 use lib.ListN.{length, set, getD, length-set, length-append}
@@ -15,19 +15,20 @@ use Rattle.laws.proofs.Putting.{put-none, put-more}
 use Rattle.tree.specs.Table.{cellAt, formColumn, detailColumn, firstColumn, secondColumn, symbolAt}
 use Rattle.tree.specs.Trees.{Label, none, labelAt, operandAt, treeAt}
 use Rattle.tree.proofs.Unfold.{operand-most}
-use Rattle.token_grammar.specs.Tokens.{Assign, LeftParen, RightParen, code, cellsOf, operatorOf}
+use Rattle.token_grammar.specs.Tokens.{Assign, Token, LeftParen, RightParen, code, cellsOf, operatorOf}
 use Rattle.token_grammar.specs.Levels.{kind, before}
+use Rattle.token_plain.specs.Written.{signs}
 use Rattle.token_grammar.specs.Grammar.{opensArguments}
 use Rattle.token_writer.specs.declared.Turn.{Turn}
 use Rattle.token_writer.specs.declared.signs.Few.{Few}
 use Rattle.token_writer.specs.declared.signs.Signs.{Signs}
 use Rattle.token_writer.specs.Puts.{spelled, symbolLines, symbolOn, cellsWith, Spells, oneIf}
 use Rattle.token_writer.specs.Levels.{opening, place, lowestAfter, firstLines, firstBy, secondLines, secondBy, kept, opensIn, conditionIn, firstFrom, secondFrom}
-use Rattle.token_writer.specs.Tasks.{taskStep, taskOf, betweenTask, behindTask, lastTask, signsAt, cellsBy, pairsAt, closing, signCells, taskCells, taskPairs, enterWork, taskWork, pile, waitingCells, waitingPairs, waitingWork, laid, waiting, Turned}
+use Rattle.token_writer.specs.Tasks.{taskStep, taskOf, betweenTask, behindTask, lastTask, signsAt, cellsBy, pairsAt, closing, codeTask, signCells, codeCells, ownCells, taskCells, taskPairs, enterWork, taskWork, pile, waitingCells, waitingPairs, waitingWork, laid, laidThree, waiting, Turned, TurnedOnly}
 use Rattle.token_writer.proofs.Bounds.{in-table}
 use Rattle.token_writer.proofs.ByLevels.{left-low, right-low}
 use Rattle.token_writer.proofs.Spelling.{one-if}
-use Rattle.token_writer.proofs.Tasks.{enter-some, enter-cells, enter-pairs, enter-work, sign-cells, sign-pairs, sign-work, pile-push, pile-laid, some-work}
+use Rattle.token_writer.proofs.Tasks.{own-sign, own-code, enter-some, enter-cells, enter-pairs, enter-work, sign-cells, sign-pairs, sign-work, pile-push, pile-laid, pile-three, some-work}
 use Rattle.token_writer.proofs.Tokens.{oneOf, cells-none, pairs-none, own, paired, firstCells, secondCells, cells-parts, pairs-parts, work-parts}
 
 -- ---- what is handed down is a place
@@ -86,6 +87,11 @@ module _ (cells : List ℕ) (count i : ℕ) where
   sign-task true = omega arith
   sign-task false = omega arith
 
+  sign-below : (b : Bool) → pick b lastTask behindTask < codeTask
+  unfolding pick
+  sign-below true = omega arith
+  sign-below false = omega arith
+
 -- ---- an operand that is absent
 
 module _ (cells : List ℕ) (count i p : ℕ) (here : p < betweenTask) (small : i < taskStep) where
@@ -104,11 +110,11 @@ module _ (cells : List ℕ) (count i p : ℕ) (here : p < betweenTask) (small : 
 -- ---- a sign
 
 module _ (cells : List ℕ) (count i what : ℕ) (no-place : betweenTask ≤ what) (small : i < taskStep) where
-  pub turned-sign : (stack : List ℕ) (depth : ℕ) (tokens : List ℕ) (at : ℕ) (after : List ℕ) (next : ℕ) → Put tokens at (signCells cells count what i) after next
+  pub turned-sign : (stack : List ℕ) (depth : ℕ) (tokens : List ℕ) (at : ℕ) (after : List ℕ) (next : ℕ) → Put tokens at (ownCells cells count what i) after next
       → Turned cells count (taskOf i what) stack depth tokens at stack after (record { depth = depth; at = next; pairs = 0 })
   turned-sign stack depth tokens at after next p =
       record {
-        first = signCells cells count what i;
+        first = ownCells cells count what i;
         puts = p;
         same = rw (sign-cells cells count i what small no-place);
         pairs = rw (sign-pairs cells count i what small no-place);
@@ -163,7 +169,7 @@ module _ (cells : List ℕ) (count i p : ℕ) (here : p < betweenTask) (low : 1 
     waits-cells : waitingCells cells count after (4 + depth) ≡ later
     waits-cells =
         pile-laid (λ task r. taskCells cells count task ++ r) [] stack depth endTask secondTask (taskOf i betweenTask) firstTask four
-        ∙ rw (enter-cells cells count (operandAt cells count i firstColumn) (firstFrom p q l) first-fits first-place, sign-cells cells count i betweenTask (omega arith) (omega arith), sign-between cells count i, enter-cells cells count (operandAt cells count i secondColumn) (secondFrom p q l) second-fits second-place, sign-cells cells count i (pick q lastTask behindTask) (omega arith) (sign-task cells count i q), sign-last cells count i q)
+        ∙ rw (enter-cells cells count (operandAt cells count i firstColumn) (firstFrom p q l) first-fits first-place, sign-cells cells count i betweenTask (omega arith) (omega arith), own-sign cells count i betweenTask (omega arith), sign-between cells count i, enter-cells cells count (operandAt cells count i secondColumn) (secondFrom p q l) second-fits second-place, sign-cells cells count i (pick q lastTask behindTask) (omega arith) (sign-task cells count i q), own-sign cells count i (pick q lastTask behindTask) (sign-below cells count i q), sign-last cells count i q)
 
     waits-pairs : waitingPairs cells count after (4 + depth)
         ≡ pairsAt cells count (firstFrom p q l) (operandAt cells count i firstColumn)
@@ -252,3 +258,137 @@ module _ (cells : List ℕ) (count i : ℕ) (y : ℕ) (symbol : y ≡ symbolAt c
       let b : cellsWith y (spelled (s .behind)) ≡ cellsOf (signsAt cells count i .behind) = rw symbol (spells .behind) in
       let r : cellsWith y (spelled few) ≡ cellsOf (closing (eqb what lastTask)) = rw f (one-if y (eqb what lastTask) RightParen refl) in
       pick-false _ _ (ne-eqb what betweenTask n) ∙ sym (ap₂ _++_ b r)
+
+-- ---- owners whose only own tokens stand between their operands
+
+module _ (cells : List ℕ) (count i p : ℕ) (here : p < betweenTask) (low : 1 ≤ i) (high : i ≤ count) (fits : count < taskStep) (ts : List Token) (own : signsAt cells count i ≡ signs [] ts []) (stack : List ℕ) (depth : ℕ) (room : depth + enterWork cells count i ≤ length stack) where
+  abbrev pair : Bool
+  pair = q cells count i p here low high fits
+
+  abbrev one : ℕ
+  one = firstTask cells count i p here low high fits
+
+  abbrev two : ℕ
+  two = secondTask cells count i p here low high fits
+
+  abbrev fs : List ℕ
+  fs = firstCells cells count p i low high
+
+  abbrev ss : List ℕ
+  ss = secondCells cells count p i low high
+
+  amid-cells : taskCells cells count (taskOf i p) ≡ cellsOf (oneOf pair LeftParen) ++ (fs ++ (cellsOf ts ++ (ss ++ cellsOf (closing pair))))
+  amid-cells = enter-cells cells count i p (omega arith) here ∙ cells-parts cells count p i low high ∙ rw own
+
+  one-cells : taskCells cells count one ≡ fs
+  one-cells = enter-cells cells count (operandAt cells count i firstColumn) _ (first-fits cells count i p here low high fits) (first-place cells count i p here low high fits)
+
+  two-cells : taskCells cells count two ≡ ss
+  two-cells = enter-cells cells count (operandAt cells count i secondColumn) _ (second-fits cells count i p here low high fits) (second-place cells count i p here low high fits)
+
+  own-pairs : taskPairs cells count (taskOf i p) ≡ bitOf pair + (taskPairs cells count one + taskPairs cells count two)
+  own-pairs =
+      enter-pairs cells count i p (omega arith) here
+      ∙ pairs-parts cells count p i low high
+      ∙ sym (rw (enter-pairs cells count (operandAt cells count i firstColumn) _ (first-fits cells count i p here low high fits) (first-place cells count i p here low high fits), enter-pairs cells count (operandAt cells count i secondColumn) _ (second-fits cells count i p here low high fits) (second-place cells count i p here low high fits)))
+
+  own-work : taskWork cells count (taskOf i p) + 2 ≡ taskWork cells count one + (taskWork cells count two + 5)
+  own-work =
+      rw (enter-work cells count i p (omega arith) here, enter-work cells count (operandAt cells count i firstColumn) (firstFrom p pair (labelAt cells i)) (first-fits cells count i p here low high fits) (first-place cells count i p here low high fits), enter-work cells count (operandAt cells count i secondColumn) (secondFrom p pair (labelAt cells i)) (second-fits cells count i p here low high fits) (second-place cells count i p here low high fits))
+      (work-parts cells count p i low high)
+
+  fourth : 4 + depth ≤ length stack
+  fourth = four cells count i p here low high fits stack depth room
+
+  -- one code between them
+  module _ (c : ℕ) (code-is : cellsOf ts ≡ c ∷ 0 ∷ []) (small : c < codeTask) where
+    abbrev amid : ℕ
+    amid = taskOf 0 (codeTask + c)
+
+    code-cells : taskCells cells count amid ≡ c ∷ 0 ∷ []
+    code-cells = sign-cells cells count 0 (codeTask + c) (omega arith) (omega arith) ∙ own-code cells count 0 (codeTask + c) (omega arith) ∙ (let e : codeTask + c - codeTask ≡ c = omega arith in rw e)
+
+    code-pairs : taskPairs cells count amid ≡ 0
+    code-pairs = sign-pairs cells count 0 (codeTask + c) (omega arith) (omega arith)
+
+    code-work : taskWork cells count amid ≡ 1
+    code-work = sign-work cells count 0 (codeTask + c) (omega arith) (omega arith)
+
+    plain-cells : pair ≡ false → taskCells cells count (taskOf i p) ≡ fs ++ ((c ∷ 0 ∷ []) ++ (ss ++ []))
+    unfolding pick
+    plain-cells unpaired = amid-cells ∙ rw (unpaired, code-is)
+
+    pub turned-three : pair ≡ false → (newStack : List ℕ) → newStack ≡ laidThree stack depth two amid one → (top : ℕ) → top ≡ 3 + depth → (at : ℕ)
+        → TurnedOnly cells count (taskOf i p) stack depth at newStack (record { depth = top; at = at; pairs = 0 })
+    turned-three unpaired newStack e top t at tokens =
+        let cs : waitingCells cells count newStack top ≡ fs ++ ((c ∷ 0 ∷ []) ++ (ss ++ waitingCells cells count stack depth)) = rw (e, t) (pile-three (λ task r. taskCells cells count task ++ r) [] stack depth two amid one (omega (arith, fourth)) ∙ rw (one-cells, code-cells, two-cells)) in
+        let ps : waitingPairs cells count newStack top ≡ taskPairs cells count one + (taskPairs cells count amid + (taskPairs cells count two + waitingPairs cells count stack depth)) = rw (e, t) (pile-three (λ task r. taskPairs cells count task + r) 0 stack depth two amid one (omega (arith, fourth))) in
+        let ws : waitingWork cells count newStack top ≡ taskWork cells count one + (taskWork cells count amid + (taskWork cells count two + waitingWork cells count stack depth)) = rw (e, t) (pile-three (λ task r. taskWork cells count task + r) 0 stack depth two amid one (omega (arith, fourth))) in
+        let b : bitOf pair ≡ 0 = rw unpaired in
+        record {
+          first = [];
+          puts = put-none tokens at;
+          same = ap (λ r. r ++ waitingCells cells count stack depth) (plain-cells unpaired) ∙ simp (append-assoc, append-nil) (sym cs);
+          pairs = omega (arith, own-pairs, code-pairs);
+          less = omega (arith, own-work, code-work);
+          room = rw e (simp length-set);
+        }
+
+    -- with a pair round it
+    module _ (after : List ℕ) (above : ℕ) (pushed : after ≡ set stack depth (taskOf 0 (codeTask + code RightParen))) (up : above ≡ 1 + depth) where
+      close-cells : taskCells cells count (taskOf 0 (codeTask + code RightParen)) ≡ code RightParen ∷ 0 ∷ []
+      close-cells = sign-cells cells count 0 (codeTask + code RightParen) (omega arith) (omega arith) ∙ own-code cells count 0 (codeTask + code RightParen) (omega arith)
+
+      close-pairs : taskPairs cells count (taskOf 0 (codeTask + code RightParen)) ≡ 0
+      close-pairs = sign-pairs cells count 0 (codeTask + code RightParen) (omega arith) (omega arith)
+
+      close-work : taskWork cells count (taskOf 0 (codeTask + code RightParen)) ≡ 1
+      close-work = sign-work cells count 0 (codeTask + code RightParen) (omega arith) (omega arith)
+
+      long : length after ≡ length stack
+      long = rw pushed (simp length-set)
+
+      paired-cells : pair ≡ true → taskCells cells count (taskOf i p) ≡ (code LeftParen ∷ 0 ∷ []) ++ (fs ++ ((c ∷ 0 ∷ []) ++ (ss ++ (code RightParen ∷ 0 ∷ []))))
+      unfolding pick
+      paired-cells doubled = amid-cells ∙ rw (doubled, code-is)
+
+      pub turned-pair : pair ≡ true → (newStack : List ℕ) → newStack ≡ laidThree after above two amid one → (top : ℕ) → top ≡ 3 + above → (tokens last : List ℕ) (at next : ℕ) → Put tokens at (code LeftParen ∷ 0 ∷ []) last next
+          → Turned cells count (taskOf i p) stack depth tokens at newStack last (record { depth = top; at = next; pairs = 1 })
+      turned-pair doubled newStack e top t tokens last at next put =
+          let close = taskOf 0 (codeTask + code RightParen) in
+          let z : depth < length stack = omega (arith, fourth) in
+          let cs : waitingCells cells count newStack top ≡ fs ++ ((c ∷ 0 ∷ []) ++ (ss ++ ((code RightParen ∷ 0 ∷ []) ++ waitingCells cells count stack depth))) = rw (e, t) (pile-three (λ task r. taskCells cells count task ++ r) [] after above two amid one (omega (arith, fourth, long)) ∙ rw (one-cells, code-cells, two-cells, pushed, pile-push (λ task r. taskCells cells count task ++ r) [] stack depth close above z (omega arith), close-cells)) in
+          let ps : waitingPairs cells count newStack top ≡ taskPairs cells count one + (taskPairs cells count amid + (taskPairs cells count two + (taskPairs cells count close + waitingPairs cells count stack depth))) = rw (e, t) (pile-three (λ task r. taskPairs cells count task + r) 0 after above two amid one (omega (arith, fourth, long)) ∙ rw (pushed, pile-push (λ task r. taskPairs cells count task + r) 0 stack depth close above z (omega arith))) in
+          let ws : waitingWork cells count newStack top ≡ taskWork cells count one + (taskWork cells count amid + (taskWork cells count two + (taskWork cells count close + waitingWork cells count stack depth))) = rw (e, t) (pile-three (λ task r. taskWork cells count task + r) 0 after above two amid one (omega (arith, fourth, long)) ∙ rw (pushed, pile-push (λ task r. taskWork cells count task + r) 0 stack depth close above z (omega arith))) in
+          let b : bitOf pair ≡ 1 = rw doubled in
+          record {
+            first = code LeftParen ∷ 0 ∷ [];
+            puts = put;
+            same = ap (λ r. r ++ waitingCells cells count stack depth) (paired-cells doubled) ∙ simp append-assoc (sym (ap (λ r. (code LeftParen ∷ 0 ∷ []) ++ r) cs));
+            pairs = omega (arith, own-pairs, code-pairs, close-pairs);
+            less = omega (arith, own-work, code-work, close-work);
+            room = rw e (simp length-set long);
+          }
+
+  -- nothing between them, and no second
+  pub turned-one : cellsOf ts ≡ [] → pair ≡ false → treeAt cells count (operandAt cells count i secondColumn) ≡ none → (newStack : List ℕ) → newStack ≡ set stack depth one → (top : ℕ) → top ≡ 1 + depth → (at : ℕ)
+      → TurnedOnly cells count (taskOf i p) stack depth at newStack (record { depth = top; at = at; pairs = 0 })
+  turned-one nothing unpaired absent newStack e top t at tokens =
+      let z : depth < length stack = omega (arith, fourth) in
+      let cs : waitingCells cells count newStack top ≡ fs ++ waitingCells cells count stack depth = rw e (pile-push (λ task r. taskCells cells count task ++ r) [] stack depth one top z (omega arith) ∙ rw one-cells) in
+      let ps : waitingPairs cells count newStack top ≡ taskPairs cells count one + waitingPairs cells count stack depth = rw e (pile-push (λ task r. taskPairs cells count task + r) 0 stack depth one top z (omega arith)) in
+      let ws : waitingWork cells count newStack top ≡ taskWork cells count one + waitingWork cells count stack depth = rw e (pile-push (λ task r. taskWork cells count task + r) 0 stack depth one top z (omega arith)) in
+      let b : bitOf pair ≡ 0 = rw unpaired in
+      let empty = cells-none cells count (secondFrom p pair (labelAt cells i)) (operandAt cells count i secondColumn) absent in
+      let free = enter-pairs cells count (operandAt cells count i secondColumn) (secondFrom p pair (labelAt cells i)) (second-fits cells count i p here low high fits) (second-place cells count i p here low high fits) ∙ pairs-none cells count (secondFrom p pair (labelAt cells i)) (operandAt cells count i secondColumn) absent in
+      record {
+        first = [];
+        puts = put-none tokens at;
+        same = ap (λ r. r ++ waitingCells cells count stack depth) (alone-cells nothing unpaired empty) ∙ simp append-nil (sym cs);
+        pairs = omega (arith, own-pairs);
+        less = omega (arith, own-work);
+        room = rw e (simp length-set);
+      }
+    where
+      alone-cells : cellsOf ts ≡ [] → pair ≡ false → ss ≡ [] → taskCells cells count (taskOf i p) ≡ fs ++ []
+      alone-cells n o s = amid-cells ∙ rw (s, n, o) (rw (pick-false {b = false} (LeftParen ∷ []) [] refl, pick-false {b = false} (RightParen ∷ []) [] refl))

@@ -36,9 +36,13 @@ conditionIn p = eqb (p / conditional) 1
 
 -- ---- strengths
 
--- one more than a postfix form's: what may be called, which a named Field may not
+-- what may be called must be stronger than a postfix form, as all others are but a named Field
 abbrev pub callable : ℕ
 callable = suc (level postfixes)
+
+-- stronger than any place asks for
+abbrev pub closed : ℕ
+closed = opening
 
 -- by a node's detail; a Cast that ends in a type name before `<` or `<<` is too weak for any place
 unfoldable pub strengthLines : Bool → ℕ → List (Line ℕ)
@@ -47,12 +51,12 @@ strengthLines weak detail =
     line (ExprAssign ∷ []) (level (kind Assign)) ∷
     line (ExprCast ∷ []) (pick weak 0 (level casts)) ∷
     line (ExprUnary ∷ ExprReference ∷ []) (level prefixes) ∷
-    line (ExprField ∷ []) (pick (eqb detail 0) (level postfixes) callable) ∷
+    line (ExprField ∷ []) (pick (eqb detail 0) (level postfixes) closed) ∷
     []
 
 -- b is the node's second operand
 unfoldable pub strengthOf : Bool → Label → Tree → ℕ
-strengthOf opens l b = lookup (strengthLines (opens && trailingPath b) (l .detail)) callable (l .form)
+strengthOf opens l b = lookup (strengthLines (opens && trailingPath b) (l .detail)) closed (l .form)
 
 -- whether the node gets a pair at a place: a Struct in a condition, or what is weaker than the place allows
 unfoldable pub needsBy : ℕ → Bool → Bool → Label → Tree → Bool

@@ -2,7 +2,7 @@
 use mathlib.Core.Path.{_≡_}
 use mathlib.Core.Bool.{Bool, false}
 use mathlib.Core.List.{List, [], _∷_, _++_}
-use Prim.Native.Nat.{ℕ, zero, suc, _+_, _*_, _/_, _%_, _<_}
+use Prim.Native.Nat.{ℕ, zero, suc, _+_, _*_, _-_, _/_, _%_, _<_}
 use lib.Dec.{eqb, ltb}
 use lib.ListN.{length, set, getD}
 use Rattle.laws.specs.Choice.{pick}
@@ -40,6 +40,10 @@ behindTask = 257
 abbrev pub lastTask : ℕ
 lastTask = 258
 
+-- from here on a code without a symbol is to be put
+abbrev pub codeTask : ℕ
+codeTask = 512
+
 -- ---- what a task writes
 
 abbrev pub signsAt : List ℕ → ℕ → ℕ → Signs
@@ -62,9 +66,16 @@ signCells cells count what i =
     (cellsOf (signsAt cells count i .between))
     (cellsOf (signsAt cells count i .behind) ++ cellsOf (closing (eqb what lastTask)))
 
+abbrev pub codeCells : ℕ → List ℕ
+codeCells what = (what - codeTask) ∷ 0 ∷ []
+
+-- of a task that is no place
+unfoldable pub ownCells : List ℕ → ℕ → ℕ → ℕ → List ℕ
+ownCells cells count what i = pick (ltb what codeTask) (signCells cells count what i) (codeCells what)
+
 unfoldable pub taskCells : List ℕ → ℕ → ℕ → List ℕ
 taskCells cells count task =
-    pick (ltb (whatIn task) betweenTask) (cellsBy cells count (whatIn task) (nodeIn task)) (signCells cells count (whatIn task) (nodeIn task))
+    pick (ltb (whatIn task) betweenTask) (cellsBy cells count (whatIn task) (nodeIn task)) (ownCells cells count (whatIn task) (nodeIn task))
 
 -- how many pairs it opens
 unfoldable pub taskPairs : List ℕ → ℕ → ℕ → ℕ
@@ -96,6 +107,10 @@ waitingWork cells count = pile (λ task r. taskWork cells count task + r) 0
 abbrev pub laid : List ℕ → ℕ → ℕ → ℕ → ℕ → ℕ → List ℕ
 laid stack depth a b c d = set (set (set (set stack depth a) (1 + depth) b) (1 + (1 + depth)) c) (1 + (1 + (1 + depth))) d
 
+-- three
+abbrev pub laidThree : List ℕ → ℕ → ℕ → ℕ → ℕ → List ℕ
+laidThree stack depth a b c = set (set (set stack depth a) (1 + depth) b) (1 + (1 + depth)) c
+
 -- those that a node leaves at a place
 abbrev pub waiting : List ℕ → ℕ → ℕ → ℕ → Bool → List ℕ → ℕ → List ℕ
 waiting cells count i p pair stack depth =
@@ -116,6 +131,10 @@ pub record Turned (cells : List ℕ) (count task : ℕ) (stack : List ℕ) (dept
   pub pairs : taskPairs cells count task + waitingPairs cells count stack depth ≡ turn .pairs + waitingPairs cells count newStack (turn .depth)
   pub less : waitingWork cells count newStack (turn .depth) < taskWork cells count task + waitingWork cells count stack depth
   pub room : length newStack ≡ length stack
+
+-- one that puts nothing, whatever the buffer is
+abbrev pub TurnedOnly : List ℕ → ℕ → ℕ → List ℕ → ℕ → ℕ → List ℕ → Turn → Type 0
+TurnedOnly cells count task stack depth at newStack turn = (tokens : List ℕ) → Turned cells count task stack depth tokens at newStack tokens turn
 
 -- ---- the whole
 

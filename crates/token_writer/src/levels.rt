@@ -19,7 +19,7 @@ ghost use Rattle.token_grammar.specs.Tokens.{operatorOf};
 ghost use Rattle.token_grammar.specs.Levels.{assignments, comparisons, prefixes, kind, level, lowest};
 ghost use Rattle.token_grammar.specs.Grammar.{opensArguments};
 ghost use Rattle.token_grammar.specs.Bounds.{highest};
-ghost use Rattle.token_writer.specs.Levels.{opening, place, lowestIn, opensIn, conditionIn, callable, strengthLines, needs, firstLines, secondLines};
+ghost use Rattle.token_writer.specs.Levels.{opening, place, lowestIn, opensIn, conditionIn, closed, strengthLines, needs, firstLines, secondLines};
 
 // The levels, under the names that the definitions give them (token_grammar/specs/Levels.antt).
 const ASSIGNMENTS: u16 = 1;
@@ -51,8 +51,11 @@ const POSTFIXES: u16 = 15;
 // One more than a postfix form's: what may be called.
 const CALLABLE: u16 = 16;
 
+// More than any place asks for.
+const CLOSED: u16 = OPENING;
+
 // A place in one number: the lowest strength, and one of these more for each flag that holds.
-const OPENING: u16 = 32;
+pub const OPENING: u16 = 32;
 
 pub const CONDITIONAL: u16 = 64;
 
@@ -64,7 +67,7 @@ fn placed(least: u16, opens: bool, condition: bool) -> u16
 }
 
 // The level of a Binary operator.
-fn level_of(operator: u16) -> u16
+pub fn level_of(operator: u16) -> u16
     ensures { λ r. ⌜ (r ≡ level (kind (operatorOf operator))) × (r ≤ highest) ⌝ }
 {
     match operator {
@@ -119,15 +122,15 @@ fn opens_arguments(operator: u16) -> bool
 
 // How strong a form with a detail is; `weak` says of a Cast that it ends in a type name before `<` or `<<`.
 fn strength_of(form: u16, detail: u16, weak: bool) -> u16
-    ensures { λ r. ⌜ r ≡ lookup (strengthLines weak detail) callable form ⌝ }
+    ensures { λ r. ⌜ r ≡ lookup (strengthLines weak detail) closed form ⌝ }
 {
     match form {
         forms::EXPR_BINARY => level_of(detail),
         forms::EXPR_ASSIGN => ASSIGNMENTS,
         forms::EXPR_CAST => if weak { 0 } else { CASTS },
         forms::EXPR_UNARY | forms::EXPR_REFERENCE => PREFIXES,
-        forms::EXPR_FIELD => if detail == 0 { POSTFIXES } else { CALLABLE },
-        _ => CALLABLE,
+        forms::EXPR_FIELD => if detail == 0 { POSTFIXES } else { CLOSED },
+        _ => CLOSED,
     }
 }
 

@@ -5,34 +5,44 @@ mod signs; // signs.rt: a node's own tokens
 
 use bools::and_not;
 use bools::bit;
+use bools::both;
 use levels::CONDITIONAL;
+use levels::OPENING;
 use levels::condition_in;
 use levels::first_place;
+use levels::level_of;
 use levels::needs_pair;
 use levels::opens_in;
 use levels::second_place;
 use plainness::is_plain_table;
 use signs::Few;
 use signs::one_if;
+use signs::operator_code;
 use signs::signs_at;
 use token_grammar::codes;
 use tree::columns;
+use tree::forms;
 use tree::sizes;
 use tree::table::cell;
 use tree::table::operand_number;
+use tree::table::operand_of;
 use tree_one_pass::check;
 ghost use mathlib.Core.Path.{_≡_};
+ghost use mathlib.Core.Bool.{_&&_};
 ghost use mathlib.Core.List.{[], _∷_};
 ghost use Prim.Native.Nat.{_+_, _*_, _/_, _≤_, _<_};
+ghost use lib.Dec.{eqb};
 ghost use lib.ListN.{length, getD, set};
 ghost use Rattle.laws.specs.Choice.{pick};
 ghost use Rattle.laws.specs.Lists.{over};
 ghost use Rattle.laws.specs.Puts.{Put};
-ghost use Rattle.tree.specs.Sizes.{tokenCells, mostNodes, mostTokens};
+ghost use Rattle.tree.specs.Sizes.{nodeCells, tokenCells, mostNodes, mostTokens};
+ghost use Rattle.tree.specs.Forms.{ExprBinary, Link};
+ghost use Rattle.tree.specs.Table.{cellAt, formAt, firstAt, secondAt, symbolAt};
 ghost use Rattle.tree_rules.specs.Refusals.{refusal};
 ghost use Rattle.token_writer.specs.declared.Written.the-variants.{Tokens};
 ghost use Rattle.token_writer.specs.Puts.{spelled, symbolOn, cellsWith};
-ghost use Rattle.token_writer.specs.Tasks.{taskOf, betweenTask, behindTask, lastTask, cellsBy, pairsAt, signCells, taskCells, enterWork, taskWork, laid, waiting, Turned, rootIn, tasksFor};
+ghost use Rattle.token_writer.specs.Tasks.{taskOf, betweenTask, behindTask, lastTask, codeTask, cellsBy, pairsAt, signCells, taskCells, enterWork, taskWork, laid, laidThree, waiting, Turned, TurnedOnly, rootIn, tasksFor};
 ghost use Rattle.token_writer.specs.Writes.{takesContext, answered, tokensAfter};
 
 // The cells of the tokens that the writer asks room for, a node.
@@ -66,6 +76,9 @@ const BETWEEN: u16 = 256;
 const BEHIND: u16 = 257;
 
 const LAST: u16 = 258;
+
+// From here on a code without a symbol is to be put.
+const CODE: u16 = 512;
 
 // How many tasks wait at most, by the nodes of the tree: small trees get a small stack.
 const FEW_NODES: u16 = 64;
@@ -114,6 +127,16 @@ fn put(tokens: &mut [u16], at: usize, few: Few, symbol: u16) -> usize
             put_token(tokens, third, c, symbol)
         }
     }
+}
+
+// A code that has no symbol at `at`; answers the place behind it.
+fn put_code(tokens: &mut [u16], at: usize, code: u16) -> usize
+    requires { ⌜ at + tokenCells ≤ length (now tokens) ⌝ }
+    ensures { λ r. ⌜ Put (now (tokens .entry)) at (code ∷ 0 ∷ []) (now (tokens .exit)) r ⌝ }
+{
+    tokens[at] = code;
+    tokens[at + 1] = 0;
+    at + 2
 }
 
 // A task on top of the stack; answers how many there are now.
@@ -186,7 +209,7 @@ fn wait(
 }
 
 // The tree at a node is to be written at a place: what stands before its first operand, and the rest waits. Number 0 stands for an operand that is absent.
-fn enter(
+fn enter_other(
     table: &[u16],
     count: u16,
     node: u16,
@@ -227,6 +250,178 @@ fn enter(
     }
 }
 
+// The number at a place of a node of the table.
+fn at_cell(table: &[u16], node: u16, place: u16) -> u16
+    requires { ⌜ (1 ≤ node) × (nodeCells * node ≤ length (now table)) × (place < nodeCells) ⌝ }
+    ensures { λ r. ⌜ r ≡ cellAt (now (table .entry)) node place ⌝ }
+{
+    table[sizes::NODE_CELLS * ((node - 1) as usize) + (place as usize)]
+}
+
+// Whether a node has no operands.
+fn is_bare(table: &[u16], node: u16) -> bool
+    requires { ⌜ (1 ≤ node) × (nodeCells * node ≤ length (now table)) ⌝ }
+    ensures { λ r. ⌜ r ≡ (eqb (firstAt (now (table .entry)) node) 0 && eqb (secondAt (now (table .entry)) node) 0) ⌝ }
+{
+    both(
+        at_cell(table, node, columns::FIRST) == 0,
+        at_cell(table, node, columns::SECOND) == 0,
+    )
+}
+
+// A code with the node's symbol.
+fn put_name(table: &[u16], node: u16, code: u16, tokens: &mut [u16], at: usize) -> usize
+    requires { ⌜ (1 ≤ node) × (nodeCells * node ≤ length (now table)) × (at + tokenCells ≤ length (now tokens)) ⌝ }
+    ensures { λ r. ⌜ Put (now (tokens .entry)) at (code ∷ symbolAt (now (table .entry)) node ∷ []) (now (tokens .exit)) r ⌝ }
+{
+    let symbol = at_cell(table, node, columns::SYMBOL);
+    tokens[at] = code;
+    tokens[at + 1] = symbol;
+    at + 2
+}
+
+// Of an owner whose own tokens are one code between its operands.
+fn lay_three(
+    stack: &mut [u32],
+    depth: usize,
+    second: u16,
+    after: u16,
+    code: u16,
+    first: u16,
+    ahead: u16,
+) -> usize
+    requires { ⌜ (3 + depth ≤ length (now stack)) × (code < codeTask) ⌝ }
+    ensures { λ r. ⌜ (now (stack .exit) ≡ laidThree (now (stack .entry)) depth (taskOf second after) (taskOf 0 (codeTask + code)) (taskOf first ahead)) × (r ≡ 3 + depth) ⌝ }
+{
+    let one = push(stack, depth, second, after);
+    let two = push(stack, one, 0, CODE + code);
+    push(stack, two, first, ahead)
+}
+
+// A Binary.
+fn enter_binary(
+    table: &[u16],
+    count: u16,
+    node: u16,
+    here: u16,
+    stack: &mut [u32],
+    depth: usize,
+    tokens: &mut [u16],
+    at: usize,
+) -> Turn
+    requires { ⌜ (here < betweenTask) × (depth + enterWork (now table) count node ≤ length (now stack)) × (at + length (cellsBy (now table) count here node) ≤ length (now tokens)) × (nodeCells * count ≤ length (now table)) × (1 ≤ node) × (node ≤ count) × (formAt (now table) node ≡ ExprBinary) ⌝ }
+    ensures { λ r. ⌜ Turned (now (table .entry)) count (taskOf node here) (now (stack .entry)) depth (now (tokens .entry)) at (now (stack .exit)) (now (tokens .exit)) r ⌝ }
+{
+    let detail = at_cell(table, node, columns::DETAIL);
+    let first = operand_of(count, node, at_cell(table, node, columns::FIRST));
+    let second = operand_of(count, node, at_cell(table, node, columns::SECOND));
+    let code = operator_code(detail);
+    if level_of(detail) < here % OPENING {
+        let ahead = first_place(forms::EXPR_BINARY, detail, false, false);
+        let after = second_place(forms::EXPR_BINARY, detail, false, false);
+        let next = put_code(tokens, at, codes::LEFT_PAREN);
+        let one = push(stack, depth, 0, CODE + codes::RIGHT_PAREN);
+        let top = lay_three(stack, one, second, after, code, first, ahead);
+        return Turn {
+            depth: top,
+            at: next,
+            pairs: 1,
+        };
+    }
+    let opens = opens_in(here);
+    let condition = condition_in(here);
+    let ahead = first_place(forms::EXPR_BINARY, detail, opens, condition);
+    let after = second_place(forms::EXPR_BINARY, detail, opens, condition);
+    Turn {
+        depth: lay_three(stack, depth, second, after, code, first, ahead),
+        at: at,
+        pairs: 0,
+    }
+}
+
+// A link: its item, and the next link behind a comma.
+fn enter_link(
+    table: &[u16],
+    count: u16,
+    node: u16,
+    here: u16,
+    stack: &mut [u32],
+    depth: usize,
+    at: usize,
+) -> Turn
+    requires { ⌜ (here < betweenTask) × (depth + enterWork (now table) count node ≤ length (now stack)) × (nodeCells * count ≤ length (now table)) × (1 ≤ node) × (node ≤ count) × (formAt (now table) node ≡ Link) ⌝ }
+    ensures { λ r. ⌜ TurnedOnly (now (table .entry)) count (taskOf node here) (now (stack .entry)) depth at (now (stack .exit)) r ⌝ }
+{
+    let first = operand_of(count, node, at_cell(table, node, columns::FIRST));
+    let second = operand_of(count, node, at_cell(table, node, columns::SECOND));
+    if second == 0 {
+        return Turn {
+            depth: push(stack, depth, first, 0),
+            at: at,
+            pairs: 0,
+        };
+    }
+    Turn {
+        depth: lay_three(stack, depth, second, 0, codes::COMMA, first, 0),
+        at: at,
+        pairs: 0,
+    }
+}
+
+// The same for any node; names, literals, Binaries and links, which most nodes are, have their own way.
+fn enter(
+    table: &[u16],
+    count: u16,
+    node: u16,
+    here: u16,
+    stack: &mut [u32],
+    depth: usize,
+    tokens: &mut [u16],
+    at: usize,
+) -> Turn
+    requires { ⌜ (here < betweenTask) × (depth + enterWork (now table) count node ≤ length (now stack)) × (at + length (cellsBy (now table) count here node) ≤ length (now tokens)) × (nodeCells * count ≤ length (now table)) ⌝ }
+    ensures { λ r. ⌜ Turned (now (table .entry)) count (taskOf node here) (now (stack .entry)) depth (now (tokens .entry)) at (now (stack .exit)) (now (tokens .exit)) r ⌝ }
+{
+    if node == 0 {
+        return Turn {
+            depth: depth,
+            at: at,
+            pairs: 0,
+        };
+    }
+    if count < node {
+        return Turn {
+            depth: depth,
+            at: at,
+            pairs: 0,
+        };
+    }
+    let form = at_cell(table, node, columns::FORM);
+    if is_bare(table, node) {
+        if form == forms::EXPR_PATH {
+            return Turn {
+                depth: depth,
+                at: put_name(table, node, codes::NAME, tokens, at),
+                pairs: 0,
+            };
+        }
+        if form == forms::EXPR_LIT {
+            return Turn {
+                depth: depth,
+                at: put_name(table, node, codes::LITERAL, tokens, at),
+                pairs: 0,
+            };
+        }
+    }
+    if form == forms::EXPR_BINARY {
+        return enter_binary(table, count, node, here, stack, depth, tokens, at);
+    }
+    if form == forms::LINK {
+        return enter_link(table, count, node, here, stack, depth, at);
+    }
+    enter_other(table, count, node, here, stack, depth, tokens, at)
+}
+
 // A node's own tokens between its operands, or behind them.
 fn settle(table: &[u16], count: u16, node: u16, what: u16, tokens: &mut [u16], at: usize) -> usize
     requires { ⌜ at + length (signCells (now table) count what node) ≤ length (now tokens) ⌝ }
@@ -257,7 +452,7 @@ fn take(
     tokens: &mut [u16],
     at: usize,
 ) -> Turn
-    requires { ⌜ (depth < length (now stack)) × (depth + taskWork (now table) count (getD (now stack) depth 0) ≤ length (now stack)) × (at + length (taskCells (now table) count (getD (now stack) depth 0)) ≤ length (now tokens)) ⌝ }
+    requires { ⌜ (depth < length (now stack)) × (depth + taskWork (now table) count (getD (now stack) depth 0) ≤ length (now stack)) × (at + length (taskCells (now table) count (getD (now stack) depth 0)) ≤ length (now tokens)) × (nodeCells * count ≤ length (now table)) ⌝ }
     ensures { λ r. ⌜ Turned (now (table .entry)) count (getD (now (stack .entry)) depth 0) (now (stack .entry)) depth (now (tokens .entry)) at (now (stack .exit)) (now (tokens .exit)) r ⌝ }
 {
     let task = stack[depth];
@@ -266,16 +461,23 @@ fn take(
     if what < BETWEEN {
         return enter(table, count, node, what, stack, depth, tokens, at);
     }
+    if what < CODE {
+        return Turn {
+            depth: depth,
+            at: settle(table, count, node, what, tokens, at),
+            pairs: 0,
+        };
+    }
     Turn {
         depth: depth,
-        at: settle(table, count, node, what, tokens, at),
+        at: put_code(tokens, at, what - CODE),
         pairs: 0,
     }
 }
 
 // The tokens of the tree at node 1, which stands at a place: turn by turn, until nothing waits.
 fn write_tree(table: &[u16], count: u16, here: u16, stack: &mut [u32], tokens: &mut [u16]) -> Turn
-    requires { ⌜ (here < betweenTask) × (enterWork (now table) count 1 ≤ length (now stack)) × (length (cellsBy (now table) count here 1) ≤ length (now tokens)) × (pairsAt (now table) count here 1 ≤ mostNodes) ⌝ }
+    requires { ⌜ (here < betweenTask) × (enterWork (now table) count 1 ≤ length (now stack)) × (length (cellsBy (now table) count here 1) ≤ length (now tokens)) × (pairsAt (now table) count here 1 ≤ mostNodes) × (nodeCells * count ≤ length (now table)) ⌝ }
     ensures { λ r. ⌜ Put (now (tokens .entry)) 0 (cellsBy (now (table .entry)) count here 1) (now (tokens .exit)) (r .at) × (r .pairs ≡ pairsAt (now (table .entry)) count here 1) ⌝ }
 {
     let mut at: usize = 0;
@@ -312,7 +514,7 @@ fn told(turn: Turn) -> Written
 
 // The tokens of an accepted plain table.
 fn write_plain(context: u16, count: u16, table: &[u16], tokens: &mut [u16]) -> Written
-    requires { ⌜ (enterWork (now table) count 1 ≤ tasksFor count) × (count ≤ mostNodes) × (pairsAt (now table) count (rootIn context) 1 ≤ mostNodes) × (length (cellsBy (now table) count (rootIn context) 1) ≤ length (now tokens)) × (length (cellsBy (now table) count (rootIn context) 1) ≤ tokenCells * mostTokens) ⌝ }
+    requires { ⌜ (enterWork (now table) count 1 ≤ tasksFor count) × (count ≤ mostNodes) × (pairsAt (now table) count (rootIn context) 1 ≤ mostNodes) × (length (cellsBy (now table) count (rootIn context) 1) ≤ length (now tokens)) × (length (cellsBy (now table) count (rootIn context) 1) ≤ tokenCells * mostTokens) × (nodeCells * count ≤ length (now table)) ⌝ }
     ensures reply { λ r. ⌜ r ≡ Tokens (pairsAt (now (table .entry)) count (rootIn context) 1) (length (cellsBy (now (table .entry)) count (rootIn context) 1) / tokenCells) ⌝ }
     ensures tokens { λ r. ⌜ now (tokens .exit) ≡ over (cellsBy (now (table .entry)) count (rootIn context) 1) (now (tokens .entry)) ⌝ }
 {

@@ -84,7 +84,7 @@ fn unary_code(detail: u16) -> u16
 }
 
 // Codes 0 to 27 spell the operators of Binary.
-fn operator_code(detail: u16) -> u16
+pub fn operator_code(detail: u16) -> u16
     ensures { λ r. ⌜ r ≡ number (operatorOf detail) ⌝ }
 {
     if detail < codes::ASSIGN {

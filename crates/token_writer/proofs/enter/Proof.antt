@@ -1,12 +1,29 @@
 -- `token_writer::enter` meets its contract. Assumes nothing.
-use mathlib.Core.Path.{_∙_, sym}
+use mathlib.Core.Path.{sym, _∙_}
 use native.Mathlib.Omega.{arith}
 use borrow.Author.Needs.{needs}
 use Rattle.laws.proofs.Calls.{free}
 use Rattle.tree.proofs.Unfold.{tree-zero, tree-past}
-use Rattle.token_writer.proofs.Turns.{turned-none, turned-node, room-before, open-cells, before-cells, four-free}
+use Rattle.token_writer.proofs.Shapes.{bare-name, bare-literal, bare-room, bare-turned}
+use Rattle.token_writer.proofs.Turns.{turned-none}
 use Rattle.token_writer.proofs.enter.Statement.{statement}
 use Rattle.token_writer.proofs.enter.Tie as tie
+
+put-name-requires : tie.Need-put-name-requires
+put-name-requires c κs =
+    let a = c .before .before .before .before .before .before .before .before .before .before .args in
+    let w = c .before .before .before .before .before .before .before .before .before .before .fits in
+    let u = c .before .before .before .before .before .before .if1 .left in
+    let v = c .before .before .before .before .before .if2 .left in
+    (omega arith, omega (arith, c .before .before .before .before .before .before .before .before .before .before .pre .3), bare-room (a .table .now) (a .count) (a .node) (a .here) (c .before .before .before .before .before .before .before .before .before .before .pre .0) (omega arith) (omega arith) (omega arith) (sym (c .before .before .before .is-bare .ensures) ∙ c .before .before .if3 .taken) _ (bare-name (a .table .now) (a .count) (a .node) (a .here) (c .before .before .before .before .before .before .before .before .before .before .pre .0) (omega arith) (omega arith) (omega arith) (sym (c .before .before .before .is-bare .ensures) ∙ c .before .before .if3 .taken) (sym (c .before .before .before .before .at-cell .ensures) ∙ c .before .if4 .taken)) _ _ (c .before .before .before .before .before .before .before .before .before .before .pre .2))
+
+put-name-requires-2 : tie.Need-put-name-requires-2
+put-name-requires-2 c κs =
+    let a = c .before .before .before .before .before .before .before .before .before .before .before .args in
+    let w = c .before .before .before .before .before .before .before .before .before .before .before .fits in
+    let u = c .before .before .before .before .before .before .before .if1 .left in
+    let v = c .before .before .before .before .before .before .if2 .left in
+    (omega arith, omega (arith, c .before .before .before .before .before .before .before .before .before .before .before .pre .3), bare-room (a .table .now) (a .count) (a .node) (a .here) (c .before .before .before .before .before .before .before .before .before .before .before .pre .0) (omega arith) (omega arith) (omega arith) (sym (c .before .before .before .before .is-bare .ensures) ∙ c .before .before .before .if3 .taken) _ (bare-literal (a .table .now) (a .count) (a .node) (a .here) (c .before .before .before .before .before .before .before .before .before .before .before .pre .0) (omega arith) (omega arith) (omega arith) (sym (c .before .before .before .before .is-bare .ensures) ∙ c .before .before .before .if3 .taken) (sym (c .before .before .before .before .before .at-cell .ensures) ∙ c .before .if5 .taken)) _ _ (c .before .before .before .before .before .before .before .before .before .before .before .pre .2))
 
 returns : tie.Need-returns
 returns c =
@@ -20,41 +37,22 @@ returns-2 c =
     let w = c .before .before .before .before .before .fits in
     turned-none (a .table .now) (a .count) (a .node) (a .here) (c .before .before .before .before .before .pre .0) (omega arith) (tree-past _ _ _ (omega arith)) _ _ _ _
 
-put-requires : tie.Need-put-requires
-put-requires c κs =
-    let a = c .before .before .before .before .before .before .before .before .before .before .args in
-    let u = c .before .before .before .before .before .before .if1 .left in
-    let v = c .before .before .before .before .before .if2 .left in
-    let r = room-before (a .table .now) (a .count) (a .node) (a .here) (omega arith) (omega arith) _ _ (c .before .before .before .before .before .before .before .before .before .before .pre .2) in
-    rw (open-cells (a .table .now) (a .count) (a .node) (a .here) (omega arith) (omega arith) _ (c .before .before .before .needs-pair .ensures) _ (c .one-if .ensures) (c .before .before .before .before .cell .result)) (omega arith)
-
-put-requires-2 : tie.Need-put-requires-2
-put-requires-2 c κs =
-    let a = c .before .before .before .before .before .before .before .before .before .before .before .before .before .before .args in
-    let u = c .before .before .before .before .before .before .before .before .before .before .if1 .left in
-    let v = c .before .before .before .before .before .before .before .before .before .if2 .left in
-    let r = room-before (a .table .now) (a .count) (a .node) (a .here) (omega arith) (omega arith) _ _ (c .before .before .before .before .before .before .before .before .before .before .before .before .before .before .pre .2) in
-    let p = rw (open-cells (a .table .now) (a .count) (a .node) (a .here) (omega arith) (omega arith) _ (c .before .before .before .before .before .before .before .needs-pair .ensures) _ (c .before .before .before .before .one-if .ensures) (c .before .before .before .before .before .before .before .before .cell .result)) at (c .before .before .before .put .ensures) in
-    rw (before-cells (a .table .now) (a .count) (a .node) _ (c .before .before .before .before .before .before .before .before .cell .ensures) _ (c .before .before .before .before .before .before .signs-at .ensures)) (omega (arith, p .ends, p .room))
-
-wait-requires : tie.Need-wait-requires
-wait-requires c κs =
-    let a = c .before .before .before .before .before .before .before .before .before .before .before .before .before .before .before .before .before .before .args in
-    let u = c .before .before .before .before .before .before .before .before .before .before .before .before .before .before .if1 .left in
-    let v = c .before .before .before .before .before .before .before .before .before .before .before .before .before .if2 .left in
-    four-free (a .table .now) (a .count) (a .node) (a .here) (omega arith) (omega arith) _ _ (c .before .before .before .before .before .before .before .before .before .before .before .before .before .before .before .before .before .before .pre .1)
-
 returns-3 : tie.Need-returns-3
 returns-3 c =
-    let a = c .before .before .before .before .before .before .before .before .before .before .before .before .before .before .before .before .before .before .before .before .before .before .args in
-    let u = c .before .before .before .before .before .before .before .before .before .before .before .before .before .before .before .before .before .before .if1 .left in
-    let v = c .before .before .before .before .before .before .before .before .before .before .before .before .before .before .before .before .before .if2 .left in
-    let w = c .before .before .before .before .before .before .before .before .before .before .before .before .before .before .before .before .before .before .before .before .before .before .fits in
-    let p = rw (open-cells (a .table .now) (a .count) (a .node) (a .here) (omega arith) (omega arith) _ (c .before .before .before .before .before .before .before .before .before .before .before .before .before .before .before .needs-pair .ensures) _ (c .before .before .before .before .before .before .before .before .before .before .before .before .one-if .ensures) (c .before .before .before .before .before .before .before .before .before .before .before .before .before .before .before .before .cell .result)) at (c .before .before .before .before .before .before .before .before .before .before .before .put .ensures) in
-    let q = rw (before-cells (a .table .now) (a .count) (a .node) _ (c .before .before .before .before .before .before .before .before .before .before .before .before .before .before .before .before .cell .ensures) _ (c .before .before .before .before .before .before .before .before .before .before .before .before .before .before .signs-at .ensures)) at (c .before .before .before .before .before .before .before .put2 .ensures) in
-    turned-node (a .table .now) (a .count) (a .node) (a .here) (c .before .before .before .before .before .before .before .before .before .before .before .before .before .before .before .before .before .before .before .before .before .before .pre .0) (omega arith) (omega arith) (omega arith) _ _ (c .before .before .before .before .before .before .before .before .before .before .before .before .before .before .before .before .before .before .before .before .before .before .pre .1) _ (rw (← c .before .before .before .before .before .before .before .before .before .before .before .before .before .before .before .needs-pair .ensures) (c .before .before .before .wait .ensures .0)) _ _ _ _ _ _ _ _ p q (c .before .before .before .wait .ensures .1)
-    (rw (← c .before .before .before .before .before .before .before .before .before .before .before .before .before .before .before .needs-pair .ensures) (c .bit .ensures .0))
+    let a = c .before .before .before .before .before .before .before .before .before .before .before .before .before .args in
+    let w = c .before .before .before .before .before .before .before .before .before .before .before .before .before .fits in
+    let u = c .before .before .before .before .before .before .before .before .before .if1 .left in
+    let v = c .before .before .before .before .before .before .before .before .if2 .left in
+    bare-turned (a .table .now) (a .count) (a .node) (a .here) (c .before .before .before .before .before .before .before .before .before .before .before .before .before .pre .0) (omega arith) (omega arith) (omega arith) (sym (c .before .before .before .before .before .before .is-bare .ensures) ∙ c .before .before .before .before .before .if3 .taken) _ (bare-name (a .table .now) (a .count) (a .node) (a .here) (c .before .before .before .before .before .before .before .before .before .before .before .before .before .pre .0) (omega arith) (omega arith) (omega arith) (sym (c .before .before .before .before .before .before .is-bare .ensures) ∙ c .before .before .before .before .before .if3 .taken) (sym (c .before .before .before .before .before .before .before .at-cell .ensures) ∙ c .before .before .before .before .if4 .taken)) _ _ _ _ _ _ (c .before .before .put-name .ensures)
+
+returns-4 : tie.Need-returns-4
+returns-4 c =
+    let a = c .before .before .before .before .before .before .before .before .before .before .before .before .before .before .args in
+    let w = c .before .before .before .before .before .before .before .before .before .before .before .before .before .before .fits in
+    let u = c .before .before .before .before .before .before .before .before .before .before .if1 .left in
+    let v = c .before .before .before .before .before .before .before .before .before .if2 .left in
+    bare-turned (a .table .now) (a .count) (a .node) (a .here) (c .before .before .before .before .before .before .before .before .before .before .before .before .before .before .pre .0) (omega arith) (omega arith) (omega arith) (sym (c .before .before .before .before .before .before .before .is-bare .ensures) ∙ c .before .before .before .before .before .before .if3 .taken) _ (bare-literal (a .table .now) (a .count) (a .node) (a .here) (c .before .before .before .before .before .before .before .before .before .before .before .before .before .before .pre .0) (omega arith) (omega arith) (omega arith) (sym (c .before .before .before .before .before .before .before .is-bare .ensures) ∙ c .before .before .before .before .before .before .if3 .taken) (sym (c .before .before .before .before .before .before .before .before .at-cell .ensures) ∙ c .before .before .before .before .if5 .taken)) _ _ _ _ _ _ (c .before .before .put-name2 .ensures)
 
 pub enter-spec : {M : Type 1} → statement M
 enter-spec =
-    tie.close (tie.spec returns returns-2 free free free free put-requires put-requires-2 wait-requires free (λ c. search needs) (λ c. search needs) returns-3)
+    tie.close (tie.spec returns returns-2 (λ c κs. let u = c .before .if1 .left in let v = c .if2 .left in (omega arith, omega (arith, c .before .before .before .before .before .pre .3), omega arith)) (λ c κs. let u = c .before .before .if1 .left in let v = c .before .if2 .left in (omega arith, omega (arith, c .before .before .before .before .before .before .pre .3))) put-name-requires (λ c. search needs) returns-3 put-name-requires-2 (λ c. search needs) returns-4 (λ c κs. let u = c .before .before .before .before .before .before .before .if1 .left in let v = c .before .before .before .before .before .before .if2 .left in (c .before .before .before .before .before .before .before .before .before .before .before .pre .0, c .before .before .before .before .before .before .before .before .before .before .before .pre .1, c .before .before .before .before .before .before .before .before .before .before .before .pre .2, c .before .before .before .before .before .before .before .before .before .before .before .pre .3, omega arith, omega arith, sym (c .before .before .before .before .before .at-cell .ensures) ∙ c .before .before .if6 .taken)) (λ c. search needs) (λ c. search needs) (λ c. c .before .before .before .before .enter-binary .ensures) (λ c κs. let u = c .before .before .before .before .before .before .before .if1 .left in let v = c .before .before .before .before .before .before .if2 .left in (c .before .before .before .before .before .before .before .before .before .before .before .pre .0, c .before .before .before .before .before .before .before .before .before .before .before .pre .1, c .before .before .before .before .before .before .before .before .before .before .before .pre .3, omega arith, omega arith, sym (c .before .before .before .before .before .at-cell .ensures) ∙ c .before .if7 .taken)) (λ c. search needs) (λ c. c .before .before .enter-link .ensures (c .before .before .before .before .before .before .before .before .before .before .before .before .before .before .args .tokens .now)) (λ c κs. (c .before .before .before .before .before .before .before .before .before .before .before .before .pre .0, c .before .before .before .before .before .before .before .before .before .before .before .before .pre .1, c .before .before .before .before .before .before .before .before .before .before .before .before .pre .2)) (λ c. search needs) (λ c. search needs) (λ c. c .before .before .before .before .enter-other .ensures))

@@ -14,7 +14,7 @@ write-tree-requires : tie.Need-write-tree-requires
 write-tree-requires c κs =
     let p = c .before .before .before .before .before .before .pre in
     let e = c .before .before .before .root-place .ensures in
-    rw (e .0) (rw (e .0) at (e .1), omega (arith, p .0, c .before .before .if1 .taken), p .3, p .2)
+    rw (e .0) (rw (e .0) at (e .1), omega (arith, p .0, c .before .before .if1 .taken), p .3, p .2, p .5)
 
 told-requires : tie.Need-told-requires
 told-requires c κs =
@@ -33,7 +33,7 @@ write-tree-requires-2 : tie.Need-write-tree-requires-2
 write-tree-requires-2 c κs =
     let p = c .before .before .before .before .before .before .pre in
     let e = c .before .before .before .root-place .ensures in
-    rw (e .0) (rw (e .0) at (e .1), omega (arith, p .0, p .1), p .3, p .2)
+    rw (e .0) (rw (e .0) at (e .1), omega (arith, p .0, p .1), p .3, p .2, p .5)
 
 told-requires-2 : tie.Need-told-requires-2
 told-requires-2 c κs =

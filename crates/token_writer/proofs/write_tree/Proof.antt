@@ -27,7 +27,7 @@ take-requires : tie.Need-take-requires Inv-loop μ-loop
 take-requires c κs =
     let a = c .before .before .before .before .before .before .before .before .before .before .before .args in
     let l = c .before .before .before .loop in
-    fits (a .table .now) (a .count) (a .here) (a .tokens .now) _ _ _ _ _ _ (l .inv) (omega arith) _ refl (c .before .before .before .before .before .before .before .before .before .before .before .pre .2)
+    fits (a .table .now) (a .count) (a .here) (a .tokens .now) _ _ _ _ _ _ (l .inv) (omega arith) _ refl (c .before .before .before .before .before .before .before .before .before .before .before .pre .2) (c .before .before .before .before .before .before .before .before .before .before .before .pre .4)
 
 add-pairs : tie.Need-add-pairs Inv-loop μ-loop
 add-pairs c =
