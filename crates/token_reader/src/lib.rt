@@ -30,7 +30,7 @@ const TOKENS: usize = sizes::TOKEN_CELLS * sizes::MOST_TOKENS;
 const OWN: u16 = sizes::MOST_TOKENS as u16;
 
 // The nodes of those that are quickly made, and the cells of as many tokens.
-const FEW: u16 = 32;
+const FEW: u16 = 64;
 
 const FEW_TOKENS: usize = sizes::TOKEN_CELLS * (FEW as usize);
 
@@ -97,7 +97,7 @@ fn read_by(tokens: &[u16], own: &mut [u16], nodes: u16, table: &mut [u16], condi
 
 // The same for few tokens, with an array that is quickly made.
 fn read_few(tokens: &[u16], table: &mut [u16], condition: bool) -> Reply
-    requires { ⌜ Readable (now tokens) (now table) × (length (now tokens) ≤ tokenCells * 32) ⌝ }
+    requires { ⌜ Readable (now tokens) (now table) × (length (now tokens) ≤ tokenCells * 64) ⌝ }
     ensures { λ r. ⌜ AnswersIn (standsIn condition) (now (tokens .entry)) (now (table .entry)) r (now (table .exit)) ⌝ }
 {
     let mut own = [0u16; sizes::NODE_CELLS * (FEW as usize)];

@@ -10,5 +10,5 @@ use Rattle.token_reader.proofs.read_few.Tie as tie
 pub read-few-spec : {M : Type 1} → statement M
 read-few-spec =
     tie.close (tie.spec (λ c. search needs)
-    (λ c κs. let p = c .before .before .before .before .pre in (p .0, omega (arith, p .1), omega arith, omega (arith, length-replicate {A = ℕ} (nodeCells * 32) 0)))
+    (λ c κs. let p = c .before .before .before .before .pre in (p .0, omega (arith, p .1), omega arith, omega (arith, length-replicate {A = ℕ} (nodeCells * 64) 0)))
     (λ c. search needs) (λ c. search needs))
