@@ -31,7 +31,9 @@ loop-holds c =
 
 measure-one-requires : tie.Need-measure-one-requires Inv-loop μ-loop
 measure-one-requires c κs =
-    let p = c .before .before .before .before .before .before .before .pre in let i = c .before .before .before .loop .inv in (i .4, c .before .before .loop-test .taken, i .0, p .1, p .0)
+    let p = c .before .before .before .before .before .before .before .pre in
+    let i = c .before .before .before .loop .inv in
+    (i .4, c .before .before .loop-test .taken, i .0, p .1, p .0)
 
 same-length : tie.Need-same-length Inv-loop μ-loop
 same-length c =
@@ -55,7 +57,10 @@ loop-less c =
 
 loop-again : tie.Need-loop-again Inv-loop μ-loop
 loop-again c =
-    let i = c .before .before .before .before .before .before .before .before .before .loop .inv in let t = c .before .before .before .before .before .before .before .before .loop-test .taken in let m = c .before .before .before .before .before .measure-one in (omega (arith, i .0), omega arith, m .kept .1 .1 .1 .1 .0 ∙ i .2, m .kept .1 .1 .1 .1 .1 .0 ∙ i .3, m .ensures (not-false _ (c .if1 .left)))
+    let i = c .before .before .before .before .before .before .before .before .before .loop .inv in
+    let t = c .before .before .before .before .before .before .before .before .loop-test .taken in
+    let m = c .before .before .before .before .before .measure-one in
+    (omega (arith, i .0), omega arith, m .kept .1 .1 .1 .1 .0 ∙ i .2, m .kept .1 .1 .1 .1 .1 .0 ∙ i .3, m .ensures (not-false _ (c .if1 .left)))
 
 same-length-3 : tie.Need-same-length-3 Inv-loop μ-loop
 same-length-3 c =

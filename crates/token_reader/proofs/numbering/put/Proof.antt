@@ -29,7 +29,10 @@ same-length : tie.Need-same-length
 same-length c = simp length-set
 
 returns : tie.Need-returns
-returns c = let a = c .before .before .before .before .args in let p = c .before .before .before .before .pre in rw (cell-form (a .own .now) (a .node) (p .0), cell-other (a .own .now) (a .node) attributesColumn (p .0), cell-other (a .own .now) (a .node) detailColumn (p .0), cell-other (a .own .now) (a .node) symbolColumn (p .0)) (six-stores (a .out .now) (nodeCells * (a .number - 1)) _ _ _ _ _ _)
+returns c =
+    let a = c .before .before .before .before .args in
+    let p = c .before .before .before .before .pre in
+    rw (cell-form (a .own .now) (a .node) (p .0), cell-other (a .own .now) (a .node) attributesColumn (p .0), cell-other (a .own .now) (a .node) detailColumn (p .0), cell-other (a .own .now) (a .node) symbolColumn (p .0)) (six-stores (a .out .now) (nodeCells * (a .number - 1)) _ _ _ _ _ _)
 
 pub put-spec : {M : Type 1} → statement M
 put-spec =
