@@ -332,10 +332,10 @@ pub fn load(file: &[u8], table: &mut [u16]) -> Loaded
     if refused != 0 {
         return Loaded::Refused(refused);
     }
-    let Header::Read(context, count, at) = read_header(file) else {
+    let Header::Read(context, count, body) = read_header(file) else {
         return Loaded::Refused(2);
     };
-    store(file, at, count as usize, table);
+    store(file, body, count as usize, table);
     Loaded::Accepted(context, count)
 }
 

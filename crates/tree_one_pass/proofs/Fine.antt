@@ -23,9 +23,9 @@ use Rattle.tree_places.specs.Places.{firstPlaces, firstPlace, wrongClass, wrong
 use Rattle.tree_places.specs.Steps.{isRequired, wrongPresent}
 use Rattle.tree_places.proofs.Places.{wrong-absent, wrong-present}
 use Rattle.tree_rules.specs.Refusals.{refusal6, refusal7, refusal8, refusal9, refusal10, refusal11, badNumbers, misplaced, badOrder, owners, badOwner, empty, badOutput, refuse, firstOf, nodeRefusals}
-use Rattle.tree_one_pass.specs.Marks.{kindBy, kindAt, IsList, Fits, markBy, markAt, Takes, absent as no-operand, taken as takes, refused as refuses, Marks, Sound, claim, Marked}
+use Rattle.tree_one_pass.specs.Marks.{kindBy, kindAt, IsList, Fits, markBy, markAt, Takes, absent as no-operand, taken as takes, refused as refuses, Marks, Sound, byLevels, claim, Marked}
 use Rattle.tree_one_pass.proofs.Codes.{link-form}
-use Rattle.tree_rules.proofs.First.{stop, skip, no-more}
+use Rattle.tree_rules.proofs.First.{skip}
 use Rattle.tree_rules.proofs.Depth.{levels-node, none-levels}
 use Rattle.tree.proofs.Unfold.{operand-in, operand-zero, tree-zero, levels-most}
 
@@ -436,13 +436,9 @@ module _ (cells : List ℕ) (count : ℕ) where
         ∙ skip _ _ (none-some (empty cells) count (λ i a b. s i a b .full))
         ∙ skip _ _ (none-some (badOutput cells) count (λ i a b. s i a b .output))
 
-    pub nothing-refused : getD xs 1 0 / 8 ≤ mostLevels → 0 ≡ firstOf (nodeRefusals count cells)
-    unfolding refusal11
-    nothing-refused h = sym (eleven ∙ skip _ _ (le-ltb mostLevels (levels (treeAt cells count 1)) (rw deep at h)) ∙ no-more)
-
-    pub too-deep : mostLevels < getD xs 1 0 / 8 → 11 ≡ firstOf (nodeRefusals count cells)
-    unfolding refusal11
-    too-deep h = sym (eleven ∙ stop _ _ (lt-ltb mostLevels (levels (treeAt cells count 1)) (rw deep at h)))
+    pub by-levels : firstOf (nodeRefusals count cells) ≡ byLevels (getD xs 1 0 / 8)
+    unfolding refusal11 byLevels firstOf
+    by-levels = eleven ∙ rw deep
 
 -- a new array
 pub none-yet : (n j : ℕ) → _≡_ {A = ℕ} (getD (replicate n 0) j 0) 0

@@ -9,6 +9,7 @@ use lib.ListN.{length, getD, set}
 use Rattle.laws.specs.Choice.{pick}
 use Rattle.tree_places.specs.declared.place.Place.{Place}
 use Rattle.tree_places.specs.declared.place.Place.the-variants.{Nothing, Required, Optional, List as ListOf, Item, Next}
+use Rattle.tree.specs.Sizes.{mostLevels}
 use Rattle.tree.specs.Forms.{aLink}
 use Rattle.tree.specs.Table.{formAt, detailAt, firstAt, classAt}
 use Rattle.tree.specs.Trees.{treeAt, levels}
@@ -81,6 +82,10 @@ pub record Sound (cells : List ℕ) (count i : ℕ) : Type 0 where
   pub full : empty cells i ≡ false
   pub output : badOutput cells i ≡ false
   pub item : classAt cells i ≡ aLink → 1 ≤ classAt cells (firstAt cells i)
+
+-- the first refusal where none of 6 to 10 applies, by the levels
+unfoldable pub byLevels : ℕ → ℕ
+byLevels most = pick (ltb mostLevels most) 11 0
 
 -- 1 for a node above n that an owner above n has taken
 unfoldable pub claim : ℕ → List ℕ → ℕ → ℕ

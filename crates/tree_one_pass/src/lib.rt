@@ -21,7 +21,7 @@ ghost use Rattle.tree.specs.Sizes.{nodeCells, mostNodes};
 ghost use Rattle.tree_rules.specs.Refusals.{firstOf, nodeRefusals, refusal};
 ghost use Rattle.tree_source.specs.Source.{cellsOf};
 ghost use Rattle.tree_source.specs.Nodes.{NodeAt};
-ghost use Rattle.tree_one_pass.specs.Marks.{Marks};
+ghost use Rattle.tree_one_pass.specs.Marks.{Marks, byLevels};
 
 // The numbers of a node that is there; those of a table without a look at its length.
 fn numbers_at(file: &[u8], held: &[u16], node: u16) -> Node
@@ -105,28 +105,25 @@ fn all_taken(marks: &[u16], count: u16) -> bool
     true
 }
 
-// In place of a refusal that the pass does not find: it takes the passes of `tree_rules` to say which one applies first.
-const UNKNOWN: u16 = 1;
-
-// The first of 6 to 11 that applies, or 0, where the pass finds it, that is where none but 11 applies: from the last node to the first, as operands come after their owners.
-fn quick_refusal(file: &[u8], held: &[u16], count: u16, marks: &mut [u16]) -> u16
+// How many nodes the longest path from node 1 holds, where it is certain that none of 6 to 10 applies; 0 otherwise. From the last node to the first, as operands come after their owners.
+fn sound_levels(file: &[u8], held: &[u16], count: u16, marks: &mut [u16]) -> u16
     requires { ⌜ (1 ≤ count) × (count ≤ mostNodes) × (nodeCells * count ≤ length (cellsOf (now file) (now held))) × (count < length (now marks)) × ((j : ℕ) → getD (now marks) j 0 ≡ 0) ⌝ }
-    ensures { λ r. ⌜ ((r ≡ 1 → ⊥) → r ≡ firstOf (nodeRefusals count (cellsOf (now (file .entry)) (now (held .entry))))) ⌝ }
+    ensures { λ r. ⌜ ((r ≡ 0 → ⊥) → firstOf (nodeRefusals count (cellsOf (now (file .entry)) (now (held .entry)))) ≡ byLevels r) ⌝ }
 {
     let mut node = count;
     while 0 < node {
         let numbers = numbers_at(file, held, node);
         let one = take(marks, count, numbers.first);
         if one == TAKEN {
-            return UNKNOWN;
+            return 0;
         }
         let two = take(marks, count, numbers.second);
         if two == TAKEN {
-            return UNKNOWN;
+            return 0;
         }
         let mark = mark_at(file, held, node, numbers, one, two);
         if mark == 0 {
-            return UNKNOWN;
+            return 0;
         }
         let at = node as usize;
         marks[at] = mark;
@@ -134,60 +131,57 @@ fn quick_refusal(file: &[u8], held: &[u16], count: u16, marks: &mut [u16]) -> u1
     }
     let root = marks[1];
     if root % 8 != 1 {
-        return UNKNOWN;
+        return 0;
     }
     if !all_taken(marks, count) {
-        return UNKNOWN;
+        return 0;
     }
-    if sizes::MOST_LEVELS < root / 8 {
-        return 11;
-    }
-    0
+    root / 8
 }
 
 // The same for fewer than 64 nodes, with an array that is quickly made.
-fn quick_of_few(file: &[u8], held: &[u16], count: u16) -> u16
+fn levels_of_few(file: &[u8], held: &[u16], count: u16) -> u16
     requires { ⌜ (1 ≤ count) × (count < 64) × (nodeCells * count ≤ length (cellsOf (now file) (now held))) ⌝ }
-    ensures { λ r. ⌜ ((r ≡ 1 → ⊥) → r ≡ firstOf (nodeRefusals count (cellsOf (now (file .entry)) (now (held .entry))))) ⌝ }
+    ensures { λ r. ⌜ ((r ≡ 0 → ⊥) → firstOf (nodeRefusals count (cellsOf (now (file .entry)) (now (held .entry)))) ≡ byLevels r) ⌝ }
 {
     let mut marks = [0u16; 64];
-    quick_refusal(file, held, count, &mut marks)
+    sound_levels(file, held, count, &mut marks)
 }
 
 // The same for up to 4,096 nodes.
-fn quick_of_many(file: &[u8], held: &[u16], count: u16) -> u16
+fn levels_of_many(file: &[u8], held: &[u16], count: u16) -> u16
     requires { ⌜ (1 ≤ count) × (count ≤ mostNodes) × (nodeCells * count ≤ length (cellsOf (now file) (now held))) ⌝ }
-    ensures { λ r. ⌜ ((r ≡ 1 → ⊥) → r ≡ firstOf (nodeRefusals count (cellsOf (now (file .entry)) (now (held .entry))))) ⌝ }
+    ensures { λ r. ⌜ ((r ≡ 0 → ⊥) → firstOf (nodeRefusals count (cellsOf (now (file .entry)) (now (held .entry)))) ≡ byLevels r) ⌝ }
 {
     let mut marks = [0u16; sizes::MOST_NODES as usize + 1];
-    quick_refusal(file, held, count, &mut marks)
+    sound_levels(file, held, count, &mut marks)
 }
 
-// The first refusal that applies, or 0, where the pass finds it.
-fn quick_check(context: u16, count: u16, file: &[u8], held: &[u16]) -> u16
-    ensures { λ r. ⌜ ((r ≡ 1 → ⊥) → r ≡ refusal context count (cellsOf (now (file .entry)) (now (held .entry)))) ⌝ }
+// The same, where it is certain that none but 11 applies to a context, a count and the nodes of a source.
+fn quick_levels(context: u16, count: u16, file: &[u8], held: &[u16]) -> u16
+    ensures { λ r. ⌜ ((r ≡ 0 → ⊥) → refusal context count (cellsOf (now (file .entry)) (now (held .entry))) ≡ byLevels r) ⌝ }
 {
     if context > 3 {
-        return UNKNOWN;
+        return 0;
     }
     if has_bad_count(file, held, count) {
-        return UNKNOWN;
+        return 0;
     }
     if count < 64 {
-        return quick_of_few(file, held, count);
+        return levels_of_few(file, held, count);
     }
-    quick_of_many(file, held, count)
+    levels_of_many(file, held, count)
 }
 
 // The number of the first refusal that applies to a context, a count and the nodes of a source, or 0.
 pub fn check_source(context: u16, count: u16, file: &[u8], held: &[u16]) -> u16
     ensures { λ r. ⌜ r ≡ refusal context count (cellsOf (now (file .entry)) (now (held .entry))) ⌝ }
 {
-    let quick = quick_check(context, count, file, held);
-    if quick != UNKNOWN {
-        return quick;
+    let levels = quick_levels(context, count, file, held);
+    if levels == 0 {
+        return tree_rules::refusal::check(context, count, file, held);
     }
-    tree_rules::refusal::check(context, count, file, held)
+    if sizes::MOST_LEVELS < levels { 11 } else { 0 }
 }
 
 // The number of the first refusal that applies to a context, a count and a table, or 0.

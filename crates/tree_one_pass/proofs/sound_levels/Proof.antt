@@ -1,4 +1,4 @@
--- `tree_one_pass::quick_refusal` meets its contract. The loop's invariant: the nodes above the one that it has come to break no rule, and the array holds the marks of those that no owner has taken yet. Assumes nothing.
+-- `tree_one_pass::sound_levels` meets its contract. The loop's invariant: the nodes above the one that it has come to break no rule, and the array holds the marks of those that no owner has taken yet. Assumes nothing.
 use mathlib.Core.Path.{_≡_, refl, sym, _∙_}
 use Prim.Native.Nat.{_≤_}
 use native.Mathlib.Omega.{arith}
@@ -7,9 +7,9 @@ use lib.ListN.{length}
 use borrow.Author.Tests.{not-false}
 use Rattle.tree_source.specs.Source.{cellsOf}
 use Rattle.tree_one_pass.specs.Marks.{Marked}
-use Rattle.tree_one_pass.proofs.Fine.{takes-length, first-most, second-most, second-size, length-more, marked-more, marked-none, nothing-refused, too-deep}
-use Rattle.tree_one_pass.proofs.quick_refusal.Statement.{statement}
-use Rattle.tree_one_pass.proofs.quick_refusal.Tie as tie
+use Rattle.tree_one_pass.proofs.Fine.{takes-length, first-most, second-most, second-size, length-more, marked-more, marked-none, by-levels}
+use Rattle.tree_one_pass.proofs.sound_levels.Statement.{statement}
+use Rattle.tree_one_pass.proofs.sound_levels.Tie as tie
 
 abbrev Inv-loop : tie.InvT-loop
 Inv-loop file held count marks₀ node₀ marks node = (node ≤ count) × (length marks ≡ length marks₀) × Marked (cellsOf file held) count node marks
@@ -77,14 +77,10 @@ at-end c =
 
 returns-6 : tie.Need-returns-6 Inv-loop μ-loop
 returns-6 c =
-    λ h. too-deep _ _ _ (at-end (c .before .before)) (c .before .before .before .before .before .before .before .before .before .before .before .pre .0) (c .before .before .before .before .if4 .left) (c .before .before .all-taken .ensures (not-false _ (c .before .if5 .left))) (omega arith)
+    λ h. by-levels _ _ _ (at-end (c .before)) (c .before .before .before .before .before .before .before .before .before .before .pre .0) (c .before .before .before .if4 .left) (c .before .all-taken .ensures (not-false _ (c .if5 .left)))
 
-returns-7 : tie.Need-returns-7 Inv-loop μ-loop
-returns-7 c =
-    λ h. nothing-refused _ _ _ (at-end (c .before .before)) (c .before .before .before .before .before .before .before .before .before .before .before .pre .0) (c .before .before .before .before .if4 .left) (c .before .before .all-taken .ensures (not-false _ (c .before .if5 .left))) (omega arith)
-
-pub quick-refusal-spec : {M : Type 1} → statement M
-quick-refusal-spec =
+pub sound-levels-spec : {M : Type 1} → statement M
+sound-levels-spec =
     tie.close (tie.spec Inv-loop μ-loop loop-holds numbers-at-requires
     (λ c κs. c .before .before .before .loop .inv .2 .size)
     (λ c. takes-length _ _ _ _ _ (c .before .before .before .take .ensures) ∙ c .before .before .before .before .before .before .before .loop .inv .1)
@@ -99,5 +95,4 @@ quick-refusal-spec =
     loop-again slice-read-root (λ c. c .before .before .before .loop .inv .1) (λ c. λ h. absurd (h refl))
     (λ c κs. (c .before .before .before .before .before .before .before .before .pre .1, c .before .before .before .before .loop .inv .2 .size))
     (λ c. c .before .before .before .before .before .before .loop .inv .1) (λ c. λ h. absurd (h refl))
-    (λ c. c .before .before .before .before .before .before .before .loop .inv .1) returns-6
-    (λ c. c .before .before .before .before .before .before .before .loop .inv .1) returns-7)
+    (λ c. c .before .before .before .before .before .before .loop .inv .1) returns-6)
