@@ -29,7 +29,7 @@ use Rattle.token_plain.proofs.Parens.{without-bare}
 use Rattle.token_rows.proofs.Tokens.{inside, atom-signs, prefix-signs, operator-signs, member-signs, link-signs, type-prefix-signs, type-sign-signs, type-link-signs}
 use Rattle.token_rows.proofs.Numbers.{inside-by}
 use Rattle.token_fewest_rows.specs.Statement.{round, tokensWith, cellsWith}
-use Rattle.token_fewest_rows.proofs.Counted.{high-at}
+use Rattle.token_writer.proofs.Pairs.{high-at}
 
 -- ---- pairs by paths
 

@@ -4,12 +4,12 @@ use mathlib.Core.Bool.{true, false, not}
 use mathlib.Core.List.{List, []}
 use Prim.Native.Nat.{ℕ, _*_, _≤_}
 use native.Mathlib.Omega.{arith}
-use lib.ListN.{length, replicate, length-replicate}
+use lib.ListN.{length}
 use borrow.Author.Tests.{le-ltb, eq-eqb}
 use Rattle.laws.specs.Choice.{pick}
 use Rattle.laws.specs.Lists.{over}
 use Rattle.laws.proofs.Choice.{pick-true, pick-false, true-of, or-next}
-use Rattle.tree.specs.Sizes.{nodeCells, rowCells, tokenCells, tokensPerNode, mostNodes, mostTokens}
+use Rattle.tree.specs.Sizes.{nodeCells, tokenCells, tokensPerNode, mostNodes, mostTokens}
 use Rattle.tree.specs.Trees.{Tree, treeAt}
 use Rattle.tree.specs.Erase.{erase}
 use Rattle.tree.specs.Walks.{isThere}
@@ -17,9 +17,6 @@ use Rattle.tree.proofs.Unfold.{unfolds}
 use Rattle.tree_rules.specs.Refusals.{refusal3, Accepted}
 use Rattle.tree_rules.proofs.Accepted.{count-bounds, levels-bound}
 use Rattle.expr.specs.Handed.{neither}
-use Rattle.expr.specs.declared.order.CalleeOrder.the-variants.{Ours}
-use Rattle.row.specs.Rows.{rowsOf}
-use Rattle.row_walk.specs.Walk.{rootHanded, placed}
 use Rattle.row_walk.specs.Paths.{Branch, numberAt, treeBy}
 use Rattle.row_walk.proofs.Paths.{tree-at, there-at, one-path, reached}
 use Rattle.row_walk.proofs.Replies as replies
@@ -52,6 +49,7 @@ use Rattle.token_rows.proofs.Numbers.{pair-at, tokens-from, tokens-leaving}
 use Rattle.token_writer.specs.declared.Written.the-variants.{Tokens}
 use Rattle.token_writer.specs.Writes.{rowsFor, written, pairsWritten, takesContext, answered, tokensAfter}
 use Rattle.token_writer.proofs.Bounds.{tokens-bound}
+use Rattle.token_writer.proofs.Pairs as writer
 use Rattle.token_writer.proofs.Replies.{not-refused}
 use Rattle.token_writer.proofs.Tokens.{length-cells}
 use Rattle.token_reader.specs.declared.Reply.{Reply}
@@ -94,25 +92,12 @@ module _ (k : Context) (count : ℕ) (cells : List ℕ) (ok : Accepted (contextN
   abbrev pub root : Tree
   root = treeAt cells count 1
 
-  abbrev pub blank : List ℕ
-  blank = replicate (rowCells * count) 0
-
-  pub room : rowCells * count ≤ length blank
-  room = rw (length-replicate {A = ℕ} (rowCells * count) 0) (omega arith)
-
-  abbrev pub rows : List ℕ
-  rows = placed cells count 1 (rowsOf Ours (rootHanded context root) root) blank
-
-  pub rows-are : rowsFor context count cells ≡ rows
-  unfolding rowsFor
-  rows-are = replies.rows-are Ours context count cells blank ok room
-
   -- by any parse tree of the table's tree
   pub written-by : (e : Expr one) → treeOf e ≡ root → written context count cells ≡ write (withoutCommas (addAll k e)) []
   unfolding written
   written-by e is =
-      ap (λ r. tokensAt cells count (hasPair r) 1 root []) rows-are
-      ∙ tokens-from k count cells ok blank room []
+      ap (λ r. tokensAt cells count (hasPair r) 1 root []) (writer.rows-are k count cells ok plain)
+      ∙ tokens-from k count cells ok (writer.blank k count cells ok plain) (writer.room k count cells ok plain) []
       ∙ ap (λ t. tokensFor (neither (begun k) t) t []) (sym is)
       ∙ tokens-are k e []
 
@@ -184,8 +169,8 @@ module _ (k : Context) (count : ℕ) (cells : List ℕ) (ok : Accepted (contextN
     on-row : markedAt (neither (begun k) (treeOf tree)) (treeOf tree) path ≡ true
     on-row =
         ap (λ t. markedAt (neither (begun k) t) t path) tree-is
-        ∙ sym (pair-at k count cells ok blank room path there)
-        ∙ ap₂ hasPair (sym rows-are) leads
+        ∙ sym (pair-at k count cells ok (writer.blank k count cells ok plain) (writer.room k count cells ok plain) path there)
+        ∙ ap₂ hasPair (sym (writer.rows-are k count cells ok plain)) leads
         ∙ added .2
 
     without : (q : AnyPair k tree) × ((rest : List Token) → tokensBut path (neither (begun k) (treeOf tree)) (treeOf tree) rest ≡ write (withoutCommas (dropAny k tree q)) rest)
@@ -193,9 +178,9 @@ module _ (k : Context) (count : ℕ) (cells : List ℕ) (ok : Accepted (contextN
 
     but-is : writtenBut k j count cells 1 ≡ write (withoutCommas (dropAny k tree (without .0))) []
     but-is =
-        ap (λ r. tokensAt cells count (butAt j (hasPair r)) 1 root []) rows-are
-        ∙ ap (λ n. tokensAt cells count (butAt n (hasPair rows)) 1 root []) (sym leads)
-        ∙ tokens-leaving k count cells ok blank room path there []
+        ap (λ r. tokensAt cells count (butAt j (hasPair r)) 1 root []) (writer.rows-are k count cells ok plain)
+        ∙ ap (λ n. tokensAt cells count (butAt n (hasPair (writer.rows k count cells ok plain))) 1 root []) (sym leads)
+        ∙ tokens-leaving k count cells ok (writer.blank k count cells ok plain) (writer.room k count cells ok plain) path there []
         ∙ ap (λ t. tokensBut path (neither (begun k) t) t []) (sym tree-is)
         ∙ without .1 []
 
