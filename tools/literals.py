@@ -73,7 +73,7 @@ KINDS = [
 # The kind, the files, the text that the digits stand in (the whole line if none is given), and why they stay.
 ALLOWED = [
     ('*', '*', r'^\s*(pub )?const \w+: \w+ = [\d_]+;', 'the definition of the name, in the code'),
-    ('*', '*/specs/*', r'^(nodeCells|rowCells|tokenCells|tokensPerNode|most\w+|lastCode|\w*[eE]nd\w*|\w+Column) = \d+', 'the definition of the name, in the specs'),
+    ('*', '*/specs/*', r'^(nodeCells|rowCells|tokenCells|tokensPerNode|most\w+|lastCode|\w*[eE]nd\w*|opening|taskStep|\w+Column) = \d+', 'the definition of the name, in the specs'),
     ('*', '*/specs/Cases.antt', '', 'an example'),
     ('last', '*/specs/Forms.antt', r'^Type\w+ = \d+', 'the table of forms'),
     ('last', '*/specs/Tokens.antt', r'^code \w+ = \d+', 'the table of codes'),

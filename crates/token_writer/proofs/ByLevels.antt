@@ -1,43 +1,43 @@
 -- The rows of an accepted plain table have the pairs that levels ask for: tokens and pairs by places are those by rows. Assumes nothing.
 use mathlib.Core.Path.{_≡_, refl, sym, subst, ap, ap₂, _∙_}
 use mathlib.Core.Bool.{Bool, true, false, _&&_, _||_}
-use mathlib.Core.List.{List, [], _∷_, _++_}
-use Prim.Native.Nat.{ℕ, suc, _+_, _*_, _/_, _%_, _≤_, _<_}
+use mathlib.Core.List.{List}
+use Prim.Native.Nat.{ℕ, suc, _+_, _/_, _%_, _≤_, _<_}
 use native.Mathlib.Omega.{arith}
-use lib.Dec.{eqb, ltb}
+use lib.Dec.{ltb}
 use borrow.Author.Tests.{lt-ltb, le-ltb}
 use Rattle.bools.specs.Bits.{bitOf}
 use Rattle.laws.specs.Choice.{pick, lookup}
 use Rattle.laws.proofs.Choice.{pick-true, pick-false, true-not-false}
-use Rattle.tree.specs.Forms.{ExprStruct, Link, classOf}
-use Rattle.tree.specs.Trees.{Label, Tree, none, node}
+use Rattle.tree.specs.Forms.{classOf}
+use Rattle.tree.specs.Trees.{Tree, none, node}
 use Rattle.fixup.specs.declared.context.FixupContext.{FixupContext}
 use Rattle.fixup.specs.Contexts.{NONE}
 use Rattle.expr.specs.declared.Handed.{Handed}
 use Rattle.expr.specs.Handed.{neither}
 use Rattle.expr.specs.declared.order.CalleeOrder.the-variants.{Ours}
 use Rattle.expr.specs.Expr.{handsFirst, handsSecond}
-use Rattle.row.specs.Rows.{isExpression, outerPair, ownContext}
-use Rattle.token_grammar.specs.Tokens.{Operator, Token, number, operatorOf, LeftParen, RightParen}
+use Rattle.row.specs.Rows.{isExpression, ownContext}
+use Rattle.token_grammar.specs.Tokens.{Operator, Token}
 use Rattle.token_grammar.specs.Tokens as token
 use Rattle.token_grammar.specs.Levels.{kind, level, leansLeft, leansRight, lowest, before, after, casts, prefixes, postfixes}
 use Rattle.token_grammar.specs.Types.{Sort, one, list, items, constPtr, mutPtr, sharedRef, mutRef, infer, never, Ty, named, applied, pointing, sign, noTypes, types, lastType, moreTypes, typeEndsInName}
-use Rattle.token_grammar.specs.Expressions.{path, literal, structure, Prefix, neg, deref, invert, ref, refMut, Member, byName, byNumber, awaited, Expr, atom, paren, prefix, binary, cast, member, try, index, call, method, noArguments, arguments, lastArgument, moreArguments, kindOf, endsInDotName, isStruct}
+use Rattle.token_grammar.specs.Expressions.{path, literal, structure, Prefix, neg, deref, invert, ref, refMut, Member, byName, byNumber, awaited, Expr, atom, paren, prefix, binary, cast, member, try, index, call, method, noArguments, arguments, lastArgument, moreArguments, endsInDotName, isStruct}
 use Rattle.token_grammar.specs.Grammar.{Context, CONDITION, opensArguments, excluded}
 use Rattle.token_grammar.specs.Grammar as grammar
-use Rattle.token_grammar.proofs.Added.{isCastToName, strength, tooWeak, lowestRight, tooWeakAfter, tooWeakBefore, tooWeakToCall}
+use Rattle.token_grammar.proofs.Added.{strength, tooWeak, lowestRight, tooWeakToCall}
 use Rattle.token_grammar.proofs.Levels.{operator-high}
 use Rattle.token_grammar.proofs.Tokens.{operator-number}
 use Rattle.token_plain.specs.Trees.{prefixLabel, operatorLabel, memberLabel, treeOf, treeOfType}
-use Rattle.token_plain.specs.Written.{Signs, signsOf, within}
+use Rattle.token_plain.specs.Written.{signsOf}
 use Rattle.token_rows.proofs.Contexts.{begun, Calm, calm-none}
 use Rattle.token_rows.proofs.Contexts as rows
 use Rattle.token_rows.proofs.Nodes.{Operating, assigning, operating, operated, facts, path-ends}
 use Rattle.token_rows.proofs.Operands.{Settled}
 use Rattle.token_rows.proofs.Handed.{Operand, root, alone, prefix-first, binary-first, binary-second, cast-first, member-first, try-first, index-first, call-first, method-first, paren-first, index-second, link-first}
-use Rattle.token_rows.proofs.Tokens.{marked, inside, tokensFor, marked-other, marked-expression, own-expression}
+use Rattle.token_rows.proofs.Tokens.{marked, tokensFor, marked-other, marked-expression, own-expression}
 use Rattle.token_rows.proofs.Numbers.{within-by, inside-by}
-use Rattle.token_writer.specs.Levels.{opening, conditional, place, lowestIn, opensIn, conditionIn, callable, closed, strengthLines, strengthOf, needsBy, needs, lowestAfter, firstLines, firstBy, secondLines, secondBy, kept, firstFrom, secondFrom, tokensBy, pairsBy}
+use Rattle.token_writer.specs.Levels.{opening, conditional, place, lowestIn, opensIn, conditionIn, callable, closed, strengthLines, strengthOf, needsBy, needs, lowestAfter, firstLines, firstBy, secondLines, secondBy, kept, tokensBy, pairsBy}
 
 -- ---- what a place's number says
 

@@ -1,5 +1,5 @@
 -- The loop of `write_tree`: what is written and what waits are the whole. Assumes nothing.
-use mathlib.Core.Path.{_≡_, refl, sym, ap, _∙_}
+use mathlib.Core.Path.{_≡_, sym, ap, _∙_}
 use mathlib.Core.List.{List, [], _++_, append-assoc, append-nil}
 use Prim.Native.Nat.{ℕ, suc, _+_, _*_, _-_, _≤_, _<_}
 use native.Mathlib.Omega.{arith}
@@ -8,7 +8,7 @@ use Rattle.laws.specs.Puts.{Put}
 use Rattle.laws.proofs.Putting.{put-none, put-more}
 use Rattle.tree.specs.Sizes.{nodeCells}
 use Rattle.token_writer.specs.declared.Turn.{Turn}
-use Rattle.token_writer.specs.Tasks.{taskStep, taskOf, betweenTask, cellsBy, pairsAt, taskCells, taskPairs, enterWork, taskWork, pile, waitingCells, waitingPairs, waitingWork, Turned}
+use Rattle.token_writer.specs.Tasks.{taskOf, betweenTask, cellsBy, pairsAt, taskCells, taskPairs, enterWork, taskWork, pile, waitingCells, waitingPairs, waitingWork, Turned}
 use Rattle.token_writer.proofs.Tasks.{enter-cells, enter-pairs, enter-work, some-work, pile-push, pile-top, deep}
 
 module _ (cells : List ℕ) (count p : ℕ) (before : List ℕ) (lent : ℕ) where

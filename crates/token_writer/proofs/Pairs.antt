@@ -1,5 +1,5 @@
 -- The rows of an accepted plain table: they have no inner pairs, and tokens and pairs by rows are those by places. Assumes nothing.
-use mathlib.Core.Path.{_≡_, refl, sym, ap, ap₂, subst, _∙_}
+use mathlib.Core.Path.{_≡_, refl, sym, ap, ap₂, _∙_}
 use mathlib.Core.Bool.{Bool, true, false, not}
 use mathlib.Core.List.{List, [], _∷_}
 use Prim.Native.Nat.{ℕ, _+_, _*_, _-_, _≤_}
@@ -20,7 +20,6 @@ use Rattle.tree.specs.Walks.{isThere, atRoot}
 use Rattle.tree.proofs.Unfold.{tree-past, unfolds}
 use Rattle.tree_rules.specs.Refusals.{Accepted}
 use Rattle.tree_rules.proofs.Accepted.{count-bounds}
-use Rattle.tree_numbering.specs.Sums.{sum}
 use Rattle.tree_numbering.proofs.Sizes.{weigh, weighed}
 use Rattle.expr.specs.declared.Handed.{Handed}
 use Rattle.expr.specs.Handed.{neither}
@@ -31,7 +30,6 @@ use Rattle.row_walk.specs.Walk.{rootHanded, placed}
 use Rattle.row_walk.specs.Paths.{Branch, first, second, numberAt, treeBy, handedBy}
 use Rattle.row_walk.proofs.Paths.{tree-at, there-at, row-at}
 use Rattle.row_walk.proofs.Replies as replies
-use Rattle.token_grammar.specs.Tokens.{Token}
 use Rattle.token_grammar.specs.Types.{one}
 use Rattle.token_grammar.specs.Expressions.{Expr}
 use Rattle.token_grammar.specs.Grammar.{Context, contextNumber}

@@ -1,7 +1,7 @@
 -- Nodes of the forms that have their own way: names, literals, Binaries and links. Assumes nothing.
 use mathlib.Core.Path.{_≡_, refl, sym, ap, _∙_}
-use mathlib.Core.Bool.{Bool, true, false, not, _&&_, _||_}
-use mathlib.Core.List.{List, [], _∷_, _++_}
+use mathlib.Core.Bool.{Bool, true, false, _&&_}
+use mathlib.Core.List.{List, [], _∷_}
 use Prim.Native.Nat.{ℕ, zero, suc, _+_, _*_, _-_, _%_, _≤_, _<_}
 use native.Mathlib.Omega.{arith}
 use lib.Dec.{eqb, ltb, leb}
@@ -19,7 +19,7 @@ use Rattle.tree.proofs.Unfold.{operand-most, tree-zero, unfolds}
 use Rattle.token_grammar.specs.Tokens.{Token, operator, Name, Literal, Comma, LeftParen, RightParen, number, code, cellsOf, operatorOf}
 use Rattle.token_grammar.proofs.Tokens.{number-below}
 use Rattle.token_grammar.specs.Levels.{kind, level}
-use Rattle.token_plain.specs.Written.{Signs, signs, comma, signLines, signsOf}
+use Rattle.token_plain.specs.Written.{signs, comma, signLines, signsOf}
 use Rattle.token_writer.specs.Levels.{opening, lowestIn, opensIn, conditionIn, closed, strengthLines, strengthOf, needsBy, needs, firstLines, firstBy, secondLines, secondBy, kept, firstFrom, secondFrom}
 use Rattle.token_writer.specs.Tasks.{taskStep, taskOf, betweenTask, codeTask, signsAt, cellsBy, pairsAt, enterWork, laidThree, Turned, TurnedOnly}
 use Rattle.token_writer.proofs.Tasks.{enter-cells, enter-pairs, some-work}

@@ -15,8 +15,8 @@ use Rattle.tree.specs.Forms.{ExprStruct}
 use Rattle.tree.specs.Table.{cellAt, formColumn, detailColumn, secondColumn}
 use Rattle.tree.specs.Trees.{labelAt, operandAt, treeAt}
 use Rattle.classify.specs.Classify.{trailingPath}
-use Rattle.token_grammar.specs.Tokens.{Assign, number, operatorOf}
-use Rattle.token_grammar.specs.Levels.{assignments, kinds, kind, level, lowest, before}
+use Rattle.token_grammar.specs.Tokens.{Shl, Lt, Assign, number, operatorOf}
+use Rattle.token_grammar.specs.Levels.{assignments, comparisons, prefixes, kinds, kind, level, lowest, before}
 use Rattle.token_grammar.specs.Grammar.{opensArguments}
 use Rattle.token_writer.specs.Levels.{opening, lowestIn, opensIn, conditionIn, closed, strengthLines, strengthOf, needsBy, needs, lowestAfter}
 use Rattle.token_writer.proofs.Spelling.{operator-low, operator-high}
@@ -40,9 +40,12 @@ pub level-rest : (n : ℕ) → Missed (Unit {0}) (arms kinds) n → level (kind 
 level-rest n m = level-by n ∙ ap level (rest kinds assignments n m)
 
 -- `<` and `<<`
-pub opens-by : (n : ℕ) → opensArguments (operatorOf n) ≡ hasKey (10 ∷ 13 ∷ []) n
+abbrev pub opening-codes : List ℕ
+opening-codes = number Shl ∷ number Lt ∷ []
+
+pub opens-by : (n : ℕ) → opensArguments (operatorOf n) ≡ hasKey opening-codes n
 unfolding opensArguments
-opens-by n = swap (eqb 13 (number (operatorOf n))) (eqb 10 (number (operatorOf n))) ∙ by-number (hasKey (10 ∷ 13 ∷ [])) (λ m h. past (10 ∷ 13 ∷ []) (number Assign) m tt h ∙ sym (past (10 ∷ 13 ∷ []) (number Assign) (number Assign) tt (omega arith))) n
+opens-by n = swap (eqb (number Lt) (number (operatorOf n))) (eqb (number Shl) (number (operatorOf n))) ∙ by-number (hasKey opening-codes) (λ m h. past opening-codes (number Assign) m tt h ∙ sym (past opening-codes (number Assign) (number Assign) tt (omega arith))) n
   where
     swap : (a b : Bool) → a || (b || false) ≡ b || (a || false)
     swap true true = refl
@@ -66,10 +69,10 @@ unfolding kind lookup pick
 assign-right = refl
 
 abbrev firmLeft : List ℕ
-firmLeft = 1 ∷ 6 ∷ 14 ∷ []
+firmLeft = level assignments ∷ level comparisons ∷ level prefixes ∷ []
 
 abbrev firmRight : List ℕ
-firmRight = 1 ∷ 14 ∷ []
+firmRight = level assignments ∷ level prefixes ∷ []
 
 module _ (n : ℕ) where
   pub left-more : OneOf firmLeft n → n + 1 ≡ lowest (not (hasKey firmLeft n)) n

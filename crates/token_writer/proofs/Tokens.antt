@@ -125,6 +125,6 @@ module _ (cells : List ℕ) (count p i : ℕ) where
     unfolding pairsBy
     pairs-parts = ap (pairsBy p) (unfolds cells count i low high)
 
-    pub work-parts : enterWork cells count i + 2 ≡ enterWork cells count (operandAt cells count i firstColumn) + (enterWork cells count (operandAt cells count i secondColumn) + 5)
+    pub work-parts : enterWork cells count i ≡ enterWork cells count (operandAt cells count i firstColumn) + (enterWork cells count (operandAt cells count i secondColumn) + 3)
     unfolding enterWork size
     work-parts = rw (unfolds cells count i low high) (omega arith)

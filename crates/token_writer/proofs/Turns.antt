@@ -2,10 +2,10 @@
 use mathlib.Core.Path.{_≡_, refl, sym, ap, ap₂, _∙_}
 use mathlib.Core.Bool.{Bool, true, false, not, _&&_}
 use mathlib.Core.List.{List, [], _∷_, _++_, append-assoc, append-nil}
-use Prim.Native.Nat.{ℕ, _+_, _*_, _-_, _≤_, _<_}
+use Prim.Native.Nat.{ℕ, _+_, _-_, _≤_, _<_}
 use native.Mathlib.Omega.{arith}
 use lib.Dec.{eqb}
-use lib.ListN.{length, set, getD, length-set, length-append}
+use lib.ListN.{length, set, length-set, length-append}
 use borrow.Author.Tests.{ne-eqb}
 use Rattle.bools.specs.Bits.{bitOf}
 use Rattle.laws.specs.Choice.{pick, lookup}
@@ -16,15 +16,14 @@ use Rattle.tree.specs.Table.{cellAt, formColumn, detailColumn, firstColumn, sec
 use Rattle.tree.specs.Trees.{Label, none, labelAt, operandAt, treeAt}
 use Rattle.tree.proofs.Unfold.{operand-most}
 use Rattle.token_grammar.specs.Tokens.{Assign, Token, LeftParen, RightParen, code, cellsOf, operatorOf}
-use Rattle.token_grammar.specs.Levels.{kind, before}
+use Rattle.token_grammar.specs.Levels.{casts, prefixes, postfixes, kind, level, before}
 use Rattle.token_plain.specs.Written.{signs}
 use Rattle.token_grammar.specs.Grammar.{opensArguments}
-use Rattle.token_writer.specs.declared.Turn.{Turn}
 use Rattle.token_writer.specs.declared.signs.Few.{Few}
 use Rattle.token_writer.specs.declared.signs.Signs.{Signs}
 use Rattle.token_writer.specs.Puts.{spelled, symbolLines, symbolOn, cellsWith, Spells, oneIf}
-use Rattle.token_writer.specs.Levels.{opening, place, lowestAfter, firstLines, firstBy, secondLines, secondBy, kept, opensIn, conditionIn, firstFrom, secondFrom}
-use Rattle.token_writer.specs.Tasks.{taskStep, taskOf, betweenTask, behindTask, lastTask, signsAt, cellsBy, pairsAt, closing, codeTask, signCells, codeCells, ownCells, taskCells, taskPairs, enterWork, taskWork, pile, waitingCells, waitingPairs, waitingWork, laid, laidThree, waiting, Turned, TurnedOnly}
+use Rattle.token_writer.specs.Levels.{opening, callable, place, lowestAfter, firstLines, firstBy, secondLines, secondBy, kept, opensIn, conditionIn, firstFrom, secondFrom}
+use Rattle.token_writer.specs.Tasks.{taskStep, taskOf, betweenTask, behindTask, lastTask, signsAt, cellsBy, pairsAt, closing, codeTask, signCells, ownCells, taskCells, taskPairs, enterWork, taskWork, waitingCells, waitingPairs, waitingWork, laid, laidThree, waiting, Turned, TurnedOnly}
 use Rattle.token_writer.proofs.Bounds.{in-table}
 use Rattle.token_writer.proofs.ByLevels.{left-low, right-low}
 use Rattle.token_writer.proofs.Spelling.{one-if}
@@ -48,12 +47,12 @@ module _ (g c : Bool) (l : Label) where
         (
           place-small (before (kind Assign)) (omega (arith, left-low Assign)) false c,
           (
-            place-small 13 (omega arith) false c,
+            place-small (before casts) (omega arith) false c,
             (
-              place-small 14 (omega arith) g c,
+              place-small (level prefixes) (omega arith) g c,
               (
-                place-small 15 (omega arith) false c,
-                (place-small 16 (omega arith) false c, tt),
+                place-small (before postfixes) (omega arith) false c,
+                (place-small callable (omega arith) false c, tt),
               ),
             ),
           ),
@@ -292,7 +291,7 @@ module _ (cells : List ℕ) (count i p : ℕ) (here : p < betweenTask) (low : 1 
       ∙ pairs-parts cells count p i low high
       ∙ sym (rw (enter-pairs cells count (operandAt cells count i firstColumn) _ (first-fits cells count i p here low high fits) (first-place cells count i p here low high fits), enter-pairs cells count (operandAt cells count i secondColumn) _ (second-fits cells count i p here low high fits) (second-place cells count i p here low high fits)))
 
-  own-work : taskWork cells count (taskOf i p) + 2 ≡ taskWork cells count one + (taskWork cells count two + 5)
+  own-work : taskWork cells count (taskOf i p) ≡ taskWork cells count one + (taskWork cells count two + 3)
   own-work =
       rw (enter-work cells count i p (omega arith) here, enter-work cells count (operandAt cells count i firstColumn) (firstFrom p pair (labelAt cells i)) (first-fits cells count i p here low high fits) (first-place cells count i p here low high fits), enter-work cells count (operandAt cells count i secondColumn) (secondFrom p pair (labelAt cells i)) (second-fits cells count i p here low high fits) (second-place cells count i p here low high fits))
       (work-parts cells count p i low high)

@@ -1,5 +1,5 @@
 -- The pairs of a plain tree by levels, handed down from the root. Nothing here is to be believed: proofs/Pairs says that they are those of the rows.
-use mathlib.Core.Bool.{Bool, true, false, _&&_, _||_}
+use mathlib.Core.Bool.{Bool, false, _&&_, _||_}
 use mathlib.Core.List.{List, [], _∷_, _++_}
 use Prim.Native.Nat.{ℕ, suc, _+_, _*_, _/_, _%_}
 use lib.Dec.{eqb, ltb}

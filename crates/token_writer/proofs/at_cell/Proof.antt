@@ -1,5 +1,4 @@
 -- `token_writer::at_cell` meets its contract. Assumes nothing.
-use mathlib.Core.Path.{sym}
 use native.Mathlib.Omega.{arith}
 use borrow.Author.Needs.{needs}
 use Rattle.token_writer.proofs.Shapes.{cell-is}

@@ -2,7 +2,6 @@
 use mathlib.Core.Path.{sym, _∙_}
 use native.Mathlib.Omega.{arith}
 use borrow.Author.Needs.{needs}
-use Rattle.laws.proofs.Calls.{free}
 use Rattle.tree.proofs.Unfold.{tree-zero, tree-past}
 use Rattle.token_writer.proofs.Shapes.{bare-name, bare-literal, bare-room, bare-turned}
 use Rattle.token_writer.proofs.Turns.{turned-none}

@@ -1,5 +1,4 @@
 -- `token_writer::enter_other` meets its contract. Assumes nothing.
-use mathlib.Core.Path.{_∙_, sym}
 use native.Mathlib.Omega.{arith}
 use borrow.Author.Needs.{needs}
 use Rattle.laws.proofs.Calls.{free}

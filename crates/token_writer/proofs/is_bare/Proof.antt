@@ -1,7 +1,5 @@
 -- `token_writer::is_bare` meets its contract. Assumes nothing.
-use mathlib.Core.Path.{_∙_, ap₂}
-use mathlib.Core.Bool.{_&&_}
-use lib.Dec.{eqb}
+use mathlib.Core.Path.{_∙_}
 use native.Mathlib.Omega.{arith}
 use Rattle.laws.proofs.Calls.{free}
 use Rattle.token_writer.proofs.is_bare.Statement.{statement}

@@ -1,5 +1,4 @@
 -- `token_writer::put` meets its contract. Assumes nothing.
-use mathlib.Core.Path.{_∙_}
 use native.Mathlib.Omega.{arith}
 use Rattle.laws.proofs.Putting.{put-none, put-more}
 use borrow.Author.Needs.{needs}

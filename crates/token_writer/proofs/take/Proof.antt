@@ -3,7 +3,7 @@ use Prim.Native.Nat.{_/_, _%_}
 use lib.ListN.{getD}
 use native.Mathlib.Omega.{arith}
 use borrow.Author.Needs.{needs}
-use Rattle.token_writer.specs.Tasks.{taskStep, codeTask}
+use Rattle.token_writer.specs.Tasks.{taskStep}
 use Rattle.token_writer.proofs.Tasks.{taken-place, taken-sign, own-sign, own-code, put-together}
 use Rattle.token_writer.proofs.Turns.{turned-sign}
 use Rattle.token_writer.proofs.take.Statement.{statement}

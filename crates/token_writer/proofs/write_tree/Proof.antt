@@ -3,7 +3,6 @@ use mathlib.Core.Path.{refl, _∙_}
 use native.Mathlib.Omega.{arith}
 use lib.ListN.{length}
 use borrow.Author.Needs.{needs}
-use Rattle.laws.proofs.Calls.{free}
 use Rattle.tree.specs.Sizes.{mostNodes}
 use Rattle.token_writer.specs.Tasks.{waitingWork}
 use Rattle.token_writer.proofs.Tasks.{enter-some}

@@ -1,5 +1,4 @@
 -- `token_writer::levels::is_weak` meets its contract. Assumes nothing.
-use mathlib.Core.Path.{ap, sym, _∙_}
 use borrow.Author.Tests.{not-true, not-false}
 use Rattle.laws.proofs.Calls.{free}
 use Rattle.token_writer.proofs.levels.is_weak.Statement.{statement}

@@ -1,11 +1,7 @@
 -- `token_writer::levels::needs_pair` meets its contract. Assumes nothing.
-use mathlib.Core.Path.{_≡_, sym, ap, ap₂, _∙_}
-use mathlib.Core.Bool.{_&&_, _||_}
-use lib.Dec.{eqb, ltb}
-use native.Mathlib.Omega.{arith}
+use mathlib.Core.Path.{sym, ap, _∙_}
+use mathlib.Core.Bool.{_&&_}
 use Rattle.laws.proofs.Calls.{free}
-use Rattle.laws.specs.Choice.{lookup}
-use Rattle.laws.proofs.Choice.{or-here, or-next}
 use Rattle.tree.specs.Table.{secondColumn}
 use Rattle.tree.specs.Trees.{operandAt, treeAt}
 use Rattle.classify.specs.Classify.{trailingPath}

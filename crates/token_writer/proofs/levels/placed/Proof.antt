@@ -1,5 +1,4 @@
 -- `token_writer::levels::placed` meets its contract. Assumes nothing.
-use mathlib.Core.Path.{_≡_, ap₂}
 use native.Mathlib.Omega.{arith}
 use Rattle.laws.proofs.Calls.{free}
 use Rattle.token_writer.proofs.levels.placed.Statement.{statement}
