@@ -90,7 +90,7 @@ fn crates_are_counted() {
     ];
     assert_eq!(lines[1..], meant);
     let log = std::fs::read_to_string(folder.0.join("target/libraries.log")).expect("the log");
-    assert_eq!(log.matches("modules loaded").count(), 2);
+    assert_eq!(log.matches("modules loaded").count(), 3);
 }
 
 #[test]

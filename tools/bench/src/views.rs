@@ -160,7 +160,7 @@ pub const OPEN: View = View {
     ..DECIDE
 };
 
-/// Every export on sets of surveyors' size, on all other sets, and of tokens as issues ask.
+/// Every export on sets of surveyors' size, on all other sets, and of tokens, of a short list and a long one.
 pub const ALL: [View; 4] = [
     View { kind: Kind::Surveyors, a: A::Call, sides: Side::SHOWN, sides_are_lines: true, ..DECIDE },
     View { sides: Side::SHOWN, sides_are_lines: true, ..DECIDE },

@@ -86,11 +86,13 @@ impl Texts {
     }
 }
 
+/// What stands for a name that is no single token: nothing that a source has, since equal names
+/// are one symbol.
 fn stand_in(symbol: u16, is_number: bool) -> String {
     if is_number {
-        format!("{symbol}")
+        format!("777000{symbol:05}")
     } else {
-        format!("x{symbol}")
+        format!("stand_in_{symbol}")
     }
 }
 
