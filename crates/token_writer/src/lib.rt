@@ -208,7 +208,7 @@ fn wait(
     )
 }
 
-// The tree at a node is to be written at a place: what stands before its first operand, and the rest waits. Number 0 stands for an operand that is absent.
+// The tree at a node is to be written at a place: what stands before its first operand, and the rest waits.
 fn enter_other(
     table: &[u16],
     count: u16,
@@ -219,23 +219,9 @@ fn enter_other(
     tokens: &mut [u16],
     at: usize,
 ) -> Turn
-    requires { ⌜ (here < betweenTask) × (depth + enterWork (now table) count node ≤ length (now stack)) × (at + length (cellsBy (now table) count here node) ≤ length (now tokens)) ⌝ }
+    requires { ⌜ (here < betweenTask) × (depth + enterWork (now table) count node ≤ length (now stack)) × (at + length (cellsBy (now table) count here node) ≤ length (now tokens)) × (1 ≤ node) × (node ≤ count) ⌝ }
     ensures { λ r. ⌜ Turned (now (table .entry)) count (taskOf node here) (now (stack .entry)) depth (now (tokens .entry)) at (now (stack .exit)) (now (tokens .exit)) r ⌝ }
 {
-    if node == 0 {
-        return Turn {
-            depth: depth,
-            at: at,
-            pairs: 0,
-        };
-    }
-    if count < node {
-        return Turn {
-            depth: depth,
-            at: at,
-            pairs: 0,
-        };
-    }
     let symbol = cell(table, node, columns::SYMBOL);
     let pair = needs_pair(table, count, node, here);
     let signs = signs_at(table, count, node);
@@ -368,7 +354,7 @@ fn enter_link(
     }
 }
 
-// The same for any node; names, literals, Binaries and links, which most nodes are, have their own way.
+// The same for any number, 0 for an operand that is absent; names, literals, Binaries and links, which most nodes are, have their own way.
 fn enter(
     table: &[u16],
     count: u16,

@@ -54,4 +54,4 @@ returns-4 c =
 
 pub enter-spec : {M : Type 1} → statement M
 enter-spec =
-    tie.close (tie.spec returns returns-2 (λ c κs. let u = c .before .if1 .left in let v = c .if2 .left in (omega arith, omega (arith, c .before .before .before .before .before .pre .3), omega arith)) (λ c κs. let u = c .before .before .if1 .left in let v = c .before .if2 .left in (omega arith, omega (arith, c .before .before .before .before .before .before .pre .3))) put-name-requires (λ c. search needs) returns-3 put-name-requires-2 (λ c. search needs) returns-4 (λ c κs. let u = c .before .before .before .before .before .before .before .if1 .left in let v = c .before .before .before .before .before .before .if2 .left in (c .before .before .before .before .before .before .before .before .before .before .before .pre .0, c .before .before .before .before .before .before .before .before .before .before .before .pre .1, c .before .before .before .before .before .before .before .before .before .before .before .pre .2, c .before .before .before .before .before .before .before .before .before .before .before .pre .3, omega arith, omega arith, sym (c .before .before .before .before .before .at-cell .ensures) ∙ c .before .before .if6 .taken)) (λ c. search needs) (λ c. search needs) (λ c. c .before .before .before .before .enter-binary .ensures) (λ c κs. let u = c .before .before .before .before .before .before .before .if1 .left in let v = c .before .before .before .before .before .before .if2 .left in (c .before .before .before .before .before .before .before .before .before .before .before .pre .0, c .before .before .before .before .before .before .before .before .before .before .before .pre .1, c .before .before .before .before .before .before .before .before .before .before .before .pre .3, omega arith, omega arith, sym (c .before .before .before .before .before .at-cell .ensures) ∙ c .before .if7 .taken)) (λ c. search needs) (λ c. c .before .before .enter-link .ensures (c .before .before .before .before .before .before .before .before .before .before .before .before .before .before .args .tokens .now)) (λ c κs. (c .before .before .before .before .before .before .before .before .before .before .before .before .pre .0, c .before .before .before .before .before .before .before .before .before .before .before .before .pre .1, c .before .before .before .before .before .before .before .before .before .before .before .before .pre .2)) (λ c. search needs) (λ c. search needs) (λ c. c .before .before .before .before .enter-other .ensures))
+    tie.close (tie.spec returns returns-2 (λ c κs. let u = c .before .if1 .left in let v = c .if2 .left in (omega arith, omega (arith, c .before .before .before .before .before .pre .3), omega arith)) (λ c κs. let u = c .before .before .if1 .left in let v = c .before .if2 .left in (omega arith, omega (arith, c .before .before .before .before .before .before .pre .3))) put-name-requires (λ c. search needs) returns-3 put-name-requires-2 (λ c. search needs) returns-4 (λ c κs. let u = c .before .before .before .before .before .before .before .if1 .left in let v = c .before .before .before .before .before .before .if2 .left in (c .before .before .before .before .before .before .before .before .before .before .before .pre .0, c .before .before .before .before .before .before .before .before .before .before .before .pre .1, c .before .before .before .before .before .before .before .before .before .before .before .pre .2, c .before .before .before .before .before .before .before .before .before .before .before .pre .3, omega arith, omega arith, sym (c .before .before .before .before .before .at-cell .ensures) ∙ c .before .before .if6 .taken)) (λ c. search needs) (λ c. search needs) (λ c. c .before .before .before .before .enter-binary .ensures) (λ c κs. let u = c .before .before .before .before .before .before .before .if1 .left in let v = c .before .before .before .before .before .before .if2 .left in (c .before .before .before .before .before .before .before .before .before .before .before .pre .0, c .before .before .before .before .before .before .before .before .before .before .before .pre .1, c .before .before .before .before .before .before .before .before .before .before .before .pre .3, omega arith, omega arith, sym (c .before .before .before .before .before .at-cell .ensures) ∙ c .before .if7 .taken)) (λ c. search needs) (λ c. c .before .before .enter-link .ensures (c .before .before .before .before .before .before .before .before .before .before .before .before .before .before .args .tokens .now)) (λ c κs. let u = c .before .before .before .before .before .before .before .before .if1 .left in let v = c .before .before .before .before .before .before .before .if2 .left in (c .before .before .before .before .before .before .before .before .before .before .before .before .pre .0, c .before .before .before .before .before .before .before .before .before .before .before .before .pre .1, c .before .before .before .before .before .before .before .before .before .before .before .before .pre .2, omega arith, omega arith)) (λ c. search needs) (λ c. search needs) (λ c. c .before .before .before .before .enter-other .ensures))
