@@ -16,41 +16,17 @@ use borrow.Author.Needs.{needs}
 use Rattle.row_walk.proofs.enter.Statement.{statement}
 use Rattle.row_walk.proofs.enter.Tie as tie
 
-is-other-requires : tie.Need-is-other-requires
-is-other-requires c κs = search needs
-
-no-row-requires : tie.Need-no-row-requires
-no-row-requires c κs = search needs
-
-store-requires : tie.Need-store-requires
-store-requires c κs = search needs
-
-same-length : tie.Need-same-length
-same-length c = search needs
-
 returns : tie.Need-returns
 returns c =
     let a = c .before .before .before .before .before .before .before .before .before .args in
     let e : isExpression (treeAt (a .table .now) (a .count) (a .node)) ≡ false = not-true _ (sym (c .before .before .before .before .before .before .is-other .ensures) ∙ c .before .before .before .before .before .if1 .taken) in
     (sym none-packed ∙ ap packedOf (own-other (handedOf (a .hand)) _ e), c .before .before .store .ensures ∙ ap (λ (r : Row). rowStored (a .node) r (a .rows .now)) (c .before .before .before .no-row .ensures ∙ row-other (handedOf (a .hand)) _ e))
 
-decision-of-requires : tie.Need-decision-of-requires
-decision-of-requires c κs = search needs
-
-store-requires-2 : tie.Need-store-requires-2
-store-requires-2 c κs = search needs
-
-same-length-2 : tie.Need-same-length-2
-same-length-2 c = search needs
-
 returns-2 : tie.Need-returns-2
 returns-2 c =
     let a = c .before .before .before .before .before .before .before .before .before .before .before .args in
     let e : isExpression (treeAt (a .table .now) (a .count) (a .node)) ≡ true = not-false _ (sym (c .before .before .before .before .before .before .before .before .is-other .ensures) ∙ c .before .before .before .before .before .before .before .if1 .left) in
     (sym none-packed ∙ ap packedOf (own-outer (handedOf (a .hand)) _ e (sym (ap (λ (d : Decision). d .outer) (c .before .before .before .before .before .before .decision-of .ensures)) ∙ c .if2 .taken)), c .before .before .before .store2 .ensures ∙ ap (λ (r : Row). rowStored (a .node) r (a .rows .now)) (ap (λ (d : Decision). d .row) (c .before .before .before .before .before .before .decision-of .ensures) ∙ row-expression (handedOf (a .hand)) _ e))
-
-same-length-3 : tie.Need-same-length-3
-same-length-3 c = search needs
 
 returns-3 : tie.Need-returns-3
 returns-3 c =
@@ -61,16 +37,5 @@ returns-3 c =
 
 pub enter-spec : {M : Type 1} → statement M
 enter-spec =
-    tie.close
-    (tie.spec
-    is-other-requires
-    no-row-requires
-    store-requires
-    same-length
-    returns
-    decision-of-requires
-    store-requires-2
-    same-length-2
-    returns-2
-    same-length-3
-    returns-3)
+    tie.close (tie.spec (λ c κs. search needs) (λ c κs. search needs) (λ c κs. search needs) (λ c. search needs) returns
+    (λ c κs. search needs) (λ c κs. search needs) (λ c. search needs) returns-2 (λ c. search needs) returns-3)

@@ -12,32 +12,11 @@ use borrow.Author.Needs.{needs}
 use Rattle.row_walk.proofs.enter_alone.Statement.{statement}
 use Rattle.row_walk.proofs.enter_alone.Tie as tie
 
-is-other-requires : tie.Need-is-other-requires
-is-other-requires c κs = search needs
-
-no-row-requires : tie.Need-no-row-requires
-no-row-requires c κs = search needs
-
-store-requires : tie.Need-store-requires
-store-requires c κs = search needs
-
-same-length : tie.Need-same-length
-same-length c = search needs
-
 returns : tie.Need-returns
 returns c =
     let a = c .before .before .before .before .before .before .before .before .before .args in
     let e : isExpression (treeAt (a .table .now) (a .count) (a .node)) ≡ false = not-true _ (sym (c .before .before .before .before .before .before .is-other .ensures) ∙ c .before .before .before .before .before .if1 .taken) in
     c .before .before .store .ensures ∙ ap (λ (r : Row). rowStored (a .node) r (a .rows .now)) (c .before .before .before .no-row .ensures ∙ row-other (alone _) _ e)
-
-lone-row-requires : tie.Need-lone-row-requires
-lone-row-requires c κs = search needs
-
-store-requires-2 : tie.Need-store-requires-2
-store-requires-2 c κs = search needs
-
-same-length-2 : tie.Need-same-length-2
-same-length-2 c = search needs
 
 returns-2 : tie.Need-returns-2
 returns-2 c =
@@ -47,14 +26,5 @@ returns-2 c =
 
 pub enter-alone-spec : {M : Type 1} → statement M
 enter-alone-spec =
-    tie.close
-    (tie.spec
-    is-other-requires
-    no-row-requires
-    store-requires
-    same-length
-    returns
-    lone-row-requires
-    store-requires-2
-    same-length-2
-    returns-2)
+    tie.close (tie.spec (λ c κs. search needs) (λ c κs. search needs) (λ c κs. search needs) (λ c. search needs) returns
+    (λ c κs. search needs) (λ c κs. search needs) (λ c. search needs) returns-2)
