@@ -12,3 +12,4 @@ pub mod Codes
 pub mod Whole
 pub mod Numbers
 pub mod Function
+pub mod TypeTurns

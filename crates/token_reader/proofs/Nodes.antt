@@ -11,6 +11,7 @@ use Rattle.tree.specs.Trees.{Label, Tree, none, node, labelAt, operandOf, treeA
 use Rattle.tree.proofs.Unfold.{operand-in, operand-zero, tree-zero, unfolds}
 use Rattle.token_plain.specs.Trees.{labelWith}
 use Rattle.token_reader.specs.Pieces.{Kept, Placed, Stored, Grew}
+use Rattle.token_reader.specs.Waiting.{Laid}
 
 -- ---- a node is stored
 
@@ -40,14 +41,14 @@ module _ (own : List ℕ) (n form detail first second symbol : ℕ) (h : n + nod
   length-put : length six ≡ length own
   length-put = simp length-set
 
-  put-other : (j : ℕ) → n + nodeCells ≤ j → getD six j 0 ≡ getD own j 0
+  put-other : (j : ℕ) → (n ≤ j → n + nodeCells ≤ j) → getD six j 0 ≡ getD own j 0
   put-other j k =
-      getD-set-other five (n + symbolColumn) j symbol 0 (λ e. omega arith)
-      ∙ getD-set-other four (n + 4) j second 0 (λ e. omega arith)
-      ∙ getD-set-other three (n + 3) j first 0 (λ e. omega arith)
-      ∙ getD-set-other two (n + 2) j detail 0 (λ e. omega arith)
-      ∙ getD-set-other one (n + 1) j 0 0 (λ e. omega arith)
-      ∙ getD-set-other own n j form 0 (λ e. omega arith)
+      getD-set-other five (n + symbolColumn) j symbol 0 (λ e. let q = k (omega arith) in omega arith)
+      ∙ getD-set-other four (n + 4) j second 0 (λ e. let q = k (omega arith) in omega arith)
+      ∙ getD-set-other three (n + 3) j first 0 (λ e. let q = k (omega arith) in omega arith)
+      ∙ getD-set-other two (n + 2) j detail 0 (λ e. let q = k (omega arith) in omega arith)
+      ∙ getD-set-other one (n + 1) j 0 0 (λ e. let q = k (omega arith) in omega arith)
+      ∙ getD-set-other own n j form 0 (λ e. let q = k (omega arith) in omega arith)
 
   put-5 : getD six (n + symbolColumn) 0 ≡ symbol
   put-5 = getD-set-same five (n + symbolColumn) symbol 0 (simp length-set (omega arith))
@@ -95,7 +96,8 @@ unfolding cellAt labelAt
 stored-at own m form detail first second symbol l =
     record {
       fewer = omega arith;
-      kept = λ j g. put-other own (nodeCells * m) form detail first second symbol l j (omega arith);
+      kept = λ j g. put-other own (nodeCells * m) form detail first second symbol l j (λ z. omega arith);
+      below = λ j g. put-other own (nodeCells * m) form detail first second symbol l j (λ z. absurd (omega arith));
       same = length-put own (nodeCells * m) form detail first second symbol l;
       labelled =
           label-put own (nodeCells * m) form detail first second symbol l _ _ _ _ (put-0 own (nodeCells * m) form detail first second symbol l) (put-1 own (nodeCells * m) form detail first second symbol l) (put-2 own (nodeCells * m) form detail first second symbol l) (put-5 own (nodeCells * m) form detail first second symbol l);
@@ -110,6 +112,37 @@ stored own (suc m) form detail first second symbol h k =
     subst (λ n. Stored own (put own (nodeCells * n) form detail first second symbol) (suc m) n form detail first second symbol)
     (let e : m ≡ suc m - 1 = omega arith in e)
     (stored-at own m form detail first second symbol (omega arith))
+
+-- ---- what waits in the first free nodes
+
+module _ (own : List ℕ) (depth what one two : ℕ) (h : nodeCells * depth + nodeCells ≤ length own) where
+  abbrev laid₁ : List ℕ
+  laid₁ = set own (nodeCells * depth) what
+
+  abbrev laid₂ : List ℕ
+  laid₂ = set laid₁ (nodeCells * depth + 1) one
+
+  laid-other : (j : ℕ) → (nodeCells * depth ≤ j → nodeCells * depth + nodeCells ≤ j) → getD (set laid₂ (nodeCells * depth + 2) two) j 0 ≡ getD own j 0
+  laid-other j k =
+      getD-set-other laid₂ (nodeCells * depth + 2) j two 0 (λ e. let q = k (omega arith) in omega arith)
+      ∙ getD-set-other laid₁ (nodeCells * depth + 1) j one 0 (λ e. let q = k (omega arith) in omega arith)
+      ∙ getD-set-other own (nodeCells * depth) j what 0 (λ e. let q = k (omega arith) in omega arith)
+
+  pub laid : Laid own (set laid₂ (nodeCells * depth + 2) two) depth what one two
+  laid =
+      record {
+        same = simp length-set;
+        before = λ j q. laid-other j (λ z. absurd (omega arith));
+        behind = λ j q. laid-other j (λ z. q);
+        what-is =
+            getD-set-other laid₂ (nodeCells * depth + 2) (nodeCells * depth) two 0 (λ e. omega arith)
+            ∙ getD-set-other laid₁ (nodeCells * depth + 1) (nodeCells * depth) one 0 (λ e. omega arith)
+            ∙ getD-set-same own (nodeCells * depth) what 0 (omega arith);
+        one-is =
+            getD-set-other laid₂ (nodeCells * depth + 2) (nodeCells * depth + 1) two 0 (λ e. omega arith)
+            ∙ getD-set-same laid₁ (nodeCells * depth + 1) one 0 (simp length-set (omega arith));
+        two-is = getD-set-same laid₂ (nodeCells * depth + 2) two 0 (simp length-set (omega arith));
+      }
 
 -- ---- what is placed stays
 

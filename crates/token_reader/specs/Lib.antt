@@ -2,3 +2,4 @@ pub mod Reading
 pub mod Tables
 pub mod Pieces
 pub mod Mirrored
+pub mod Waiting

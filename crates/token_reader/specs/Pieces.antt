@@ -40,6 +40,7 @@ Placed own low i (node l a b) = (low < i) × (i ≤ mostTokens) × (labelAt own 
 pub record Stored (own now : List ℕ) (free left form detail first second symbol : ℕ) : Type 0 where
   pub fewer : left + 1 ≡ free
   pub kept : Kept own now free
+  pub below : (j : ℕ) → j < nodeCells * left → getD now j 0 ≡ getD own j 0
   pub same : length now ≡ length own
   pub labelled : labelAt now free ≡ labelWith form detail symbol
   pub to-first : firstAt now free ≡ first

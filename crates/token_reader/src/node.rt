@@ -2,11 +2,23 @@
 use crate::token::symbol_at;
 use tree::offsets;
 use tree::sizes;
-ghost use Prim.Native.Nat.{_*_, _≤_};
+ghost use Prim.Native.Nat.{_+_, _*_, _≤_};
 ghost use lib.ListN.{length};
 ghost use Rattle.tree.specs.Sizes.{nodeCells};
 ghost use Rattle.token_grammar.specs.Codes.{tokenSymbolAt};
 ghost use Rattle.token_reader.specs.Pieces.{Stored};
+ghost use Rattle.token_reader.specs.Waiting.{Laid};
+
+// What waits behind `depth` others, in the first cells of a free node.
+pub(crate) fn lay(own: &mut [u16], depth: usize, what: u16, one: u16, two: u16)
+    requires { ⌜ nodeCells * depth + nodeCells ≤ length (now own) ⌝ }
+    ensures { λ _. ⌜ Laid (now (own .entry)) (now (own .exit)) depth what one two ⌝ }
+{
+    let at = sizes::NODE_CELLS * depth;
+    own[at] = what;
+    own[at + 1] = one;
+    own[at + 2] = two;
+}
 
 // Takes the last free node, and says how many are then left. No node has attributes.
 pub(crate) fn store(

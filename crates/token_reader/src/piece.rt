@@ -13,6 +13,18 @@ pub struct Piece {
     pub named: bool,
 }
 
+// Where the reader of types stands.
+pub struct Typing {
+    // A place, as a piece has it.
+    pub at: usize,
+    // How many wait.
+    pub depth: usize,
+    // What is done next.
+    pub mode: u16,
+    pub free: u16,
+    pub named: bool,
+}
+
 // An expression, likewise.
 pub struct Parsed {
     pub at: usize,

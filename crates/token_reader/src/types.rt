@@ -1,26 +1,218 @@
-// Types and their lists.
+// Types and their lists, turn by turn. What waits for a type lies in the reader's own table, in the first of its nodes that
+// are free: there are more of them than types that wait, since each of these has read a token of its own.
+use crate::node::lay;
 use crate::node::store;
 use crate::node::store_named;
 use crate::piece::Piece;
-use crate::piece::no_piece;
+use crate::piece::Typing;
 use crate::token::code_at;
 use crate::token::past_comma;
+use crate::token::symbol_at;
 use token_grammar::codes;
 use tree::forms;
 use tree::sizes;
-ghost use Prim.Native.Nat.{_<_};
-ghost use Rattle.token_reader.specs.Pieces.{many, Ready, SignAt, TypeAt, PointingAt, PathAt, TypesAt};
+ghost use mathlib.Core.Path.{_≡_};
+ghost use Prim.Native.Nat.{_+_, _*_, _-_, _≤_, _<_};
+ghost use lib.ListN.{length};
+ghost use Rattle.tree.specs.Sizes.{nodeCells};
+ghost use Rattle.token_grammar.specs.Tokens.{Name, code};
+ghost use Rattle.token_grammar.specs.Codes.{codeAt};
+ghost use Rattle.token_reader.specs.Pieces.{many, Ready, TypeAt, SignAt};
+ghost use Rattle.token_reader.specs.Waiting.{whatAt, Stays, Laid, pieceOf, Turnable, waitsFor, Wanted, Took, Listed, Turned};
+ghost use Rattle.token_reader.specs.Waiting as waiting;
 
-// A type of one token: Infer or Never.
-fn sign(tokens: &[u16], own: &mut [u16], at: usize, free: u16, form: u16) -> Piece
-    requires { ⌜ Ready (now tokens) (now own) at free × (at < many (now tokens)) ⌝ }
-    ensures { λ r. ⌜ SignAt (now (tokens .entry)) (now (own .entry)) (now (own .exit)) at free form r ⌝ }
+// What is done next: a type that starts here is read,
+const WANTED: u16 = 0;
+
+// what waits takes the type that was read,
+const READ: u16 = 1;
+
+// or the list, with the sign that closes it.
+const LISTED: u16 = 2;
+
+// Nothing is.
+const ENDED: u16 = 3;
+
+// What waits: a Ptr or a Reference, with its form and detail;
+const POINTER: u16 = 0;
+
+// a path for its list, with its symbol;
+const PATH: u16 = 1;
+
+// an item for those behind it, with its number.
+const ITEM: u16 = 2;
+
+// A type was read up to `at`.
+fn came(s: Typing, at: usize, free: u16, named: bool) -> Typing
+    ensures { λ r. ⌜ r ≡ record { at = at; depth = s .depth; mode = waiting.READ; free = free; named = named } ⌝ }
 {
-    Piece {
-        at: at + 1,
-        free: store(own, free, form, 0, 0, 0, 0),
+    Typing {
+        at: at,
+        depth: s.depth,
+        mode: READ,
+        free: free,
+        named: named,
+    }
+}
+
+// No type stands there.
+fn failed(tokens: &[u16]) -> Typing
+    ensures { λ r. ⌜ (r .at ≡ many (now (tokens .entry)) + 1) × (r .depth ≡ 0) × (r .mode ≡ waiting.ENDED) ⌝ }
+{
+    Typing {
+        at: tokens.len() / sizes::TOKEN_CELLS + 1,
+        depth: 0,
+        mode: ENDED,
+        free: 0,
         named: false,
     }
+}
+
+// A type that starts at `at` is wanted by what waits from now on.
+fn wait(own: &mut [u16], s: Typing, what: u16, one: u16, two: u16, at: usize) -> Typing
+    requires { ⌜ nodeCells * s .depth + nodeCells ≤ length (now own) ⌝ }
+    ensures { λ r. ⌜ Laid (now (own .entry)) (now (own .exit)) (s .depth) what one two × (r ≡ waitsFor s at) ⌝ }
+{
+    lay(own, s.depth, what, one, two);
+    Typing {
+        at: at,
+        depth: s.depth + 1,
+        mode: WANTED,
+        free: s.free,
+        named: false,
+    }
+}
+
+// A type of one token: Infer or Never.
+fn sign(tokens: &[u16], own: &mut [u16], s: Typing, form: u16) -> Typing
+    requires { ⌜ Turnable (now tokens) (now own) s × (s .at < many (now tokens)) ⌝ }
+    ensures { λ r. ⌜ SignAt (now (tokens .entry)) (now (own .entry)) (now (own .exit)) (s .at) (s .free) form (pieceOf r) × Stays (now (own .entry)) (now (own .exit)) (s .depth) × (r .at ≡ s .at + 1) × (r .depth ≡ s .depth) × (r .mode ≡ waiting.READ) ⌝ }
+{
+    let free = store(own, s.free, form, 0, 0, 0, 0);
+    came(s, s.at + 1, free, false)
+}
+
+// A path, whose name stands here.
+fn path(tokens: &[u16], own: &mut [u16], s: Typing) -> Typing
+    requires { ⌜ Turnable (now tokens) (now own) s × (codeAt (now tokens) (s .at) ≡ code (Name 0)) ⌝ }
+    ensures { λ r. ⌜ Wanted (now (tokens .entry)) (now (own .entry)) (now (own .exit)) s r ⌝ }
+{
+    if code_at(tokens, s.at + 1) != codes::LT {
+        let free = store_named(tokens, s.at, own, s.free, forms::TYPE_PATH, 1, 0, 0);
+        return came(s, s.at + 1, free, true);
+    }
+    if code_at(tokens, s.at + 2) == codes::GT {
+        let free = store_named(tokens, s.at, own, s.free, forms::TYPE_PATH, 2, 0, 0);
+        return came(s, s.at + 3, free, false);
+    }
+    let symbol = symbol_at(tokens, s.at);
+    wait(own, s, PATH, symbol, 0, s.at + 2)
+}
+
+// The type that starts here, or one that waits for what is behind its first tokens.
+fn want(tokens: &[u16], own: &mut [u16], s: Typing) -> Typing
+    requires { ⌜ Turnable (now tokens) (now own) s ⌝ }
+    ensures { λ r. ⌜ Wanted (now (tokens .entry)) (now (own .entry)) (now (own .exit)) s r ⌝ }
+{
+    let next = s.at + 1;
+    match code_at(tokens, s.at) {
+        codes::BIT_AND => wait(own, s, POINTER, forms::TYPE_REFERENCE, 0, next),
+        codes::BANG => sign(tokens, own, s, forms::TYPE_NEVER),
+        codes::AND_MUT => wait(own, s, POINTER, forms::TYPE_REFERENCE, 1, next),
+        codes::NAME => path(tokens, own, s),
+        codes::STAR_CONST => wait(own, s, POINTER, forms::TYPE_PTR, 0, next),
+        codes::STAR_MUT => wait(own, s, POINTER, forms::TYPE_PTR, 1, next),
+        codes::UNDERSCORE => sign(tokens, own, s, forms::TYPE_INFER),
+        _ => failed(tokens),
+    }
+}
+
+// One that waited is done: it is the node that was stored.
+fn pop(s: Typing, mode: u16, free: u16, named: bool) -> Typing
+    requires { ⌜ 1 ≤ s .depth ⌝ }
+    ensures { λ r. ⌜ r ≡ record { at = s .at; depth = s .depth - 1; mode = mode; free = free; named = named } ⌝ }
+{
+    Typing {
+        at: s.at,
+        depth: s.depth - 1,
+        mode: mode,
+        free: free,
+        named: named,
+    }
+}
+
+// Behind an item of a list: the sign that closes it, or another item.
+fn after_item(tokens: &[u16], own: &mut [u16], s: Typing) -> Typing
+    requires { ⌜ Turnable (now tokens) (now own) s × (1 ≤ s .depth) × (whatAt (now own) (s .depth - 1) ≡ waiting.POINTER → ⊥) ⌝ }
+    ensures { λ r. ⌜ Took (now (tokens .entry)) (now (own .entry)) (now (own .exit)) s r ⌝ }
+{
+    let end = past_comma(tokens, s.at, codes::GT);
+    let sign = code_at(tokens, end);
+    if sign == codes::GT {
+        return Typing {
+            at: end + 1,
+            depth: s.depth,
+            mode: LISTED,
+            free: store(own, s.free, forms::LINK, 0, s.free + 1, 0, 0),
+            named: false,
+        };
+    }
+    if sign == codes::COMMA {
+        return wait(own, s, ITEM, s.free + 1, 0, s.at + 1);
+    }
+    failed(tokens)
+}
+
+// The type that was read is taken by what waits for it.
+fn take(tokens: &[u16], own: &mut [u16], s: Typing) -> Typing
+    requires { ⌜ Turnable (now tokens) (now own) s ⌝ }
+    ensures { λ r. ⌜ Took (now (tokens .entry)) (now (own .entry)) (now (own .exit)) s r ⌝ }
+{
+    if s.depth == 0 {
+        return Typing {
+            at: s.at,
+            depth: 0,
+            mode: ENDED,
+            free: s.free,
+            named: s.named,
+        };
+    }
+    let top = sizes::NODE_CELLS * (s.depth - 1);
+    if own[top] != POINTER {
+        return after_item(tokens, own, s);
+    }
+    let form = own[top + 1];
+    let detail = own[top + 2];
+    let free = store(own, s.free, form, detail, s.free + 1, 0, 0);
+    pop(s, READ, free, s.named)
+}
+
+// The list that was read is taken by the item before it, or by the path.
+fn close(tokens: &[u16], own: &mut [u16], s: Typing) -> Typing
+    requires { ⌜ Turnable (now tokens) (now own) s × (1 ≤ s .depth) ⌝ }
+    ensures { λ r. ⌜ Listed (now (tokens .entry)) (now (own .entry)) (now (own .exit)) s r ⌝ }
+{
+    let top = sizes::NODE_CELLS * (s.depth - 1);
+    let one = own[top + 1];
+    if own[top] == ITEM {
+        let free = store(own, s.free, forms::LINK, 0, one, s.free + 1, 0);
+        return pop(s, LISTED, free, false);
+    }
+    let free = store(own, s.free, forms::TYPE_PATH, 2, 0, s.free + 1, one);
+    pop(s, READ, free, false)
+}
+
+fn turn(tokens: &[u16], own: &mut [u16], s: Typing) -> Typing
+    requires { ⌜ Turnable (now tokens) (now own) s ⌝ }
+    ensures { λ r. ⌜ Turned (now (tokens .entry)) (now (own .entry)) (now (own .exit)) s r ⌝ }
+{
+    if s.mode == WANTED {
+        return want(tokens, own, s);
+    }
+    if s.mode == READ {
+        return take(tokens, own, s);
+    }
+    close(tokens, own, s)
 }
 
 // The type that starts at `at`.
@@ -28,107 +220,19 @@ pub(crate) fn ty(tokens: &[u16], own: &mut [u16], at: usize, free: u16) -> Piece
     requires { ⌜ Ready (now tokens) (now own) at free ⌝ }
     ensures { λ r. ⌜ TypeAt (now (tokens .entry)) (now (own .entry)) (now (own .exit)) at free r ⌝ }
 {
-    match code_at(tokens, at) {
-        codes::BIT_AND => pointing(tokens, own, at, free, forms::TYPE_REFERENCE, 0),
-        codes::BANG => sign(tokens, own, at, free, forms::TYPE_NEVER),
-        codes::AND_MUT => pointing(tokens, own, at, free, forms::TYPE_REFERENCE, 1),
-        codes::NAME => path(tokens, own, at, free),
-        codes::STAR_CONST => pointing(tokens, own, at, free, forms::TYPE_PTR, 0),
-        codes::STAR_MUT => pointing(tokens, own, at, free, forms::TYPE_PTR, 1),
-        codes::UNDERSCORE => sign(tokens, own, at, free, forms::TYPE_INFER),
-        _ => no_piece(tokens),
-    }
-}
-
-// A type behind a token: Ptr or Reference.
-fn pointing(tokens: &[u16], own: &mut [u16], at: usize, free: u16, form: u16, detail: u16) -> Piece
-    requires { ⌜ Ready (now tokens) (now own) at free × (at < many (now tokens)) ⌝ }
-    ensures { λ r. ⌜ PointingAt (now (tokens .entry)) (now (own .entry)) (now (own .exit)) at free form detail r ⌝ }
-{
-    let inner = ty(tokens, own, at + 1, free);
-    if inner.at > tokens.len() / sizes::TOKEN_CELLS {
-        return inner;
-    }
-    Piece {
-        at: inner.at,
-        free: store(own, inner.free, form, detail, inner.free + 1, 0, 0),
-        named: inner.named,
-    }
-}
-
-// A path, whose name stands at `at`.
-fn path(tokens: &[u16], own: &mut [u16], at: usize, free: u16) -> Piece
-    requires { ⌜ Ready (now tokens) (now own) at free × (at < many (now tokens)) ⌝ }
-    ensures { λ r. ⌜ PathAt (now (tokens .entry)) (now (own .entry)) (now (own .exit)) at free r ⌝ }
-{
-    if code_at(tokens, at + 1) != codes::LT {
-        return Piece {
-            at: at + 1,
-            free: store_named(tokens, at, own, free, forms::TYPE_PATH, 1, 0, 0),
-            named: true,
-        };
-    }
-    if code_at(tokens, at + 2) == codes::GT {
-        return Piece {
-            at: at + 3,
-            free: store_named(tokens, at, own, free, forms::TYPE_PATH, 2, 0, 0),
-            named: false,
-        };
-    }
-    let list = types(tokens, own, at + 2, free);
-    if list.at > tokens.len() / sizes::TOKEN_CELLS {
-        return list;
-    }
-    Piece {
-        at: list.at,
-        free: store_named(
-            tokens,
-            at,
-            own,
-            list.free,
-            forms::TYPE_PATH,
-            2,
-            0,
-            list.free + 1,
-        ),
+    let mut s = Typing {
+        at: at,
+        depth: 0,
+        mode: WANTED,
+        free: free,
         named: false,
-    }
-}
-
-// A list of types that is not empty, with the sign that closes it.
-fn types(tokens: &[u16], own: &mut [u16], at: usize, free: u16) -> Piece
-    requires { ⌜ Ready (now tokens) (now own) at free ⌝ }
-    ensures { λ r. ⌜ TypesAt (now (tokens .entry)) (now (own .entry)) (now (own .exit)) at free r ⌝ }
-{
-    let first = ty(tokens, own, at, free);
-    // A type that isn't there ends past the end, where no sign stands.
-    let end = past_comma(tokens, first.at, codes::GT);
-    let sign = code_at(tokens, end);
-    if sign == codes::GT {
-        return Piece {
-            at: end + 1,
-            free: store(own, first.free, forms::LINK, 0, first.free + 1, 0, 0),
-            named: false,
-        };
-    }
-    if sign != codes::COMMA {
-        return no_piece(tokens);
-    }
-    let more = types(tokens, own, first.at + 1, first.free);
-    if more.at > tokens.len() / sizes::TOKEN_CELLS {
-        return more;
+    };
+    while s.mode != ENDED {
+        s = turn(tokens, own, s);
     }
     Piece {
-        at: more.at,
-        free: store(
-            own,
-            more.free,
-            forms::LINK,
-            0,
-            first.free + 1,
-            more.free + 1,
-            0,
-        ),
-        named: false,
+        at: s.at,
+        free: s.free,
+        named: s.named,
     }
 }

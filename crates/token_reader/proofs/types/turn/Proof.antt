@@ -1,0 +1,21 @@
+-- `token_reader::types::turn` meets its contract. Assumes nothing.
+use borrow.Author.Needs.{needs}
+use Rattle.token_reader.specs.Waiting.{wanting, taking, listing}
+use Rattle.token_reader.proofs.types.turn.Statement.{statement}
+use Rattle.token_reader.proofs.types.turn.Tie as tie
+
+returns : tie.Need-returns
+returns c = wanting (c .before .before .before .before .if1 .taken) (c .before .before .want .ensures)
+
+returns-2 : tie.Need-returns-2
+returns-2 c = taking (c .before .before .before .before .if2 .taken) (c .before .before .take .ensures)
+
+close-requires : tie.Need-close-requires
+close-requires c κs = let s = c .before .before .before .before .before .before .before in (s .pre, s .pre .listed (c .before .before .before .if1 .left) (c .before .if2 .left))
+
+returns-3 : tie.Need-returns-3
+returns-3 c = listing (c .before .before .before .before .before .before .if1 .left) (c .before .before .before .before .if2 .left) (c .before .before .close .ensures)
+
+pub turn-spec : {M : Type 1} → statement M
+turn-spec =
+    tie.close (tie.spec (λ c κs. search needs) (λ c. search needs) returns (λ c κs. search needs) (λ c. search needs) returns-2 close-requires (λ c. search needs) returns-3)
