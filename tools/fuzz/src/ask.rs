@@ -1,6 +1,7 @@
 //! Every export, asked by an input: the reply and every lent cell, beside the second statement.
 
 use crate::arena::{Arena, Cell};
+use crate::crate_rows;
 use crate::input::Input;
 use crate::watch::Watch;
 use model::chart::Chart;
@@ -85,13 +86,14 @@ fn refused(refusal: u16) -> u32 {
     REFUSAL_UNIT * u32::from(refusal)
 }
 
-/// The rows of an accepted table in the callee order with a number.
+/// The rows of an accepted table in the callee order with a number: the crate's own, or the
+/// library's where its files are not at hand.
 fn rows(table: &NodeTable, order: u16) -> Vec<u16> {
     let mut rows = vec![0; ROW_CELLS * usize::from(table.count)];
     let NodeTable { context, count, cells } = table;
     let reply = decide_by_order(order, *context, *count, cells, &mut rows);
     assert_eq!(reply, 0, "{table:?}");
-    rows
+    crate_rows::of(table, order).unwrap_or(rows)
 }
 
 /// Which nodes of an accepted table have an outer pair, by its rows.
@@ -272,14 +274,12 @@ impl Asker {
             0 => (0, rows(&table, order)),
             refusal => (refusal, Vec::new()),
         };
-        let is_crates = rows.is_empty() || crate::crate_rows::are(&table, order, &rows);
         let cells = &table.cells;
-        let told = self.twice(refusal, refusal.into(), |[from, to, ..], watch| {
+        self.twice(refusal, refusal.into(), |[from, to, ..], watch| {
             let (held, lent) = (from.hold(cells), to.lend(room));
             let reply = watch.time(|| by(held, lent));
             (reply.into(), from.holds(cells.len(), cells) & to.holds(room, &rows))
-        });
-        Told { is_same: told.is_same && is_crates, ..told }
+        })
     }
 
     fn write(&mut self, input: &Input) -> Told {
@@ -454,7 +454,7 @@ impl Asker {
         })
     }
 
-    /// The answers over one operator of each class at each entry, by the library's rows; where
+    /// The answers over one operator of each class at each entry, by the rows; where
     /// these are too many the library's own, none if one of them is no answer.
     fn answers(&mut self, asked: &open::Asked, sheet: edits::Sheet) -> Option<Vec<u16>> {
         let choices = choices_of_classes(&asked.entries());

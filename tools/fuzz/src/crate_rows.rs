@@ -1,26 +1,18 @@
-//! Rows beside those that the crate's own files give, with the feature `crate_rows`.
+//! Rows as the crate's own files give them, with the feature `crate_rows`.
 
 use model::NodeTable;
 
-/// Whether the rows of an accepted table are the crate's in the callee order with a number.
+/// The crate's rows of an accepted table in the callee order with a number.
 #[cfg(feature = "crate_rows")]
-pub fn are(table: &NodeTable, order: u16, rows: &[u16]) -> bool {
+pub fn of(table: &NodeTable, order: u16) -> Option<Vec<u16>> {
     use model::sizes::NODE_CELLS;
-    use oracle::direct::context_of_root;
-    // The crate's own scans take twice as long for each level.
-    const MOST: u16 = 24;
-    if table.count > MOST {
-        return true;
-    }
-    let cells = &table.cells[..NODE_CELLS * usize::from(table.count)];
-    let built = oracle::BuiltTree::new(table.count, cells);
+    let cells = table.cells[..NODE_CELLS * usize::from(table.count)].to_vec();
     let order = model::CalleeOrder::numbered(order);
-    let theirs = built.rows(order, &[context_of_root(table.context)]).remove(0);
-    theirs.iter().flat_map(|row| row.cells()).eq(rows.iter().copied())
+    Some(oracle::rows_of(&NodeTable { cells, ..*table }, order))
 }
 
 /// They are not at hand.
 #[cfg(not(feature = "crate_rows"))]
-pub fn are(_: &NodeTable, _: u16, _: &[u16]) -> bool {
-    true
+pub fn of(_: &NodeTable, _: u16) -> Option<Vec<u16>> {
+    None
 }
