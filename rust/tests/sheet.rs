@@ -718,6 +718,96 @@ fn edits() {
     assert_eq!(lines, "offset\nstation\nstart\ndepth\n2\n1\nusize\n");
 }
 
+/// A names file keeps all its lines, however long it is, or the edit is refused.
+#[test]
+fn long_names() {
+    let names = Scratch::new("long");
+    let file = tree_of("offset - station");
+    let lines = |count: usize| (1..=count).map(|n| format!("{n:_>19}\n")).collect::<String>();
+    let read = || std::fs::read_to_string(&names.0).expect("names");
+    let edit = |text: &str, status: i32| {
+        let output = sheet(&["edit", "--names", names.name(), "-", "3", text], &file);
+        assert_eq!(output.status.code(), Some(status));
+        String::from_utf8_lossy(&output.stderr).to_string()
+    };
+    let name = |n: usize| format!("{n:_>19}");
+    // More than 1 MiB: a new name stands behind all others.
+    std::fs::write(&names.0, lines(60_000)).expect("a file");
+    edit(&format!("{} - depth", name(59_999)), 0);
+    assert_eq!(read(), lines(60_000) + "depth\n");
+    // More lines than there are symbols: names that are there are known, new ones are refused.
+    std::fs::write(&names.0, lines(70_000)).expect("a file");
+    edit(&format!("{} - {}", name(1), name(65_535)), 0);
+    let told = edit("depth", 1);
+    assert!(told.contains("symbol"), "{told}");
+    assert_eq!(read(), lines(70_000));
+    // More than 16 MiB.
+    let long = "depth".repeat(4 << 20);
+    std::fs::write(&names.0, &long).expect("a file");
+    for command in ["edit", "preview"] {
+        let words = [command, "--names", names.name(), "-", "3", "depth"];
+        let told = format!("sheet: {}: is longer than 16777216 bytes\n", names.name());
+        assert_eq!(printed(&words, &file, 1), told);
+    }
+    assert_eq!(read(), long);
+    // What is no text is told at its place.
+    let bytes = b"offset\nstati\xFFn\n";
+    std::fs::write(&names.0, bytes).expect("a file");
+    let told = format!("sheet: {}: is not UTF-8 at byte 12\n", names.name());
+    for words in [
+        &["edit", "--names", names.name(), "-", "3", "depth"][..],
+        &["preview", "--names", names.name(), "-", "3", "depth"],
+        &["show", "--names", names.name(), "-"],
+        &["why", "--names", names.name(), "-"],
+        &["page", "--names", names.name(), "-"],
+    ] {
+        assert_eq!(printed(words, &file, 1), told, "{words:?}");
+    }
+    assert_eq!(std::fs::read(&names.0).expect("names"), bytes);
+}
+
+/// A names file is replaced by a new one with its permissions; a link or a pipe is not.
+#[cfg(unix)]
+#[test]
+fn replaced_names() {
+    use std::os::unix::fs::{symlink, FileTypeExt, PermissionsExt};
+    let [names, link, pipe] = ["replaced", "link", "pipe"].map(Scratch::new);
+    let part = Scratch(format!("{}.part", names.name()).into());
+    let file = sheet(&["read", "--names", names.name(), "offset - station"], b"").stdout;
+    let read = || std::fs::read_to_string(&names.0).expect("names");
+    let edit = |names: &Scratch, text: &str| {
+        sheet(&["edit", "--names", names.name(), "-", "3", text], &file)
+    };
+    std::fs::set_permissions(&names.0, PermissionsExt::from_mode(0o660)).expect("a file");
+    assert_eq!(edit(&names, "start").status.code(), Some(0));
+    assert_eq!(read(), "offset\nstation\nstart\n");
+    let mode = std::fs::metadata(&names.0).expect("names").permissions().mode();
+    assert_eq!(mode & 0o777, 0o660);
+    assert!(!part.0.exists());
+    // Where the new one cannot be made all is as it was, and nothing is printed.
+    std::fs::write(&part.0, b"kept").expect("a file");
+    let output = edit(&names, "depth");
+    assert_eq!((output.status.code(), &output.stdout[..]), (Some(2), &b""[..]));
+    let told = format!("sheet: {0}: {0}.part is there, and must go first\n", names.name());
+    assert_eq!(String::from_utf8_lossy(&output.stderr), told);
+    assert_eq!(read(), "offset\nstation\nstart\n");
+    assert_eq!(std::fs::read(&part.0).expect("a file"), b"kept");
+    // What a link leads to has the lines, and the link stays; so does a pipe.
+    symlink(&names.0, &link.0).expect("a link");
+    assert_eq!(edit(&link, "grade").status.code(), Some(0));
+    assert_eq!(read(), "offset\nstation\nstart\ngrade\n");
+    assert!(std::fs::symlink_metadata(&link.0).expect("a link").is_symlink());
+    let made = Command::new("mkfifo").arg(&pipe.0).status().expect("mkfifo runs");
+    assert!(made.success());
+    let place = pipe.0.clone();
+    let reader = std::thread::spawn(move || std::fs::read_to_string(place).expect("lines"));
+    let output = sheet(&["read", "--names", pipe.name(), "offset - station"], b"");
+    assert_eq!(output.status.code(), Some(0));
+    let kind = std::fs::symlink_metadata(&pipe.0).expect("a pipe").file_type();
+    assert!(kind.is_fifo());
+    assert_eq!(reader.join().expect("lines"), "offset\nstation\n");
+}
+
 /// Edits one after the other; a sheet keeps its context.
 #[test]
 fn edits_in_turn() {

@@ -17,6 +17,9 @@ const FILE_BYTES: u64 = MOST_FILE_BYTES as u64 + 1;
 /// An expression as text may have so many bytes.
 const TEXT_BYTES: u64 = 1 << 20;
 
+/// A names file may have so many bytes: 256 for each of the 65,535 symbols.
+const NAMES_BYTES: u64 = 1 << 24;
+
 /// Runs a command. An answer in `Err` is a refusal or wrong usage.
 pub fn run(arguments: &[OsString]) -> Result<Answer, Answer> {
     let Some((command, rest)) = arguments.split_first() else {
@@ -123,9 +126,15 @@ pub fn expression(context: u16, text: &str, symbols: &mut Symbols) -> Result<Tre
     })
 }
 
-/// Writes a names file.
+/// Writes a names file; one that is there stays until the new one is whole. What is no file by
+/// itself, as a link, a pipe or a device, must not be replaced, and is written to.
 pub fn write_names(file: &OsStr, symbols: &Symbols) -> Result<(), Answer> {
-    std::fs::write(file, symbols.lines()).map_err(|error| unreadable(file, &error))
+    let lines = symbols.lines();
+    let written = match std::fs::symlink_metadata(file) {
+        Ok(other) if !other.is_file() => std::fs::write(file, lines),
+        _ => pack::put(file, lines.as_bytes(), true),
+    };
+    written.map_err(|error| unreadable(file, &error))
 }
 
 /// The text, and if that is asked how many pairs were added.
@@ -254,13 +263,16 @@ fn text_from(from: impl Read) -> Result<String, Answer> {
 }
 
 pub fn utf8(bytes: &[u8]) -> Result<String, Answer> {
-    if bytes.len() as u64 > TEXT_BYTES {
-        return Err(Answer::refused(format!("the text is longer than {TEXT_BYTES} bytes")));
+    utf8_up_to(TEXT_BYTES, bytes).map_err(|wrong| Answer::refused(format!("the text {wrong}")))
+}
+
+/// At most so many bytes as text, or what is wrong with them.
+fn utf8_up_to(most: u64, bytes: &[u8]) -> Result<String, String> {
+    if bytes.len() as u64 > most {
+        return Err(format!("is longer than {most} bytes"));
     }
-    String::from_utf8(bytes.to_vec()).map_err(|error| {
-        let at = error.utf8_error().valid_up_to();
-        Answer::refused(format!("the text is not UTF-8 at byte {at}"))
-    })
+    String::from_utf8(bytes.to_vec())
+        .map_err(|error| format!("is not UTF-8 at byte {}", error.utf8_error().valid_up_to()))
 }
 
 fn names_from(file: Option<&OsStr>) -> Result<Names, Answer> {
@@ -272,6 +284,6 @@ pub fn names_text(file: Option<&OsStr>) -> Result<String, Answer> {
     let Some(file) = file else {
         return Ok(String::new());
     };
-    let bytes = bytes_of(file, TEXT_BYTES)?;
-    Ok(String::from_utf8_lossy(&bytes).into_owned())
+    let bytes = bytes_of(file, NAMES_BYTES + 1)?;
+    utf8_up_to(NAMES_BYTES, &bytes).map_err(|wrong| Answer::refused_file(file, &wrong))
 }

@@ -69,14 +69,26 @@ fn beside(from: Kind, file: &OsStr, may_replace: bool) -> Result<(), Answer> {
 }
 
 /// Writes a file that is not there yet, or if that may be in place of one, which stays until
-/// the new one is whole.
-fn put(name: &OsStr, bytes: &[u8], may_replace: bool) -> io::Result<()> {
+/// the new one is whole. One that may not be written to stays, and the new one may be read and
+/// written by whom the old one may.
+pub fn put(name: &OsStr, bytes: &[u8], may_replace: bool) -> io::Result<()> {
     if !may_replace {
         return create(name, bytes);
     }
+    let old = fs::metadata(name).ok().filter(fs::Metadata::is_file);
+    if old.is_some() {
+        OpenOptions::new().write(true).open(name)?;
+    }
     let part: OsString = [name, OsStr::new(".part")].into_iter().collect();
-    create(&part, bytes)?;
-    fs::rename(&part, name).inspect_err(|_| drop(fs::remove_file(&part)))
+    create(&part, bytes).map_err(|error| match error.kind() {
+        ErrorKind::AlreadyExists => {
+            io::Error::other(format!("{} is there, and must go first", part.to_string_lossy()))
+        }
+        _ => error,
+    })?;
+    let placed = old.map_or(Ok(()), |old| fs::set_permissions(&part, old.permissions()));
+    let placed = placed.and_then(|()| fs::rename(&part, name));
+    placed.inspect_err(|_| drop(fs::remove_file(&part)))
 }
 
 /// Writes a file that is not there yet. Where that fails none is left.
