@@ -6,7 +6,8 @@ use std::error::Error;
 use std::path::{Path, PathBuf};
 use tezhukor::Tree;
 
-/// The files of a folder that hold the same tree, and those that hold none.
+/// The files of a folder that hold the same tree, and those that hold none, as one that cannot be
+/// read or a folder.
 pub fn doubles(folder: &Path) -> std::io::Result<(Vec<Vec<PathBuf>>, Vec<PathBuf>)> {
     let (mut sheets, mut refused) = (BTreeMap::<Vec<u8>, Vec<PathBuf>>::new(), Vec::new());
     let mut files: Vec<PathBuf> = std::fs::read_dir(folder)?
@@ -14,10 +15,10 @@ pub fn doubles(folder: &Path) -> std::io::Result<(Vec<Vec<PathBuf>>, Vec<PathBuf
         .collect::<std::io::Result<_>>()?;
     files.sort();
     for file in files {
-        match Tree::load(&std::fs::read(&file)?) {
+        match std::fs::read(&file).ok().and_then(|bytes| Tree::load(&bytes).ok()) {
             // One file for one tree: equal bytes are equal trees.
-            Ok(tree) => sheets.entry(tree.to_file()).or_default().push(file),
-            Err(_) => refused.push(file),
+            Some(tree) => sheets.entry(tree.to_file()).or_default().push(file),
+            None => refused.push(file),
         }
     }
     Ok((sheets.into_values().filter(|files| files.len() > 1).collect(), refused))

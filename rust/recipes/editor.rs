@@ -12,7 +12,13 @@ fn read(text: &str, symbols: &mut Symbols) -> Result<Tree, Box<dyn Error>> {
     Ok(Tree::read(contexts::NONE, &tokens)?)
 }
 
-/// Edits a sheet until the input ends.
+/// The node and the expression of an edit.
+fn asked(edit: &str, symbols: &mut Symbols) -> Result<(u16, Tree), Box<dyn Error>> {
+    let (node, text) = edit.split_once(' ').ok_or("an edit is a node and an expression")?;
+    Ok((node.parse()?, read(text, symbols)?))
+}
+
+/// Edits a sheet until the input ends. What is no edit changes nothing.
 pub fn session(
     sheet: &str,
     input: impl BufRead,
@@ -22,8 +28,13 @@ pub fn session(
     let mut sheet = OpenSheet::from(read(sheet, &mut symbols)?);
     let mut input = input.lines();
     while let Some(edit) = input.next().transpose()? {
-        let (node, text) = edit.split_once(' ').ok_or("an edit is a node and an expression")?;
-        let (node, second) = (node.parse()?, read(text, &mut symbols)?);
+        let (node, second) = match asked(&edit, &mut symbols) {
+            Ok(asked) => asked,
+            Err(error) => {
+                writeln!(output, "no: {error}")?;
+                continue;
+            }
+        };
         match sheet.preview(node, &second) {
             Err(refusal) => writeln!(output, "no: {refusal}")?,
             Ok(preview) => {

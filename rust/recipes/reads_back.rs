@@ -28,8 +28,11 @@ fn main() -> Result<ExitCode, Box<dyn Error>> {
             let file = format!("{name}.{ending}");
             std::fs::read(&file).map_err(|error| format!("{file}: {error}"))
         };
-        let [names, text] = [file("names")?, file("rs")?].map(String::from_utf8);
-        if !reads_back(&file("tree")?, &names?, &text?)? {
+        let text = |ending: &str| {
+            String::from_utf8(file(ending)?).map_err(|error| format!("{name}.{ending}: {error}"))
+        };
+        let is_it = reads_back(&file("tree")?, &text("names")?, &text("rs")?);
+        if !is_it.map_err(|error| format!("{name}: {error}"))? {
             eprintln!("{name}.rs is not the sheet {name}.tree");
             status = ExitCode::FAILURE;
         }

@@ -165,16 +165,21 @@ fn the_front_page_builds_as_shown() -> Result<(), Box<dyn std::error::Error>> {
     Ok(())
 }
 
-/// The lines of the recipes' page are those of the recipes.
+/// The blocks of the recipes' page stand in the recipes, line below line, comments left out.
 #[test]
 fn recipes_are_as_shown() {
     let files = ["curve/build.rs", "editor.rs", "archive.rs", "reads_back.rs"];
     let sources = files.map(|file| text(&root().join("rust/recipes").join(file))).concat();
+    let code = sources.lines().filter(|line| !line.trim_start().starts_with("//"));
+    let code: String = code.map(|line| format!("{line}\n")).collect();
     let document = text(&root().join("docs/RECIPES.md"));
     let blocks = parts(&document).1.into_iter().filter(|lines| lines[0].starts_with("let "));
-    let shown: Vec<&str> = blocks.flatten().collect();
-    let is_there = |line: &&str| sources.contains(&format!("    {line}\n"));
-    assert!(shown.len() > 8 && shown.iter().all(is_there), "{shown:?}");
+    let blocks: Vec<Vec<&str>> = blocks.collect();
+    for block in &blocks {
+        let shown: String = block.iter().map(|line| format!("    {line}\n")).collect();
+        assert!(code.contains(&shown), "docs/RECIPES.md:\n{shown}");
+    }
+    assert_eq!(blocks.len(), 2);
 }
 
 /// Each `$ ` line of a document with what it shows below it.

@@ -30,7 +30,8 @@ fn a_generator() {
 
 #[test]
 fn an_editor() {
-    let edits = "3 station - (start - grade)\nyes\n2 lead * offset\nno\n9 depth\n";
+    let edits = "3 station - (start - grade)\nyes\n2 lead * offset\nno\n9 depth\n\
+                 x y\n3 a +\n3\n2 lead\nyes\n";
     let mut output = Vec::new();
     editor::session("offset - station", edits.as_bytes(), &mut output).expect("a session");
     let meant = "\
@@ -41,7 +42,13 @@ offset - (station - (start - grade))
 lead * offset - (station - (start - grade))
 0 come, 0 go
 no: The named node is absent or is no expression.
+no: invalid digit found in string
+no: The plain grammar gives these tokens no reading.
+no: an edit is a node and an expression
 offset - (station - (start - grade))
+lead - (station - (start - grade))
+0 come, 0 go
+lead - (station - (start - grade))
 ";
     assert_eq!(String::from_utf8_lossy(&output), meant);
 }
@@ -61,9 +68,11 @@ fn an_archive() {
         let file = [&[0, 3][..], &nodes].concat();
         std::fs::write(folder.join(name), file).expect("a file");
     }
+    std::fs::create_dir_all(folder.join("e")).expect("a folder in it");
     let found = archive::doubles(&folder).expect("a folder that can be read");
     let named = |name: &str| -> PathBuf { folder.join(name) };
-    assert_eq!(found, (vec![vec![named("a.tree"), named("b.tree")]], vec![named("d.tree")]));
+    let refused = vec![named("d.tree"), named("e")];
+    assert_eq!(found, (vec![vec![named("a.tree"), named("b.tree")]], refused));
     std::fs::remove_dir_all(&folder).expect("the folder goes");
 }
 
