@@ -1,6 +1,6 @@
 //! The documents: links lead somewhere, and what they show is what the command prints.
 
-use std::collections::HashSet;
+use std::collections::{BTreeMap, HashSet};
 use std::path::{Path, PathBuf};
 use std::process::Command;
 
@@ -80,35 +80,71 @@ fn links_lead_somewhere() {
     assert!(count > 30, "{count} links");
 }
 
-/// What can be named of the crates: their files and folders, wrong programs as NAME/LABEL and
-/// as LABEL, and all words of definitions, proofs and code.
-fn named_by_crates() -> HashSet<String> {
-    let crates = root().join("crates");
-    let (mut named, mut folders) = (HashSet::new(), vec![crates.clone()]);
-    while let Some(folder) = folders.pop() {
-        for entry in std::fs::read_dir(&folder).expect("a folder") {
-            let path = entry.expect("a file").path();
-            let place = path.strip_prefix(&crates).expect("a place").display().to_string();
-            let name = path.file_stem().expect("a name").to_string_lossy().to_string();
-            match path.extension().and_then(|ending| ending.to_str()) {
-                Some("antt" | "rt") => {
-                    let text = text(&path);
-                    let words = text.split(|c: char| !c.is_alphanumeric() && !"_-'".contains(c));
-                    named.extend(words.map(str::to_string));
+/// What a line of a crate's file defines: of definitions and proofs what is public, fields among
+/// them, of code also what is not.
+fn defined(line: &str) -> Option<&str> {
+    let without =
+        |line, words: &[&str]| words.iter().find_map(|word| str::strip_prefix(line, word));
+    let line = line.trim_start();
+    let line = without(line, &["abbrev ", "unfoldable "]).unwrap_or(line);
+    let public = without(line, &["pub "]);
+    let line = public.unwrap_or(line);
+    let kinds = ["record ", "data ", "fn ", "extern \"C\" fn ", "enum ", "struct ", "const "];
+    let kind = without(line, &kinds);
+    let is_end = |c: char| !c.is_alphanumeric() && !"_-'".contains(c);
+    let name = kind.or(public)?.split(is_end).next()?;
+    (!name.is_empty()).then_some(name)
+}
+
+/// The crates: what each of their files defines, and their folders and wrong programs, by where
+/// they are.
+struct Crates {
+    defined: BTreeMap<String, HashSet<String>>,
+    others: HashSet<String>,
+}
+
+impl Crates {
+    fn read() -> Crates {
+        let crates = root().join("crates");
+        let (mut read, mut folders) =
+            (Crates { defined: BTreeMap::new(), others: HashSet::new() }, vec![crates.clone()]);
+        while let Some(folder) = folders.pop() {
+            for entry in std::fs::read_dir(&folder).expect("a folder") {
+                let path = entry.expect("a file").path();
+                let place = path.strip_prefix(&crates).expect("a place").display().to_string();
+                let name = path.file_stem().expect("a name").to_string_lossy().to_string();
+                match path.extension().and_then(|ending| ending.to_str()) {
+                    Some("antt" | "rt") => {
+                        let text = text(&path);
+                        let names = text.lines().filter_map(defined).map(str::to_string);
+                        read.defined.insert(place, names.collect());
+                    }
+                    Some("edit") => {
+                        let owner = place.split('/').next().unwrap_or("");
+                        read.others.extend([format!("{owner}/{name}"), name]);
+                    }
+                    _ if path.is_dir() => {
+                        read.others.insert(place);
+                        folders.push(path);
+                    }
+                    _ => {}
                 }
-                Some("edit") => {
-                    let owner = place.split('/').next().unwrap_or("");
-                    named.insert(format!("{owner}/{name}"));
-                }
-                _ => {}
             }
-            if path.is_dir() {
-                folders.push(path);
-            }
-            named.extend([place, name]);
         }
+        read
     }
-    named
+
+    /// Whether a file, or one of a folder's, defines a name.
+    fn defines(&self, place: &str, name: &str) -> bool {
+        let within = self.defined.range(place.to_string()..);
+        let mut within = within.take_while(|(file, _)| file.starts_with(place));
+        within.any(|(_, names)| names.contains(name))
+    }
+
+    /// Whether there is a crate, a folder, a file or a wrong program of that name.
+    fn has(&self, name: &str) -> bool {
+        self.others.contains(name.trim_end_matches('/')) || self.defined.contains_key(name)
+    }
 }
 
 /// `a/{b, c}.d` as `a/b.d` and `a/c.d`.
@@ -120,24 +156,94 @@ fn each_of(name: &str) -> Vec<String> {
     parts.unwrap_or_else(|| vec![name.to_string()])
 }
 
-/// Definitions, theorems, files and wrong programs that the contracts' page names are there.
+/// A function without its arguments.
+fn called(name: &str) -> String {
+    let (mut depth, mut kept) = (0, String::new());
+    for c in name.chars() {
+        depth += i32::from(c == '(');
+        kept.extend((depth == 0).then_some(c));
+        depth -= i32::from(c == ')');
+    }
+    kept
+}
+
+/// A line of the contracts' page: what stands in quotes, each with the words before it.
+fn quoted(line: &str) -> Vec<(&str, &str)> {
+    let mut parts = line.split('`');
+    let mut quoted = Vec::new();
+    while let (Some(before), Some(inside)) = (parts.next(), parts.next()) {
+        quoted.push((before, inside));
+    }
+    quoted
+}
+
+/// The names of a line that a file has behind them, as in "`a`, `b` and `c` in `FILE`" and in
+/// "`a`, `b` (`FILE`)", with that file; and those of an item below "`FILE`:".
+fn placed<'a>(line: &'a str, above: &mut Option<&'a str>) -> Vec<(&'a str, &'a str)> {
+    let is_file = |name: &str| name.ends_with(".antt") || name.ends_with("/proofs/");
+    let (mut placed, mut names) = (Vec::new(), Vec::new());
+    for (before, inside) in quoted(line) {
+        match (is_file(inside), before) {
+            (true, " in " | " (") => placed.extend(names.drain(..).map(|name| (name, inside))),
+            (true, _) => names.clear(),
+            (false, ", " | " and ") => names.push(inside),
+            (false, _) => names = vec![inside],
+        }
+    }
+    match line.strip_prefix("- ") {
+        Some(item) if placed.is_empty() => {
+            let listed = quoted(item).into_iter().enumerate();
+            let listed = listed.take_while(|(at, (before, _))| *at == 0 || *before == ", ");
+            placed.extend(
+                above
+                    .iter()
+                    .flat_map(|file| listed.clone().map(move |(_, (_, name))| (name, *file))),
+            );
+        }
+        Some(_) => {}
+        None if line.is_empty() => {}
+        None => {
+            let last = quoted(line).last().map(|(_, name)| *name);
+            *above = last.filter(|name| line.ends_with("`:") && is_file(name));
+        }
+    }
+    placed
+}
+
+/// Definitions, theorems, functions, files and wrong programs that the contracts' page names are
+/// there, and where a file is named with them they are in it.
 #[test]
 fn contracts_name_what_is_there() {
-    let (named, mut count) = (named_by_crates(), 0);
-    let is_name = |name: &String| {
-        let is_sign = |c: char| c.is_alphanumeric() || "_-'/.".contains(c);
-        name.starts_with(char::is_alphabetic) && name.chars().all(is_sign)
-    };
-    for line in parts(&text(&root().join("docs/CONTRACTS.md"))).0 {
-        let quoted = line.split('`').skip(1).step_by(2).flat_map(each_of);
-        for name in quoted.filter(is_name) {
-            let is_elsewhere = ["crates/", "sheet", "Refusal"].contains(&name.as_str());
-            let is_there = named.contains(name.trim_end_matches('/'));
-            assert!(is_elsewhere || is_there, "docs/CONTRACTS.md: `{name}`");
+    let (crates, page) = (Crates::read(), text(&root().join("docs/CONTRACTS.md")));
+    let (mut above, mut in_files, mut count, mut absent) = (None, 0, 0, Vec::new());
+    for line in parts(&page).0 {
+        for (name, files) in placed(line, &mut above) {
+            let name = name.split(' ').next().unwrap_or(name);
+            let is_there = each_of(files).iter().any(|file| crates.defines(file, name));
+            absent.extend((!is_there).then(|| format!("`{name}` in `{files}`")));
+            in_files += 1;
+        }
+        for name in quoted(line).into_iter().flat_map(|(_, name)| each_of(&called(name))) {
+            let is_sign = |c: char| c.is_alphanumeric() || "_-'/.:".contains(c);
+            if !name.starts_with(char::is_alphabetic) || !name.chars().all(is_sign) {
+                continue;
+            }
+            let elsewhere = ["crates/", "specs/", "must-fail", "sheet", "Refusal", "out"];
+            let is_elsewhere = elsewhere.contains(&name.as_str());
+            let is_there = match name.split("::").collect::<Vec<_>>()[..] {
+                [first, .., last] if crates.has(&format!("{first}/src")) => {
+                    crates.defines(&format!("{first}/src/"), last)
+                }
+                [.., last] => crates.has(last) || crates.defines("", last),
+                [] => false,
+            };
+            absent.extend((!is_elsewhere && !is_there).then(|| format!("`{name}`")));
             count += 1;
         }
     }
-    assert!(count > 300, "{count} names");
+    assert!(absent.is_empty(), "docs/CONTRACTS.md: {absent:#?}");
+    println!("{in_files} names in files, {count} names");
+    assert!(in_files > 150 && count > 400, "{in_files} names in files, {count} names");
 }
 
 /// It is read in five minutes.
