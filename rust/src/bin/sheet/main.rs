@@ -72,16 +72,17 @@ sheet: where a printed Rust expression needs parentheses
                                      FILE.columns as FILE
 
 FILE is a tree file, or a rearranged one if its name ends in .columns; - is a tree file
-on standard input. Only with --overwrite is another file written over. TEXT is a plain
-expression: names, literals, structs, operators, casts, calls, fields, indexes, `?` and
-await; tree files hold other forms as well. NODE is a number, or the text of an operand
-that stands once in what is shown; its names, and those of TEXT, are the names shown,
-and `edit --names NAMES` adds a line to NAMES for each other one. Tree files hold a
-symbol, a number, for each name and literal, equal ones for equal names. A names file is
-the table of symbols, line n for symbol n: `read --names OUT` writes it to OUT, and
-`--names NAMES` takes names from such a file. Without a line names are called a, b, c ..
-(types A, B, C ..), literals 1, members 0; closed forms have `..` inside, and a struct,
-read as `Name { .. }` or `Name {}`, keeps no name.
+on standard input. `pack` and `unpack` write over another file only with --overwrite;
+`read --names OUT` writes OUT anew. TEXT is a plain expression: names, literals, structs,
+operators, casts, calls, fields, indexes, `?` and await; tree files hold other forms as
+well. NODE is a number, or the text of an operand that stands once in what is shown; its
+names, and those of TEXT, are the names shown, and `edit --names NAMES` adds a line to
+NAMES for each other one. Tree files hold a symbol, a number, for each name and literal,
+equal ones for equal names. A names file is the table of symbols, line n for symbol n:
+`read --names OUT` writes it to OUT, and `--names NAMES` takes names from such a file.
+Without a line names are called a, b, c .. (types A, B, C ..), literals 1, members 0;
+closed forms have `..` inside, and a struct, read as `Name { .. }` or `Name {}`, keeps no
+name.
 The first example:
 
   sheet read 'offset - (station - start)' > curve.tree
