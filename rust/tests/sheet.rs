@@ -465,6 +465,12 @@ fn drafts() {
     assert!(refused("a {-..+} b").starts_with("sheet: refused (22): "));
     assert!(refused("((a {+|-} b) {+|-} (c {+|-} d)) {+|-} e").starts_with("sheet: refused (20)"));
     assert!(refused("a {+|-} ").contains("the text ends where an operand must stand"));
+    // What is wrong is shown in what was typed, braces and all.
+    for (text, mark) in [("a {+|-} b c", 11), ("a {+|-}", 8), ("a {+|-} #", 9)] {
+        let told = refused(text);
+        let place = format!("(line 1, column {mark})\n  {text}\n  {:>mark$}\n", '^');
+        assert!(told.ends_with(&place), "{told}");
+    }
     assert_eq!(sheet(&["draft", "a", "b"], b"").status.code(), Some(2));
 }
 

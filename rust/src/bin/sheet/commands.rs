@@ -101,16 +101,22 @@ pub fn draft_text(arguments: &[OsString]) -> Result<(u16, String), Answer> {
 
 fn read(context: u16, text: &str, names: Option<&OsStr>) -> Result<Answer, Answer> {
     let mut symbols = Symbols::default();
-    let tree = expression(context, text, &mut symbols)?;
+    let tree = expression(context, text, text, &mut symbols)?;
     if let Some(file) = names {
         write_names(file, &symbols)?;
     }
     Ok(Answer::done(tree.to_file()))
 }
 
-/// The tree of an expression as text in a context, with symbols for its names.
-pub fn expression(context: u16, text: &str, symbols: &mut Symbols) -> Result<Tree, Answer> {
-    let at = |at, message: &str| Answer::refused(locate::pointed(text, at, message));
+/// The tree of an expression as text in a context, with symbols for its names. What is wrong is
+/// shown in the text that was typed, which has the same places.
+pub fn expression(
+    context: u16,
+    text: &str,
+    typed: &str,
+    symbols: &mut Symbols,
+) -> Result<Tree, Answer> {
+    let at = |at, message: &str| Answer::refused(locate::pointed(typed, at, message));
     let tokens = lexer::tokens(text).map_err(|error| at(error.at, &error.message))?;
     let named = lexer::named(text, &tokens, symbols);
     Tree::read(context, &named).map_err(|refusal| match refusal {
@@ -118,7 +124,7 @@ pub fn expression(context: u16, text: &str, symbols: &mut Symbols) -> Result<Tre
             let codes: Vec<u16> = tokens.iter().map(|token| token.code).collect();
             let place = locate::unread(context, &codes);
             at(
-                tokens.get(place.token).map_or(text.trim_end().len(), |token| token.at),
+                tokens.get(place.token).map_or(typed.trim_end().len(), |token| token.at),
                 &place.message,
             )
         }

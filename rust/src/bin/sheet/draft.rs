@@ -54,8 +54,9 @@ impl Draft {
         symbols: &mut Symbols,
     ) -> Result<Draft, Answer> {
         let sets: Vec<Vec<Op>> = braces.iter().map(|braces| kinds(&braces.ops)).collect();
-        let mut read =
-            |choice: &Choice| expression(context, &with_operators(text, braces, choice), symbols);
+        let mut read = |choice: &Choice| {
+            expression(context, &with_operators(text, braces, choice), text, symbols)
+        };
         let first: Choice = sets.iter().map(|set| set[0]).collect();
         let tree = read(&first)?;
         let is_open = |at: &usize| braces[*at].ops.iter().nth(1).is_some();

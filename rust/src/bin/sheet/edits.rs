@@ -135,7 +135,7 @@ impl Asked {
         let (node, text) = (utf8(node.as_encoded_bytes())?, utf8(text.as_encoded_bytes())?);
         let mut symbols = Symbols::of(&lines, &tree);
         let known = symbols.count();
-        let second = expression(contexts::NONE, &text, &mut symbols)?;
+        let second = expression(contexts::NONE, &text, &text, &mut symbols)?;
         let names = symbols.names();
         let names =
             names.map_err(|_| Answer::refused("no symbol is left for a new name".into()))?;
