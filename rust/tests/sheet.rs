@@ -745,7 +745,7 @@ fn long_names() {
     std::fs::write(&names.0, lines(70_000)).expect("a file");
     edit(&format!("{} - {}", name(1), name(65_535)), 0);
     let told = edit("depth", 1);
-    assert!(told.contains("symbol"), "{told}");
+    assert!(told.contains("more names and literals than the 65,535 symbols"), "{told}");
     assert_eq!(read(), lines(70_000));
     // More than 16 MiB.
     let long = "depth".repeat(4 << 20);

@@ -67,12 +67,21 @@ pub fn tokens(text: &str) -> Result<Vec<Lexed>, Error> {
 /// # Ok(())
 /// # }
 /// ```
-pub fn named(text: &str, mut symbol: impl FnMut(&str) -> u16) -> Result<Vec<Token>, Error> {
-    let named = tokens(text)?.into_iter().map(|token| match has_symbol(token.code) {
-        true => Token::new(token.code, symbol(&text[token.at..token.end])),
-        false => token.code.into(),
+pub fn named(text: &str, symbol: impl FnMut(&str) -> u16) -> Result<Vec<Token>, Error> {
+    Ok(with_symbols(text, &tokens(text)?, symbol))
+}
+
+/// The same of tokens that are there.
+pub fn with_symbols(
+    text: &str,
+    tokens: &[Lexed],
+    mut symbol: impl FnMut(&str) -> u16,
+) -> Vec<Token> {
+    let named = tokens.iter().map(|&Lexed { code, at, end }| match has_symbol(code) {
+        true => Token::new(code, symbol(&text[at..end])),
+        false => code.into(),
     });
-    Ok(named.collect())
+    named.collect()
 }
 
 struct Lexer<'a> {

@@ -50,6 +50,11 @@ pub fn export(byte: u8) -> usize {
     usize::from(byte) % EXPORTS.len()
 }
 
+/// The place of an export among them.
+fn place(name: &str) -> usize {
+    EXPORTS.iter().position(|export| *export == name).expect("an export")
+}
+
 /// What came of an input.
 pub struct Told {
     /// The refusal that is stated, or 0.
@@ -315,7 +320,7 @@ impl Asker {
         let Some(meant) = stated else {
             return self.read_long(context, &cells, room);
         };
-        self.stated[5] += 1;
+        self.stated[place("read")] += 1;
         let number = match &meant {
             Ok(table) => (table.len() / NODE_CELLS) as u32,
             Err(refusal) => refused(*refusal),
@@ -459,7 +464,7 @@ impl Asker {
     fn answers(&mut self, asked: &open::Asked, sheet: edits::Sheet) -> Option<Vec<u16>> {
         let choices = choices_of_classes(&asked.entries());
         if choices.len() * usize::from(asked.table.count) <= CHOSEN {
-            self.stated[13] += 1;
+            self.stated[place("decide_open")] += 1;
             return Some(asked.answers(choices, |table| pairs(table, asked.order)));
         }
         let mut answers = vec![3; asked.table.count.into()];

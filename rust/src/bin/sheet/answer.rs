@@ -2,6 +2,7 @@
 
 use crate::USAGE;
 use std::ffi::OsStr;
+use tezhukor::text::NoSymbolLeft;
 use tezhukor::Refusal;
 
 /// Output, message for people, and exit status.
@@ -42,6 +43,12 @@ impl Answer {
     /// Wrong usage, with the usage text.
     pub fn usage() -> Answer {
         Answer { output: Vec::new(), message: USAGE.to_string(), status: 2 }
+    }
+}
+
+impl From<NoSymbolLeft> for Answer {
+    fn from(full: NoSymbolLeft) -> Answer {
+        Answer::refused(full.to_string())
     }
 }
 

@@ -2,13 +2,13 @@
 
 use crate::answer::{words, Answer};
 use crate::kind::Kind;
-use crate::{blame, doubles, draft, edits, lexer, locate, pack, page, show, why, USAGE};
+use crate::{blame, doubles, draft, edits, locate, pack, page, show, why, USAGE};
 use std::cmp::Ordering;
 use std::ffi::{OsStr, OsString};
 use std::fmt::Write;
 use std::io::Read;
 use tezhukor::sizes::MOST_FILE_BYTES;
-use tezhukor::text::{Names, Symbols};
+use tezhukor::text::{lexer, Names, Symbols};
 use tezhukor::{codes, contexts, forms, Refusal, Token, Tree};
 
 /// One byte more than a tree file may have shows that it is too long.
@@ -118,7 +118,7 @@ pub fn expression(
 ) -> Result<Tree, Answer> {
     let at = |at, message: &str| Answer::refused(locate::pointed(typed, at, message));
     let tokens = lexer::tokens(text).map_err(|error| at(error.at, &error.message))?;
-    let named = lexer::named(text, &tokens, symbols);
+    let named = lexer::with_symbols(text, &tokens, |word| symbols.symbol(word));
     Tree::read(context, &named).map_err(|refusal| match refusal {
         Refusal::NoReading => {
             let codes: Vec<u16> = tokens.iter().map(|token| token.code).collect();

@@ -267,7 +267,7 @@ impl Shown {
         let draft = Draft::read(context, text, &braces(text)?, &mut symbols)?;
         let told = draft.tree.with_open(&draft.open);
         let told = told.map_err(|refusal| Answer::refused(words(refusal, "")))?;
-        let names = symbols.names().map_err(|full| Answer::refused(full.to_string()))?;
+        let names = symbols.names()?;
         Ok(Shown::new(draft, &told, names))
     }
 

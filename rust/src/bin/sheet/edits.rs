@@ -136,9 +136,7 @@ impl Asked {
         let mut symbols = Symbols::of(&lines, &tree);
         let known = symbols.count();
         let second = expression(contexts::NONE, &text, &text, &mut symbols)?;
-        let names = symbols.names();
-        let names =
-            names.map_err(|_| Answer::refused("no symbol is left for a new name".into()))?;
+        let names = symbols.names()?;
         let has_new_names = symbols.count() > known;
         let shown = Text::new(&tree, &tree.rows(), &Names::new(&lines));
         let node = named(&node, &tree, &shown)?;

@@ -9,7 +9,6 @@ mod doubles;
 mod draft;
 mod edits;
 mod kind;
-mod lexer;
 mod locate;
 mod many;
 mod pack;

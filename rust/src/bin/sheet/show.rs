@@ -72,12 +72,12 @@ pub fn coloured(plain: &str, places: Vec<usize>, colour: &str) -> String {
 #[cfg(test)]
 mod tests {
     use super::*;
-    use crate::lexer;
     use model::generate::{Dice, Draft, Family, Order};
     use model::recorded::records;
     use model::{table, NodeTable};
     use tezhukor::codes::{tokens, CLOSE, MINUS, NAME, OPEN};
     use tezhukor::contexts;
+    use tezhukor::text::lexer;
 
     #[test]
     fn added_pairs_are_coloured() {
