@@ -288,6 +288,19 @@ fn recipes_are_as_shown() {
     assert_eq!(blocks.len(), 2);
 }
 
+/// The table of refusals has each number with its sentence, and what to do.
+#[test]
+fn refusals_are_as_shown() {
+    let page = text(&root().join("docs/SHEET.md"));
+    let rows = parts(&page).0.into_iter().filter(|line| line.starts_with("| "));
+    let rows: Vec<&str> = rows.filter(|row| row[2..].starts_with(char::is_numeric)).collect();
+    for (refusal, row) in tezhukor::Refusal::ALL.into_iter().zip(&rows) {
+        let meant = format!("| {} | {refusal} | ", refusal.number());
+        assert!(row.starts_with(&meant) && row.len() > meant.len() + 2, "{row}");
+    }
+    assert_eq!(rows.len(), tezhukor::Refusal::ALL.len());
+}
+
 /// Each `$ ` line of a document with what it shows below it.
 fn transcript(document: &str) -> Vec<(String, String)> {
     let mut shown: Vec<(String, String)> = Vec::new();
