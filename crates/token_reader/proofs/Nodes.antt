@@ -115,33 +115,55 @@ stored own (suc m) form detail first second symbol h k =
 
 -- ---- what waits in the first free nodes
 
-module _ (own : List ℕ) (depth what one two : ℕ) (h : nodeCells * depth + nodeCells ≤ length own) where
+module _ (own : List ℕ) (depth what one two least place : ℕ) (h : nodeCells * depth + nodeCells ≤ length own) where
   abbrev laid₁ : List ℕ
   laid₁ = set own (nodeCells * depth) what
 
   abbrev laid₂ : List ℕ
   laid₂ = set laid₁ (nodeCells * depth + 1) one
 
-  laid-other : (j : ℕ) → (nodeCells * depth ≤ j → nodeCells * depth + nodeCells ≤ j) → getD (set laid₂ (nodeCells * depth + 2) two) j 0 ≡ getD own j 0
+  abbrev laid₃ : List ℕ
+  laid₃ = set laid₂ (nodeCells * depth + 2) two
+
+  abbrev laid₄ : List ℕ
+  laid₄ = set laid₃ (nodeCells * depth + 3) least
+
+  abbrev laid₅ : List ℕ
+  laid₅ = set laid₄ (nodeCells * depth + 4) place
+
+  laid-other : (j : ℕ) → (nodeCells * depth ≤ j → nodeCells * depth + nodeCells ≤ j) → getD laid₅ j 0 ≡ getD own j 0
   laid-other j k =
-      getD-set-other laid₂ (nodeCells * depth + 2) j two 0 (λ e. let q = k (omega arith) in omega arith)
+      getD-set-other laid₄ (nodeCells * depth + 4) j place 0 (λ e. let q = k (omega arith) in omega arith)
+      ∙ getD-set-other laid₃ (nodeCells * depth + 3) j least 0 (λ e. let q = k (omega arith) in omega arith)
+      ∙ getD-set-other laid₂ (nodeCells * depth + 2) j two 0 (λ e. let q = k (omega arith) in omega arith)
       ∙ getD-set-other laid₁ (nodeCells * depth + 1) j one 0 (λ e. let q = k (omega arith) in omega arith)
       ∙ getD-set-other own (nodeCells * depth) j what 0 (λ e. let q = k (omega arith) in omega arith)
 
-  pub laid : Laid own (set laid₂ (nodeCells * depth + 2) two) depth what one two
+  pub laid : Laid own laid₅ depth what one two least place
   laid =
       record {
         same = simp length-set;
         before = λ j q. laid-other j (λ z. absurd (omega arith));
         behind = λ j q. laid-other j (λ z. q);
         what-is =
-            getD-set-other laid₂ (nodeCells * depth + 2) (nodeCells * depth) two 0 (λ e. omega arith)
+            getD-set-other laid₄ (nodeCells * depth + 4) (nodeCells * depth) place 0 (λ e. omega arith)
+            ∙ getD-set-other laid₃ (nodeCells * depth + 3) (nodeCells * depth) least 0 (λ e. omega arith)
+            ∙ getD-set-other laid₂ (nodeCells * depth + 2) (nodeCells * depth) two 0 (λ e. omega arith)
             ∙ getD-set-other laid₁ (nodeCells * depth + 1) (nodeCells * depth) one 0 (λ e. omega arith)
             ∙ getD-set-same own (nodeCells * depth) what 0 (omega arith);
         one-is =
-            getD-set-other laid₂ (nodeCells * depth + 2) (nodeCells * depth + 1) two 0 (λ e. omega arith)
+            getD-set-other laid₄ (nodeCells * depth + 4) (nodeCells * depth + 1) place 0 (λ e. omega arith)
+            ∙ getD-set-other laid₃ (nodeCells * depth + 3) (nodeCells * depth + 1) least 0 (λ e. omega arith)
+            ∙ getD-set-other laid₂ (nodeCells * depth + 2) (nodeCells * depth + 1) two 0 (λ e. omega arith)
             ∙ getD-set-same laid₁ (nodeCells * depth + 1) one 0 (simp length-set (omega arith));
-        two-is = getD-set-same laid₂ (nodeCells * depth + 2) two 0 (simp length-set (omega arith));
+        two-is =
+            getD-set-other laid₄ (nodeCells * depth + 4) (nodeCells * depth + 2) place 0 (λ e. omega arith)
+            ∙ getD-set-other laid₃ (nodeCells * depth + 3) (nodeCells * depth + 2) least 0 (λ e. omega arith)
+            ∙ getD-set-same laid₂ (nodeCells * depth + 2) two 0 (simp length-set (omega arith));
+        least-is =
+            getD-set-other laid₄ (nodeCells * depth + 4) (nodeCells * depth + 3) place 0 (λ e. omega arith)
+            ∙ getD-set-same laid₃ (nodeCells * depth + 3) least 0 (simp length-set (omega arith));
+        place-is = getD-set-same laid₄ (nodeCells * depth + 4) place 0 (simp length-set (omega arith));
       }
 
 -- ---- what is placed stays

@@ -17,7 +17,7 @@ use Rattle.token_reader.specs.declared.piece.Piece.{Piece}
 use Rattle.token_reader.specs.declared.piece.Typing.{Typing}
 use Rattle.token_reader.specs.Tables.{pastComma}
 use Rattle.token_reader.specs.Pieces.{many, Kept, Stored, Ready, Grew, TypeAt, TypesAt}
-use Rattle.token_reader.specs.Waiting.{WANTED, READ, LISTED, ENDED, POINTER, PATH, ITEM, whatAt, oneAt, twoAt, Laid, Stays, pieceOf, Turnable, waitsFor, Wanted, absent, whole, points, applies, Took, all, pointed, last, another, unclosed, Listed, more, applied, Turned, wanting, taking, listing}
+use Rattle.token_reader.specs.Waiting.{WANTED, READ, LISTED, ENDED, POINTER, PATH, ITEM, whatAt, oneAt, twoAt, Laid, Stays, pieceOf, Able, Turnable, waitsFor, Wanted, absent, whole, points, applies, Took, pointed, last, another, unclosed, Taken, all, part, Listed, more, applied, Turned, wanting, taking, listing}
 use Rattle.token_reader.proofs.First.{there, past-tokens}
 use Rattle.token_reader.proofs.Lists.{closed-past, comma-there, passed-none}
 use Rattle.token_reader.proofs.Tells.{ready-on, ready-grew}
@@ -72,15 +72,15 @@ types-alike k t =
 ready-alike : {tokens own now : List ℕ} {at free : ℕ} → Alike own now free → Ready tokens own at free → Ready tokens now at free
 ready-alike k r = record { short = r .short; known = r .known; cells = omega (arith, r .cells, k .1); room = r .room; most = r .most; within = r .within }
 
-laid-alike : {own now : List ℕ} {depth what one two free : ℕ} → depth < free → Laid own now depth what one two → Alike own now free
+laid-alike : {own now : List ℕ} {depth what one two least place free : ℕ} → depth < free → Laid own now depth what one two least place → Alike own now free
 laid-alike h l = (λ j q. l .behind j (omega arith), l .same)
 
 -- ---- what waits, and for what: a type, or the list that begins with it
 
-module _ (tokens own₀ : List ℕ) (at₀ free₀ : ℕ) where
+module _ (tokens own₀ : List ℕ) (base at₀ free₀ : ℕ) where
   -- where it began to be read there was room for all
   abbrev Begun : List Waiter → List ℕ → ℕ → ℕ → Type 0
-  Begun ws own at free = Ready tokens own at free × (length ws + many tokens ≤ at + free)
+  Begun ws own at free = Ready tokens own at free × (base + length ws + many tokens ≤ at + free)
 
   abbrev Waits : List Waiter → List ℕ → ℕ → ℕ → Type 0
   Waits [] own at free = (own ≡ own₀) × (at ≡ at₀) × (free ≡ free₀)
@@ -96,12 +96,12 @@ module _ (tokens own₀ : List ℕ) (at₀ free₀ : ℕ) where
 
   abbrev Held : List Waiter → List ℕ → Type 0
   Held [] own = Unit {0}
-  Held (w ∷ ws) own = (whatAt own (length ws) ≡ whatOf w) × (oneAt own (length ws) ≡ oneOf tokens w) × (twoAt own (length ws) ≡ twoOf w) × Held ws own
+  Held (w ∷ ws) own = (whatAt own (base + length ws) ≡ whatOf w) × (oneAt own (base + length ws) ≡ oneOf tokens w) × (twoAt own (base + length ws) ≡ twoOf w) × Held ws own
 
-  held-stays : (own now : List ℕ) (ws : List Waiter) → Stays own now (length ws) → Held ws own → Held ws now
+  held-stays : (own now : List ℕ) (ws : List Waiter) → Stays own now (base + length ws) → Held ws own → Held ws now
   held-stays own now [] s h = tt
   held-stays own now (w ∷ ws) s h =
-      (s (nodeCells * length ws) (omega arith) ∙ h .0, s (nodeCells * length ws + 1) (omega arith) ∙ h .1, s (nodeCells * length ws + 2) (omega arith) ∙ h .2, held-stays own now ws (λ j q. s j (omega arith)) (h .3))
+      (s (nodeCells * (base + length ws)) (omega arith) ∙ h .0, s (nodeCells * (base + length ws) + 1) (omega arith) ∙ h .1, s (nodeCells * (base + length ws) + 2) (omega arith) ∙ h .2, held-stays own now ws (λ j q. s j (omega arith)) (h .3))
 
   -- a list whose first type is not there
   first-none : {own now : List ℕ} {at free : ℕ} {r : Piece} → Ready tokens own at free → r .at ≡ many tokens + 1 → TypeAt tokens own now at free r → TypesAt tokens own now at free r
@@ -135,13 +135,13 @@ module _ (tokens own₀ : List ℕ) (at₀ free₀ : ℕ) where
   -- ---- what is known between turns
 
   pub data On (own : List ℕ) (s : Typing) : Type 0 where
-    wanted : (ws : List Waiter) → length ws ≡ s .depth → Held ws own → Waits ws own (s .at) (s .free) → Begun ws own (s .at) (s .free) → s .mode ≡ WANTED → On own s
-    read : (ws : List Waiter) (o : List ℕ) (a f : ℕ) → length ws ≡ s .depth → Held ws own → Waits ws o a f → Begun ws o a f → TypeAt tokens o own a f (pieceOf s) → s .at ≤ many tokens → s .mode ≡ READ → On own s
-    listed : (ws : List Waiter) (o : List ℕ) (a f : ℕ) → length ws ≡ s .depth → Held ws own → Waits ws o a f → Begun ws o a f → TypesAt tokens o own a f (pieceOf s) → s .at ≤ many tokens → s .mode ≡ LISTED → IsList ws → On own s
+    wanted : (ws : List Waiter) → base + length ws ≡ s .depth → Held ws own → Waits ws own (s .at) (s .free) → Begun ws own (s .at) (s .free) → s .mode ≡ WANTED → On own s
+    read : (ws : List Waiter) (o : List ℕ) (a f : ℕ) → base + length ws ≡ s .depth → Held ws own → Waits ws o a f → Begun ws o a f → TypeAt tokens o own a f (pieceOf s) → s .at ≤ many tokens → s .mode ≡ READ → On own s
+    listed : (ws : List Waiter) (o : List ℕ) (a f : ℕ) → base + length ws ≡ s .depth → Held ws own → Waits ws o a f → Begun ws o a f → TypesAt tokens o own a f (pieceOf s) → s .at ≤ many tokens → s .mode ≡ LISTED → IsList ws → On own s
     ended : TypeAt tokens own₀ own at₀ free₀ (pieceOf s) → s .mode ≡ ENDED → On own s
 
-  pub on-start : (s : Typing) → Ready tokens own₀ at₀ free₀ → s ≡ record { at = at₀; depth = 0; mode = WANTED; free = free₀; named = false } → On own₀ s
-  on-start s rd e = rw e (wanted [] refl tt (refl, refl, refl) (rd, omega (arith, rd .room)) refl)
+  pub on-start : (s : Typing) → Ready tokens own₀ at₀ free₀ → base + many tokens ≤ at₀ + free₀ → s ≡ record { at = at₀; depth = base; mode = WANTED; free = free₀; named = false } → On own₀ s
+  on-start s rd d e = rw e (wanted [] (omega arith) tt (refl, refl, refl) (rd, omega arith) refl)
 
   pub on-end : {own : List ℕ} {s : Typing} → On own s → s .mode ≡ ENDED → TypeAt tokens own₀ own at₀ free₀ (pieceOf s)
   on-end (wanted ws l h w b m) e = absurd (omega arith)
@@ -153,21 +153,21 @@ module _ (tokens own₀ : List ℕ) (at₀ free₀ : ℕ) where
   lists-wait [] i = absurd i
   lists-wait (w ∷ ws) i = omega arith
 
-  pub on-turnable : {own : List ℕ} {s : Typing} → On own s → (s .mode ≡ ENDED → ⊥) → Turnable tokens own s
-  on-turnable (wanted ws l h w b m) n = record { ready = b .0; deep = omega (arith, b .1); listed = λ p q. absurd (p m) }
+  pub on-turnable : {own : List ℕ} {s : Typing} → On own s → (s .mode ≡ ENDED → ⊥) → Turnable tokens own base s
+  on-turnable (wanted ws l h w b m) n = record { able = record { ready = b .0; deep = omega (arith, b .1) }; above = omega arith; listed = λ p q. absurd (p m) }
   on-turnable {own} {s} (read ws o a f l h w b t k m) n =
       let g = t .grew k in
-      record { ready = ready-grew (s .at) (omega arith) k (b .0) g; deep = omega (arith, b .1, g .room); listed = λ p q. absurd (q m) }
+      record { able = record { ready = ready-grew (s .at) (omega arith) k (b .0) g; deep = omega (arith, b .1, g .room) }; above = omega arith; listed = λ p q. absurd (q m) }
   on-turnable {own} {s} (listed ws o a f l h w b t k m i) n =
       let g = t .grew k in
-      record { ready = ready-grew (s .at) (omega arith) k (b .0) g; deep = omega (arith, b .1, g .room); listed = λ p q. let j = lists-wait ws i in omega arith }
+      record { able = record { ready = ready-grew (s .at) (omega arith) k (b .0) g; deep = omega (arith, b .1, g .room) }; above = omega arith; listed = λ p q. let j = lists-wait ws i in omega arith }
   on-turnable (ended t m) n = absurd (n m)
 
   -- ---- one more waits
 
-  laid-held : (own now : List ℕ) (ws : List Waiter) (w : Waiter) {depth : ℕ} → length ws ≡ depth → Laid own now depth (whatOf w) (oneOf tokens w) (twoOf w) → Held ws own → Held (w ∷ ws) now
+  laid-held : (own now : List ℕ) (ws : List Waiter) (w : Waiter) {depth : ℕ} → base + length ws ≡ depth → Laid own now depth (whatOf w) (oneOf tokens w) (twoOf w) 0 0 → Held ws own → Held (w ∷ ws) now
   laid-held own now ws w l la h =
-      let a = subst (λ n. Laid own now n (whatOf w) (oneOf tokens w) (twoOf w)) (sym l) la in
+      let a = subst (λ n. Laid own now n (whatOf w) (oneOf tokens w) (twoOf w) 0 0) (sym l) la in
       (a .what-is, a .one-is, a .two-is, held-stays own now ws (a .before) h)
 
   begun-on : (own now : List ℕ) (ws : List Waiter) (w : Waiter) {at free : ℕ} (to : ℕ) → at < to → to ≤ many tokens → Alike own now free → Begun ws own at free → Begun (w ∷ ws) now to free
@@ -179,18 +179,18 @@ module _ (tokens own₀ : List ℕ) (at₀ free₀ : ℕ) where
   piece-is : (r : Typing) (at : ℕ) (named : Bool) → r .at ≡ at → r .named ≡ named → record { at = at; free = r .free; named = named } ≡ pieceOf r
   piece-is r at named p q = rw (p, q)
 
-  stored-held : (own now : List ℕ) (ws : List Waiter) {free left form detail first second symbol : ℕ} → length ws ≤ left → Stored own now free left form detail first second symbol → Held ws own → Held ws now
+  stored-held : (own now : List ℕ) (ws : List Waiter) {free left form detail first second symbol : ℕ} → base + length ws ≤ left → Stored own now free left form detail first second symbol → Held ws own → Held ws now
   stored-held own now ws k st h = held-stays own now ws (λ j q. st .below j (omega arith)) h
 
-  is-list : (own : List ℕ) (ws : List Waiter) {depth : ℕ} → length ws ≡ depth → 1 ≤ depth → Held ws own → (whatAt own (depth - 1) ≡ POINTER → ⊥) → IsList ws
-  is-list own [] l i h n = absurd (omega arith)
-  is-list own (pointer o a f form detail ∷ ws) {depth} l i h n = let e : length ws ≡ depth - 1 = omega arith in absurd (n (rw e at (h .0)))
+  is-list : (own : List ℕ) (ws : List Waiter) {depth : ℕ} → base + length ws ≡ depth → (depth ≡ base → ⊥) → Held ws own → (whatAt own (depth - 1) ≡ POINTER → ⊥) → IsList ws
+  is-list own [] l i h n = absurd (i (omega arith))
+  is-list own (pointer o a f form detail ∷ ws) {depth} l i h n = let e : base + length ws ≡ depth - 1 = omega arith in absurd (n (rw e at (h .0)))
   is-list own (path o a f ∷ ws) l i h n = tt
   is-list own (item o mid a f first ∷ ws) l i h n = tt
 
   module _ {own now : List ℕ} {s r : Typing} where
-    on-wanted : (ws : List Waiter) → length ws ≡ s .depth → Held ws own → Waits ws own (s .at) (s .free) → Begun ws own (s .at) (s .free) → Wanted tokens own now s r → On now r
-    on-wanted ws l h w b (absent st z y m) = ended (no-type ws w (b .0) z (type-none (b .0) st z)) m
+    on-wanted : (ws : List Waiter) → base + length ws ≡ s .depth → Held ws own → Waits ws own (s .at) (s .free) → Begun ws own (s .at) (s .free) → Wanted tokens own now s r → On now r
+    on-wanted ws l h w b (absent st z y m u) = ended (no-type ws w (b .0) z (type-none (b .0) st z)) m
     on-wanted ws l h w b (whole t p k st e m) = read ws own (s .at) (s .free) (l ∙ sym e) (held-stays own now ws (subst (λ n. Stays own now n) (sym l) st) h) w b t k m
     on-wanted ws l h w b (points p form detail hh st lb la e) =
         let a = laid-alike {free = s .free} (omega (arith, b .1)) la in
@@ -206,53 +206,56 @@ module _ (tokens own₀ : List ℕ) (at₀ free₀ : ℕ) where
 
     -- ---- one that waited is done
 
-    on-took : (ws : List Waiter) (o : List ℕ) (a f : ℕ) → length ws ≡ s .depth → Held ws own → Waits ws o a f → Begun ws o a f → TypeAt tokens o own a f (pieceOf s) → s .at ≤ many tokens → Took tokens own now s r → On now r
-    on-took [] o a f l h w b t k (all z p n d m) =
-        ended (subst (λ x. TypeAt tokens own₀ now at₀ free₀ x) (sym p) (subst (λ x. TypeAt tokens own₀ x at₀ free₀ (pieceOf s)) (sym n) (rw (w .0, w .1, w .2) at t))) m
-    on-took (x ∷ ws) o a f l h w b t k (all z p n d m) = absurd (omega arith)
-    on-took [] o a f l h w b t k (pointed c st nm pop) = absurd (omega (arith, pop .0))
-    on-took (pointer q i g form detail ∷ ws) o a f l h w b t k (pointed c st nm pop) =
-        let e : s .depth - 1 ≡ length ws = omega arith in
+    on-took : (ws : List Waiter) (o : List ℕ) (a f : ℕ) → base + length ws ≡ s .depth → Held ws own → Waits ws o a f → Begun ws o a f → TypeAt tokens o own a f (pieceOf s) → s .at ≤ many tokens → (s .depth ≡ base → ⊥) → Took tokens own now s r → On now r
+    on-took [] o a f l h w b t k nb (pointed c st nm pop) = absurd (nb (omega arith))
+    on-took (pointer q i g form detail ∷ ws) o a f l h w b t k nb (pointed c st nm pop) =
+        let e : s .depth - 1 ≡ base + length ws = omega arith in
         let u = rw (e, h .1, h .2) at st in
         let v = t .grew k in
         read ws q i g (omega (arith, pop .0)) (stored-held own now ws (omega (arith, b .1, v .room, u .fewer)) u (h .3)) (w .0) (w .1)
         (subst (λ x. TypeAt tokens q now i g x) (piece-is r (s .at) (s .named) (pop .1) nm)
         (type-pointing (w .1 .0) (w .3 .0) (w .2) (w .3 .1) (w .3 .2) (pointing-stored (w .1 .0) (pieceOf s) k (type-alike (w .4) (rw (w .5, w .6) at t)) u)))
         (omega (arith, pop .1)) (pop .2)
-    on-took (path q i g ∷ ws) o a f l h w b t k (pointed c st nm pop) = let e : s .depth - 1 ≡ length ws = omega arith in let d = sym (h .0) ∙ (rw e at c) in absurd (omega arith)
-    on-took (item q mid i g first ∷ ws) o a f l h w b t k (pointed c st nm pop) = let e : s .depth - 1 ≡ length ws = omega arith in let d = sym (h .0) ∙ (rw e at c) in absurd (omega arith)
-    on-took ws o a f l h w b t k (last end i n is e st z) =
+    on-took (path q i g ∷ ws) o a f l h w b t k nb (pointed c st nm pop) = let e : s .depth - 1 ≡ base + length ws = omega arith in let d = sym (h .0) ∙ (rw e at c) in absurd (omega arith)
+    on-took (item q mid i g first ∷ ws) o a f l h w b t k nb (pointed c st nm pop) = let e : s .depth - 1 ≡ base + length ws = omega arith in let d = sym (h .0) ∙ (rw e at c) in absurd (omega arith)
+    on-took ws o a f l h w b t k nb (last end i n is e st z) =
         let p = closed-past tokens (s .at) (operator Gt) (λ q. omega arith) is e in
         let p₀ = p .0 in
         let p₁ = p .1 in
         let v = t .grew k in
         listed ws o a f (l ∙ sym (ap (λ x. x .depth) z)) (stored-held own now ws (omega (arith, b .1, v .room, st .fewer)) st h) w b
         (subst (λ x. TypesAt tokens o now a f x) (piece-is r (end + 1) false (ap (λ x. x .at) z) (ap (λ x. x .named) z)) (types-last (b .0) (pieceOf s) t is e st))
-        (let y = ap (λ (x : Typing). x .at) z in omega arith) (ap (λ x. x .mode) z) (is-list own ws l i h n)
-    on-took ws o a f l h w b t k (another end i n is ng cm la z) =
+        (let y = ap (λ (x : Typing). x .at) z in omega arith) (ap (λ x. x .mode) z) (is-list own ws l nb h n)
+    on-took ws o a f l h w b t k nb (another end i n is ng cm la z) =
         let p = comma-there tokens (s .at) (operator Gt) (λ q. omega arith) is cm in
         let v = t .grew k in
         let c : Begun ws own (s .at) (s .free) = (ready-grew (s .at) (omega arith) k (b .0) v, omega (arith, b .1, v .room)) in
         let d = laid-alike {free = s .free} (omega (arith, c .1)) la in
         subst (λ x. On now x) (sym z)
-        (wanted (item o own a f (pieceOf s) ∷ ws) (omega arith) (laid-held own now ws (item o own a f (pieceOf s)) l la h) (w, is-list own ws l i h n, b, t, rw is at ng, rw is at cm, d, refl, refl)
+        (wanted (item o own a f (pieceOf s) ∷ ws) (omega arith) (laid-held own now ws (item o own a f (pieceOf s)) l la h) (w, is-list own ws l nb h n, b, t, rw is at ng, rw is at cm, d, refl, refl)
         (begun-on own now ws (item o own a f (pieceOf s)) (s .at + 1) (omega arith) (omega arith) d c) refl)
-    on-took ws o a f l h w b t k (unclosed end i n is ng cm z y m) = ended (no-list ws w (is-list own ws l i h n) z (types-none (b .0) (pieceOf s) t is ng cm z)) m
+    on-took ws o a f l h w b t k nb (unclosed end i n is ng cm z y m u) = ended (no-list ws w (is-list own ws l nb h n) z (types-none (b .0) (pieceOf s) t is ng cm z)) m
 
-    on-listed : (ws : List Waiter) (o : List ℕ) (a f : ℕ) → length ws ≡ s .depth → Held ws own → Waits ws o a f → Begun ws o a f → TypesAt tokens o own a f (pieceOf s) → s .at ≤ many tokens → IsList ws → Listed tokens own now s r → On now r
+    on-taken : (ws : List Waiter) (o : List ℕ) (a f : ℕ) → base + length ws ≡ s .depth → Held ws own → Waits ws o a f → Begun ws o a f → TypeAt tokens o own a f (pieceOf s) → s .at ≤ many tokens → Taken tokens own now base s r → On now r
+    on-taken [] o a f l h w b t k (all z p n d m) =
+        ended (subst (λ x. TypeAt tokens own₀ now at₀ free₀ x) (sym p) (subst (λ x. TypeAt tokens own₀ x at₀ free₀ (pieceOf s)) (sym n) (rw (w .0, w .1, w .2) at t))) m
+    on-taken (x ∷ ws) o a f l h w b t k (all z p n d m) = absurd (omega arith)
+    on-taken ws o a f l h w b t k (part nb x) = on-took ws o a f l h w b t k nb x
+
+    on-listed : (ws : List Waiter) (o : List ℕ) (a f : ℕ) → base + length ws ≡ s .depth → Held ws own → Waits ws o a f → Begun ws o a f → TypesAt tokens o own a f (pieceOf s) → s .at ≤ many tokens → IsList ws → Listed tokens own now s r → On now r
     on-listed [] o a f l h w b t k i z = absurd i
     on-listed (pointer q j g form detail ∷ ws) o a f l h w b t k i z = absurd i
-    on-listed (path q j g ∷ ws) o a f l h w b t k i (more c st nm pop) = let e : s .depth - 1 ≡ length ws = omega arith in let d = sym (h .0) ∙ (rw e at c) in absurd (omega arith)
-    on-listed (item q mid j g first ∷ ws) o a f l h w b t k i (applied c st nm pop) = let e : length ws ≡ s .depth - 1 = omega arith in absurd (c (rw e at (h .0)))
+    on-listed (path q j g ∷ ws) o a f l h w b t k i (more c st nm pop) = let e : s .depth - 1 ≡ base + length ws = omega arith in let d = sym (h .0) ∙ (rw e at c) in absurd (omega arith)
+    on-listed (item q mid j g first ∷ ws) o a f l h w b t k i (applied c st nm pop) = let e : base + length ws ≡ s .depth - 1 = omega arith in absurd (c (rw e at (h .0)))
     on-listed (item q mid j g first ∷ ws) o a f l h w b t k i (more c st nm pop) =
-        let e : s .depth - 1 ≡ length ws = omega arith in
+        let e : s .depth - 1 ≡ base + length ws = omega arith in
         let u = rw (e, h .1) at st in
         let v = t .grew k in
         listed ws q j g (omega (arith, pop .0)) (stored-held own now ws (omega (arith, b .1, v .room, u .fewer)) u (h .3)) (w .0) (w .2)
         (subst (λ x. TypesAt tokens q now j g x) (piece-is r (s .at) false (pop .1) nm) (types-more (w .2 .0) first (w .3) refl (pieceOf s) (w .4) (w .5) k (types-alike (w .6) (rw (w .7, w .8) at t)) u))
         (omega (arith, pop .1)) (pop .2) (w .1)
     on-listed (path q j g ∷ ws) o a f l h w b t k i (applied c st nm pop) =
-        let e : s .depth - 1 ≡ length ws = omega arith in
+        let e : s .depth - 1 ≡ base + length ws = omega arith in
         let u = rw (e, h .1) at st in
         let v = t .grew k in
         read ws q j g (omega (arith, pop .0)) (stored-held own now ws (omega (arith, b .1, v .room, u .fewer)) u (h .3)) (w .0) (w .1)
@@ -260,12 +263,12 @@ module _ (tokens own₀ : List ℕ) (at₀ free₀ : ℕ) where
         (type-path (w .1 .0) (w .2) (w .3) (path-stored (w .1 .0) (pieceOf s) (w .4) (w .5) k (types-alike (w .6) (rw (w .7, w .8) at t)) u)))
         (omega (arith, pop .1)) (pop .2)
 
-    pub on-turned : On own s → (s .mode ≡ ENDED → ⊥) → Turned tokens own now s r → On now r
+    pub on-turned : On own s → (s .mode ≡ ENDED → ⊥) → Turned tokens own now base s r → On now r
     on-turned (wanted ws l h w b m) n (wanting e t) = on-wanted ws l h w b t
     on-turned (wanted ws l h w b m) n (taking e t) = absurd (omega arith)
     on-turned (wanted ws l h w b m) n (listing p q t) = absurd (p m)
     on-turned (read ws o a f l h w b t k m) n (wanting e x) = absurd (omega arith)
-    on-turned (read ws o a f l h w b t k m) n (taking e x) = on-took ws o a f l h w b t k x
+    on-turned (read ws o a f l h w b t k m) n (taking e x) = on-taken ws o a f l h w b t k x
     on-turned (read ws o a f l h w b t k m) n (listing p q x) = absurd (q m)
     on-turned (listed ws o a f l h w b t k m i) n (wanting e x) = absurd (omega arith)
     on-turned (listed ws o a f l h w b t k m i) n (taking e x) = absurd (omega arith)
@@ -277,15 +280,14 @@ module _ (tokens own₀ : List ℕ) (at₀ free₀ : ℕ) where
 abbrev pub leftToDo : List ℕ → Typing → ℕ
 leftToDo tokens s = 4 * (many tokens + 1 - s .at) + 2 * s .depth + (ENDED - s .mode)
 
-module _ {tokens own now : List ℕ} {s r : Typing} (able : Turnable tokens own s) where
+module _ {tokens own now : List ℕ} {s r : Typing} (within : s .at ≤ many tokens) where
   less-wanted : s .mode ≡ WANTED → Wanted tokens own now s r → leftToDo tokens r < leftToDo tokens s
-  less-wanted e (absent st z y m) = omega (arith, able .ready .within)
+  less-wanted e (absent st z y m u) = omega arith
   less-wanted e (whole t p k st y m) = omega arith
   less-wanted e (points p form detail hh st lb la z) = rw z (omega arith)
   less-wanted e (applies hh st lt gt la z) = let i = there tokens (s .at + 1) (number Lt) lt (omega arith) in rw z (omega arith)
 
   less-took : s .mode ≡ READ → Took tokens own now s r → leftToDo tokens r < leftToDo tokens s
-  less-took e (all z p n d m) = let a = ap (λ (x : Piece). x .at) p in omega arith
   less-took e (pointed c st nm pop) = omega (arith, pop .0, pop .1, pop .2)
   less-took e (last end i n is g st z) =
       let p = closed-past tokens (s .at) (operator Gt) (λ q. omega arith) is g in
@@ -296,19 +298,67 @@ module _ {tokens own now : List ℕ} {s r : Typing} (able : Turnable tokens own 
       let c = ap (λ (x : Typing). x .mode) z in
       omega arith
   less-took e (another end i n is ng cm la z) = let p = comma-there tokens (s .at) (operator Gt) (λ q. omega arith) is cm in rw z (omega arith)
-  less-took e (unclosed end i n is ng cm z y m) = omega (arith, able .ready .within)
+  less-took e (unclosed end i n is ng cm z y m u) = omega arith
+
+  less-taken : {base : ℕ} → s .mode ≡ READ → Taken tokens own now base s r → leftToDo tokens r < leftToDo tokens s
+  less-taken e (all z p n d m) = let a = ap (λ (x : Piece). x .at) p in omega arith
+  less-taken e (part nb x) = less-took e x
 
   less-listed : s .mode ≡ LISTED → Listed tokens own now s r → leftToDo tokens r < leftToDo tokens s
   less-listed e (more c st nm pop) = omega (arith, pop .0, pop .1, pop .2)
   less-listed e (applied c st nm pop) = omega (arith, pop .0, pop .1, pop .2)
 
-others-list : {tokens own₀ own : List ℕ} {at₀ free₀ : ℕ} {s : Typing} → On tokens own₀ at₀ free₀ own s → (s .mode ≡ ENDED → ⊥) → (s .mode ≡ WANTED → ⊥) → (s .mode ≡ READ → ⊥) → s .mode ≡ LISTED
+others-list : {tokens own₀ own : List ℕ} {base at₀ free₀ : ℕ} {s : Typing} → On tokens own₀ base at₀ free₀ own s → (s .mode ≡ ENDED → ⊥) → (s .mode ≡ WANTED → ⊥) → (s .mode ≡ READ → ⊥) → s .mode ≡ LISTED
 others-list (wanted ws l h w b m) n p q = absurd (p m)
 others-list (read ws o a f l h w b t k m) n p q = absurd (q m)
 others-list (listed ws o a f l h w b t k m i) n p q = m
 others-list (ended t m) n p q = absurd (n m)
 
-pub on-less : {tokens own₀ own now : List ℕ} {at₀ free₀ : ℕ} {s r : Typing} → On tokens own₀ at₀ free₀ own s → (s .mode ≡ ENDED → ⊥) → Turned tokens own now s r → leftToDo tokens r < leftToDo tokens s
-on-less o n (wanting e t) = less-wanted (on-turnable _ _ _ _ o n) e t
-on-less o n (taking e t) = less-took (on-turnable _ _ _ _ o n) e t
-on-less o n (listing p q t) = less-listed (on-turnable _ _ _ _ o n) (others-list o n p q) t
+pub on-less : {tokens own₀ own now : List ℕ} {base at₀ free₀ : ℕ} {s r : Typing} → On tokens own₀ base at₀ free₀ own s → (s .mode ≡ ENDED → ⊥) → Turned tokens own now base s r → leftToDo tokens r < leftToDo tokens s
+on-less o n (wanting e t) = less-wanted (on-turnable _ _ _ _ _ o n .able .ready .within) e t
+on-less o n (taking e t) = less-taken (on-turnable _ _ _ _ _ o n .able .ready .within) e t
+on-less o n (listing p q t) = less-listed (on-turnable _ _ _ _ _ o n .able .ready .within) (others-list o n p q) t
+
+-- ---- those that wait for something else stay
+
+below : (m n : ℕ) → m ≤ n → (m ≡ n → ⊥) → m < n
+below m n h k = go (decLe n m)
+  where
+    go : Dec (n ≤ m) → m < n
+    go (yes q) = absurd (k (omega arith))
+    go (no q) = omega arith
+
+module _ {tokens own now : List ℕ} {base : ℕ} {s : Typing} (able : Able tokens own s) (above : base ≤ s .depth) where
+  same-stays : now ≡ own → Stays own now base
+  same-stays u = λ j q. ap (λ l. getD l j 0) u
+
+  stored-stays : {left form detail first second symbol : ℕ} → base < s .depth → Stored own now (s .free) left form detail first second symbol → Stays own now base
+  stored-stays h st = λ j q. st .below j (let d = able .deep in let w = able .ready .within in let e = st .fewer in omega arith)
+
+  stays-wanted : {r : Typing} → Wanted tokens own now s r → Stays own now base
+  stays-wanted (absent st z y m u) = same-stays u
+  stays-wanted (whole t p k st y m) = λ j q. st j (omega arith)
+  stays-wanted (points p form detail hh st lb la z) = λ j q. la .before j (omega arith)
+  stays-wanted (applies hh st lt gt la z) = λ j q. la .before j (omega arith)
+
+  stays-taken : {r : Typing} → Taken tokens own now base s r → Stays own now base
+  stays-taken (all z p n d m) = same-stays n
+  stays-taken (part nb (pointed c st nm pop)) = stored-stays (below base (s .depth) above (λ e. nb (sym e))) st
+  stays-taken (part nb (last end i n is g st z)) = stored-stays (below base (s .depth) above (λ e. nb (sym e))) st
+  stays-taken (part nb (another end i n is ng cm la z)) = λ j q. la .before j (omega arith)
+  stays-taken (part nb (unclosed end i n is ng cm z y m u)) = same-stays u
+
+  stays-listed : {r : Typing} → base < s .depth → Listed tokens own now s r → Stays own now base
+  stays-listed h (more c st nm pop) = stored-stays h st
+  stays-listed h (applied c st nm pop) = stored-stays h st
+
+lists-above : {tokens own₀ own : List ℕ} {base at₀ free₀ : ℕ} {s : Typing} → On tokens own₀ base at₀ free₀ own s → (s .mode ≡ ENDED → ⊥) → (s .mode ≡ WANTED → ⊥) → (s .mode ≡ READ → ⊥) → base < s .depth
+lists-above (wanted ws l h w b m) n p q = absurd (p m)
+lists-above (read ws o a f l h w b t k m) n p q = absurd (q m)
+lists-above (listed ws o a f l h w b t k m i) n p q = let j = lists-wait _ _ _ _ _ ws i in omega arith
+lists-above (ended t m) n p q = absurd (n m)
+
+pub on-stays : {tokens own₀ own now : List ℕ} {base at₀ free₀ : ℕ} {s r : Typing} → On tokens own₀ base at₀ free₀ own s → (s .mode ≡ ENDED → ⊥) → Turned tokens own now base s r → Stays own now base
+on-stays o n (wanting e t) = let v = on-turnable _ _ _ _ _ o n in stays-wanted (v .able) (v .above) t
+on-stays o n (taking e t) = let v = on-turnable _ _ _ _ _ o n in stays-taken (v .able) (v .above) t
+on-stays o n (listing p q t) = let v = on-turnable _ _ _ _ _ o n in stays-listed (v .able) (v .above) (lists-above o n p q) t

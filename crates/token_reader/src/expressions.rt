@@ -62,7 +62,7 @@ fn cast(tokens: &[u16], own: &mut [u16], left: Parsed) -> Parsed
     requires { ⌜ Ready (now tokens) (now own) (left .at) (left .free) × (left .at < many (now tokens)) ⌝ }
     ensures { λ r. ⌜ CastAt (now (tokens .entry)) (now (own .entry)) (now (own .exit)) left r ⌝ }
 {
-    let target = ty(tokens, own, left.at + 1, left.free);
+    let target = ty(tokens, own, 0, left.at + 1, left.free);
     if target.at > tokens.len() / sizes::TOKEN_CELLS {
         return no_expr(tokens);
     }

@@ -10,14 +10,24 @@ ghost use Rattle.token_reader.specs.Pieces.{Stored};
 ghost use Rattle.token_reader.specs.Waiting.{Laid};
 
 // What waits behind `depth` others, in the first cells of a free node.
-pub(crate) fn lay(own: &mut [u16], depth: usize, what: u16, one: u16, two: u16)
+pub(crate) fn lay(
+    own: &mut [u16],
+    depth: usize,
+    what: u16,
+    one: u16,
+    two: u16,
+    least: u16,
+    place: u16,
+)
     requires { ⌜ nodeCells * depth + nodeCells ≤ length (now own) ⌝ }
-    ensures { λ _. ⌜ Laid (now (own .entry)) (now (own .exit)) depth what one two ⌝ }
+    ensures { λ _. ⌜ Laid (now (own .entry)) (now (own .exit)) depth what one two least place ⌝ }
 {
     let at = sizes::NODE_CELLS * depth;
     own[at] = what;
     own[at + 1] = one;
     own[at + 2] = two;
+    own[at + 3] = least;
+    own[at + 4] = place;
 }
 
 // Takes the last free node, and says how many are then left. No node has attributes.

@@ -18,7 +18,7 @@ ghost use Rattle.tree.specs.Sizes.{nodeCells};
 ghost use Rattle.token_grammar.specs.Tokens.{Name, code};
 ghost use Rattle.token_grammar.specs.Codes.{codeAt};
 ghost use Rattle.token_reader.specs.Pieces.{many, Ready, TypeAt, SignAt};
-ghost use Rattle.token_reader.specs.Waiting.{whatAt, Stays, Laid, pieceOf, Turnable, waitsFor, Wanted, Took, Listed, Turned};
+ghost use Rattle.token_reader.specs.Waiting.{whatAt, Stays, Laid, pieceOf, Able, Turnable, waitsFor, Wanted, Took, Taken, Listed, Turned};
 ghost use Rattle.token_reader.specs.Waiting as waiting;
 
 // What is done next: a type that starts here is read,
@@ -71,9 +71,9 @@ fn failed(tokens: &[u16]) -> Typing
 // A type that starts at `at` is wanted by what waits from now on.
 fn wait(own: &mut [u16], s: Typing, what: u16, one: u16, two: u16, at: usize) -> Typing
     requires { ⌜ nodeCells * s .depth + nodeCells ≤ length (now own) ⌝ }
-    ensures { λ r. ⌜ Laid (now (own .entry)) (now (own .exit)) (s .depth) what one two × (r ≡ waitsFor s at) ⌝ }
+    ensures { λ r. ⌜ Laid (now (own .entry)) (now (own .exit)) (s .depth) what one two 0 0 × (r ≡ waitsFor s at) ⌝ }
 {
-    lay(own, s.depth, what, one, two);
+    lay(own, s.depth, what, one, two, 0, 0);
     Typing {
         at: at,
         depth: s.depth + 1,
@@ -85,7 +85,7 @@ fn wait(own: &mut [u16], s: Typing, what: u16, one: u16, two: u16, at: usize) ->
 
 // A type of one token: Infer or Never.
 fn sign(tokens: &[u16], own: &mut [u16], s: Typing, form: u16) -> Typing
-    requires { ⌜ Turnable (now tokens) (now own) s × (s .at < many (now tokens)) ⌝ }
+    requires { ⌜ Able (now tokens) (now own) s × (s .at < many (now tokens)) ⌝ }
     ensures { λ r. ⌜ SignAt (now (tokens .entry)) (now (own .entry)) (now (own .exit)) (s .at) (s .free) form (pieceOf r) × Stays (now (own .entry)) (now (own .exit)) (s .depth) × (r .at ≡ s .at + 1) × (r .depth ≡ s .depth) × (r .mode ≡ waiting.READ) ⌝ }
 {
     let free = store(own, s.free, form, 0, 0, 0, 0);
@@ -94,7 +94,7 @@ fn sign(tokens: &[u16], own: &mut [u16], s: Typing, form: u16) -> Typing
 
 // A path, whose name stands here.
 fn path(tokens: &[u16], own: &mut [u16], s: Typing) -> Typing
-    requires { ⌜ Turnable (now tokens) (now own) s × (codeAt (now tokens) (s .at) ≡ code (Name 0)) ⌝ }
+    requires { ⌜ Able (now tokens) (now own) s × (codeAt (now tokens) (s .at) ≡ code (Name 0)) ⌝ }
     ensures { λ r. ⌜ Wanted (now (tokens .entry)) (now (own .entry)) (now (own .exit)) s r ⌝ }
 {
     if code_at(tokens, s.at + 1) != codes::LT {
@@ -111,7 +111,7 @@ fn path(tokens: &[u16], own: &mut [u16], s: Typing) -> Typing
 
 // The type that starts here, or one that waits for what is behind its first tokens.
 fn want(tokens: &[u16], own: &mut [u16], s: Typing) -> Typing
-    requires { ⌜ Turnable (now tokens) (now own) s ⌝ }
+    requires { ⌜ Able (now tokens) (now own) s ⌝ }
     ensures { λ r. ⌜ Wanted (now (tokens .entry)) (now (own .entry)) (now (own .exit)) s r ⌝ }
 {
     let next = s.at + 1;
@@ -143,7 +143,7 @@ fn pop(s: Typing, mode: u16, free: u16, named: bool) -> Typing
 
 // Behind an item of a list: the sign that closes it, or another item.
 fn after_item(tokens: &[u16], own: &mut [u16], s: Typing) -> Typing
-    requires { ⌜ Turnable (now tokens) (now own) s × (1 ≤ s .depth) × (whatAt (now own) (s .depth - 1) ≡ waiting.POINTER → ⊥) ⌝ }
+    requires { ⌜ Able (now tokens) (now own) s × (1 ≤ s .depth) × (whatAt (now own) (s .depth - 1) ≡ waiting.POINTER → ⊥) ⌝ }
     ensures { λ r. ⌜ Took (now (tokens .entry)) (now (own .entry)) (now (own .exit)) s r ⌝ }
 {
     let end = past_comma(tokens, s.at, codes::GT);
@@ -164,14 +164,14 @@ fn after_item(tokens: &[u16], own: &mut [u16], s: Typing) -> Typing
 }
 
 // The type that was read is taken by what waits for it.
-fn take(tokens: &[u16], own: &mut [u16], s: Typing) -> Typing
-    requires { ⌜ Turnable (now tokens) (now own) s ⌝ }
-    ensures { λ r. ⌜ Took (now (tokens .entry)) (now (own .entry)) (now (own .exit)) s r ⌝ }
+fn take(tokens: &[u16], own: &mut [u16], base: usize, s: Typing) -> Typing
+    requires { ⌜ Turnable (now tokens) (now own) base s ⌝ }
+    ensures { λ r. ⌜ Taken (now (tokens .entry)) (now (own .entry)) (now (own .exit)) base s r ⌝ }
 {
-    if s.depth == 0 {
+    if s.depth == base {
         return Typing {
             at: s.at,
-            depth: 0,
+            depth: s.depth,
             mode: ENDED,
             free: s.free,
             named: s.named,
@@ -189,7 +189,7 @@ fn take(tokens: &[u16], own: &mut [u16], s: Typing) -> Typing
 
 // The list that was read is taken by the item before it, or by the path.
 fn close(tokens: &[u16], own: &mut [u16], s: Typing) -> Typing
-    requires { ⌜ Turnable (now tokens) (now own) s × (1 ≤ s .depth) ⌝ }
+    requires { ⌜ Able (now tokens) (now own) s × (1 ≤ s .depth) ⌝ }
     ensures { λ r. ⌜ Listed (now (tokens .entry)) (now (own .entry)) (now (own .exit)) s r ⌝ }
 {
     let top = sizes::NODE_CELLS * (s.depth - 1);
@@ -202,33 +202,33 @@ fn close(tokens: &[u16], own: &mut [u16], s: Typing) -> Typing
     pop(s, READ, free, false)
 }
 
-fn turn(tokens: &[u16], own: &mut [u16], s: Typing) -> Typing
-    requires { ⌜ Turnable (now tokens) (now own) s ⌝ }
-    ensures { λ r. ⌜ Turned (now (tokens .entry)) (now (own .entry)) (now (own .exit)) s r ⌝ }
+fn turn(tokens: &[u16], own: &mut [u16], base: usize, s: Typing) -> Typing
+    requires { ⌜ Turnable (now tokens) (now own) base s ⌝ }
+    ensures { λ r. ⌜ Turned (now (tokens .entry)) (now (own .entry)) (now (own .exit)) base s r ⌝ }
 {
     if s.mode == WANTED {
         return want(tokens, own, s);
     }
     if s.mode == READ {
-        return take(tokens, own, s);
+        return take(tokens, own, base, s);
     }
     close(tokens, own, s)
 }
 
-// The type that starts at `at`.
-pub(crate) fn ty(tokens: &[u16], own: &mut [u16], at: usize, free: u16) -> Piece
-    requires { ⌜ Ready (now tokens) (now own) at free ⌝ }
-    ensures { λ r. ⌜ TypeAt (now (tokens .entry)) (now (own .entry)) (now (own .exit)) at free r ⌝ }
+// The type that starts at `at`; `base` others wait already.
+pub(crate) fn ty(tokens: &[u16], own: &mut [u16], base: usize, at: usize, free: u16) -> Piece
+    requires { ⌜ Ready (now tokens) (now own) at free × (base + many (now tokens) ≤ at + free) ⌝ }
+    ensures { λ r. ⌜ TypeAt (now (tokens .entry)) (now (own .entry)) (now (own .exit)) at free r × Stays (now (own .entry)) (now (own .exit)) base ⌝ }
 {
     let mut s = Typing {
         at: at,
-        depth: 0,
+        depth: base,
         mode: WANTED,
         free: free,
         named: false,
     };
     while s.mode != ENDED {
-        s = turn(tokens, own, s);
+        s = turn(tokens, own, base, s);
     }
     Piece {
         at: s.at,

@@ -37,7 +37,7 @@ returns-3 : tie.Need-returns-3
 returns-3 c =
     let s = c .before .before .before .before .before .before .before in
     let f = c .failed .ensures in
-    unclosed _ (s .pre .1) (s .pre .2) (c .before .before .before .before .past-comma .ensures) (λ z. c .before .before .if1 .left (c .before .before .before .code-at .ensures ∙ z)) (λ z. c .before .if2 .left (c .before .before .before .code-at .ensures ∙ z)) (f .0) (f .1) (f .2)
+    unclosed _ (s .pre .1) (s .pre .2) (c .before .before .before .before .past-comma .ensures) (λ z. c .before .before .if1 .left (c .before .before .before .code-at .ensures ∙ z)) (λ z. c .before .if2 .left (c .before .before .before .code-at .ensures ∙ z)) (f .0) (f .1) (f .2) refl
 
 pub after-item-spec : {M : Type 1} → statement M
 after-item-spec =

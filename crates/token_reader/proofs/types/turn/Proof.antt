@@ -11,7 +11,7 @@ returns-2 : tie.Need-returns-2
 returns-2 c = taking (c .before .before .before .before .if2 .taken) (c .before .before .take .ensures)
 
 close-requires : tie.Need-close-requires
-close-requires c κs = let s = c .before .before .before .before .before .before .before in (s .pre, s .pre .listed (c .before .before .before .if1 .left) (c .before .if2 .left))
+close-requires c κs = let s = c .before .before .before .before .before .before .before in (s .pre .able, s .pre .listed (c .before .before .before .if1 .left) (c .before .if2 .left))
 
 returns-3 : tie.Need-returns-3
 returns-3 c = listing (c .before .before .before .before .before .before .if1 .left) (c .before .before .before .before .if2 .left) (c .before .before .close .ensures)

@@ -93,7 +93,7 @@ returns-8 : tie.Need-returns-8
 returns-8 c =
     let s = c .before .before .before .before .before .before in
     let f = c .failed .ensures in
-    absent (sym (ap (λ n. typeStartBy n (tokenSymbolAt (s .args .tokens .now) (s .args .s .at))) (c .before .before .code-at .ensures)) ∙ rest (typeStartLines (tokenSymbolAt (s .args .tokens .now) (s .args .s .at))) noType _ (c .before .match .rest)) (f .0) (f .1) (f .2)
+    absent (sym (ap (λ n. typeStartBy n (tokenSymbolAt (s .args .tokens .now) (s .args .s .at))) (c .before .before .code-at .ensures)) ∙ rest (typeStartLines (tokenSymbolAt (s .args .tokens .now) (s .args .s .at))) noType _ (c .before .match .rest)) (f .0) (f .1) (f .2) refl
 
 pub want-spec : {M : Type 1} → statement M
 want-spec =
