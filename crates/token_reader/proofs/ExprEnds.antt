@@ -94,8 +94,10 @@ module _ {tokens own now : List ℕ} {at free : ℕ} (ready : Ready tokens own a
   pub atom-stored : {form left : ℕ} {r : Parsed} → at < many tokens → Stored own now free left form 0 0 0 (tokenSymbolAt tokens at) → Postfix (at + 1) left r → AtomAt tokens own now at free form r
   atom-stored {form} {left} {r} h s x =
       record {
+        to = x .to;
         past = omega (arith, x .to);
         grew = grew-strong x at free (grew-node at (at + 1) (omega arith) (omega arith) (grew-none own at free at (omega arith)) s);
+        below = λ j q. s .below j (omega (arith, x .left));
         tells = λ y e. tells-strong x tokens (IsExpr now r) (atom y) (omega arith) (is-strong x now (atom y) refl refl refl (placed none none (atomLabel y) s e (ready .most) refl refl));
       }
 
@@ -342,9 +344,6 @@ module _ {c : Context} {tokens own mid now : List ℕ} {at free least : ℕ} (re
       let k = under-there h in
       ready-grew (left .at) (omega arith) h (ready-grew (first .at) (omega arith) k ready (i .grew k)) (u .grew k h)
 
-  pub under-past : left .at ≤ many tokens → at < left .at
-  under-past h = let k = under-there h in omega (arith, i .past k, u .grew k h .upto)
-
   pub under-step : {next : List ℕ} (more : Parsed) → 1 ≤ least → goesOnWith least (left .level) (left .named) (left .dotted) (codeAt tokens (left .at)) ≡ true → left .at ≤ many tokens →
       StepAt c tokens now next left more → Under c tokens mid next least first more
   under-step {next} more l p h s =
@@ -367,14 +366,6 @@ module _ {c : Context} {tokens own mid now : List ℕ} {at free least : ℕ} (re
           let e = u .none (omega arith) in
           subst (λ z. ExprAt c tokens own z at free least left) (sym (e .1))
           (subst (λ z. ExprAt c tokens own mid at free least z) (sym (e .0)) (expr-none ready (omega arith) i))
-
--- with each form there are fewer tokens left
-pub step-less : {c : Context} {tokens own now : List ℕ} (left more : Parsed) → left .at < many tokens → StepAt c tokens own now left more → many tokens + 1 - more .at < many tokens + 1 - left .at
-step-less {c} {tokens} left more h i = go (decLe (more .at) (many tokens))
-  where
-    go : Dec (more .at ≤ many tokens) → many tokens + 1 - more .at < many tokens + 1 - left .at
-    go (yes q) = omega (arith, i .past q)
-    go (no q) = omega arith
 
 -- ---- the forms
 
@@ -479,8 +470,10 @@ module _ {tokens own now : List ℕ} (left : Parsed) (ready : Ready tokens own (
   pub try-stored : {left₂ : ℕ} {r : Parsed} → left .at < many tokens → Stored own now (left .free) left₂ ExprTry 0 (left .free + 1) 0 0 → Postfix (left .at + 1) left₂ r → TryAt tokens own now left r
   try-stored {left₂} {r} h s x =
       record {
+        to = x .to;
         past = omega (arith, x .to);
         grew = grew-strong x (left .at) (left .free) (grew-node (left .at) (left .at + 1) (omega arith) (omega arith) (grew-none own (left .at) (left .free) (left .at) (omega arith)) s);
+        below = λ j q. s .below j (omega (arith, x .left));
         tells = λ e y.
             tells-strong x tokens (IsExpr now r) (try e) (omega arith)
             (is-strong x now (try e) refl refl refl (placed (treeOf (bare e)) none (label ExprTry 0) s refl (ready .most) (y .placed) refl));
@@ -490,8 +483,10 @@ module _ {tokens own now : List ℕ} (left : Parsed) (ready : Ready tokens own (
       MemberAt tokens own now left form detail dotted (record { at = left .at + 2; free = left₂; level = level postfixes; named = false; dotted = dotted })
   member-stored {form} {detail} {left₂} {dotted} h s =
       record {
+        to = refl;
         past = omega arith;
         grew = grew-node (left .at) (left .at + 2) (omega arith) (omega arith) (grew-none own (left .at) (left .free) (left .at) (omega arith)) s;
+        below = λ j q. s .below j q;
         tells = λ e y m l d. (
           omega arith,
           refl,

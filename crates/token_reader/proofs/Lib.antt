@@ -13,3 +13,4 @@ pub mod Whole
 pub mod Numbers
 pub mod Function
 pub mod TypeTurns
+pub mod ExprTurns

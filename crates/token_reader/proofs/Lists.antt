@@ -70,10 +70,6 @@ module _ (tokens : List ℕ) (at : ℕ) {to : ℕ} (close : Token) (other : code
   pub closed-past : codeAt tokens to ≡ code close → (at ≤ to) × (to < many tokens)
   closed-past e = (past-least, there tokens to (code close) e (code-below close))
 
-  -- the item ends before the list does
-  pub closed-there : codeAt tokens to ≡ code close → at < many tokens
-  closed-there e = omega (arith, closed-past e .0, closed-past e .1)
-
   pub comma-there : codeAt tokens to ≡ code Comma → at < many tokens
   comma-there e = there tokens at (code Comma) (past-stays e) (omega arith)
 

@@ -53,6 +53,3 @@ ready-grew to₂ h k r g =
 
 pub stores : {tokens own now : List ℕ} {at free begun to left : ℕ} → Ready tokens own at free → Grew own now begun free to left → at + to < begun + many tokens → (1 ≤ left) × (nodeCells * left ≤ length now)
 stores r w h = (omega (arith, r .room, r .short, w .room), omega (arith, r .cells, r .most, w .less, w .same))
-
-pub stores-more : {tokens own now now₂ : List ℕ} {at free to left to₂ left₂ : ℕ} → Ready tokens own at free → Grew own now at free to left → to < many tokens → Grew now now₂ (to + 1) left to₂ left₂ → to₂ ≤ many tokens → (1 ≤ left₂) × (nodeCells * left₂ ≤ length now₂)
-stores-more {tokens} {own} {now} {now₂} {at} {free} {to} r w h v k = stores (ready-grew to (omega arith) (omega arith) r w) v (omega arith)

@@ -2,12 +2,11 @@
 use mathlib.Core.Path.{_≡_, refl, sym, subst, ap, _∙_}
 use mathlib.Core.Bool.{Bool, false}
 use mathlib.Core.List.{List, [], _∷_}
-use Prim.Native.Nat.{ℕ, zero, suc, _+_, _*_, _-_, _≤_, _<_}
+use Prim.Native.Nat.{ℕ, _+_, _*_, _-_, _≤_, _<_}
 use native.Mathlib.Omega.{arith}
 use native.Mathlib.Decide.{decLe}
 use lib.ListN.{length, getD}
 use Rattle.tree.specs.Sizes.{nodeCells}
-use Rattle.tree.specs.Forms.{TypePath, Link}
 use Rattle.token_grammar.specs.Tokens.{Lt, Gt, number, operator, Comma, code}
 use Rattle.token_grammar.specs.Codes.{codeAt, tokenSymbolAt}
 use Rattle.token_grammar.specs.Types.{TypePrefix}
@@ -16,8 +15,8 @@ use Rattle.token_plain.specs.Trees.{label, typePrefixLabel}
 use Rattle.token_reader.specs.declared.piece.Piece.{Piece}
 use Rattle.token_reader.specs.declared.piece.Typing.{Typing}
 use Rattle.token_reader.specs.Tables.{pastComma}
-use Rattle.token_reader.specs.Pieces.{many, Kept, Stored, Ready, Grew, TypeAt, TypesAt}
-use Rattle.token_reader.specs.Waiting.{WANTED, READ, LISTED, ENDED, POINTER, PATH, ITEM, whatAt, oneAt, twoAt, Laid, Stays, pieceOf, Able, Turnable, waitsFor, Wanted, absent, whole, points, applies, Took, pointed, last, another, unclosed, Taken, all, part, Listed, more, applied, Turned, wanting, taking, listing}
+use Rattle.token_reader.specs.Pieces.{many, Kept, Stored, Ready, TypeAt, TypesAt}
+use Rattle.token_reader.specs.Waiting.{WANTED, READ, LISTED, ENDED, POINTER, PATH, ITEM, whatAt, oneAt, twoAt, Laid, Stays, pieceOf, Able, Turnable, Wanted, absent, whole, points, applies, Took, pointed, last, another, unclosed, Taken, all, part, Listed, more, applied, Turned, wanting, taking, listing}
 use Rattle.token_reader.proofs.First.{there, past-tokens}
 use Rattle.token_reader.proofs.Lists.{closed-past, comma-there, passed-none}
 use Rattle.token_reader.proofs.Tells.{ready-on, ready-grew}
@@ -355,7 +354,7 @@ module _ {tokens own now : List ℕ} {base : ℕ} {s : Typing} (able : Able toke
 lists-above : {tokens own₀ own : List ℕ} {base at₀ free₀ : ℕ} {s : Typing} → On tokens own₀ base at₀ free₀ own s → (s .mode ≡ ENDED → ⊥) → (s .mode ≡ WANTED → ⊥) → (s .mode ≡ READ → ⊥) → base < s .depth
 lists-above (wanted ws l h w b m) n p q = absurd (p m)
 lists-above (read ws o a f l h w b t k m) n p q = absurd (q m)
-lists-above (listed ws o a f l h w b t k m i) n p q = let j = lists-wait _ _ _ _ _ ws i in omega arith
+lists-above {tokens} {own₀} {own} {base} {at₀} {free₀} (listed ws o a f l h w b t k m i) n p q = let j = lists-wait tokens own₀ base at₀ free₀ ws i in omega arith
 lists-above (ended t m) n p q = absurd (n m)
 
 pub on-stays : {tokens own₀ own now : List ℕ} {base at₀ free₀ : ℕ} {s r : Typing} → On tokens own₀ base at₀ free₀ own s → (s .mode ≡ ENDED → ⊥) → Turned tokens own now base s r → Stays own now base

@@ -3,3 +3,4 @@ pub mod Tables
 pub mod Pieces
 pub mod Mirrored
 pub mod Waiting
+pub mod Turns

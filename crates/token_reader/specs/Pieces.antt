@@ -154,8 +154,10 @@ pub record ArgumentsAt (tokens own now : List ℕ) (at free : ℕ) (r : Piece) :
 -- ---- what an expression begins with
 
 pub record AtomAt (tokens own now : List ℕ) (at free form : ℕ) (r : Parsed) : Type 0 where
+  pub to : r .at ≡ at + 1
   pub past : at < r .at
   pub grew : Grew own now at free (r .at) (r .free)
+  pub below : (j : ℕ) → j < nodeCells * r .free → getD now j 0 ≡ getD own j 0
   pub tells : (x : Atom) → labelWith form 0 (tokenSymbolAt tokens at) ≡ atomLabel x → Tells (IsExpr now r) tokens (r .at) (ok (atom x) (from tokens (at + 1)))
 
 abbrev pub prefixBy : Context → ℕ → Prefix → List Token → Out (Expr one)
@@ -256,13 +258,17 @@ pub record IndexAt (tokens own now : List ℕ) (left r : Parsed) : Type 0 where
   pub tells : (e : Expr one) → IsExpr own left e → (g : ℕ) → Enough tokens (left .at) 0 g → Tells (IsExpr now r) tokens (r .at) (indexBy g e (from tokens (left .at + 1)))
 
 pub record TryAt (tokens own now : List ℕ) (left r : Parsed) : Type 0 where
+  pub to : r .at ≡ left .at + 1
   pub past : left .at < r .at
   pub grew : Grew own now (left .at) (left .free) (r .at) (r .free)
+  pub below : (j : ℕ) → j < nodeCells * r .free → getD now j 0 ≡ getD own j 0
   pub tells : (e : Expr one) → IsExpr own left e → Tells (IsExpr now r) tokens (r .at) (ok (try e) (from tokens (left .at + 1)))
 
 pub record MemberAt (tokens own now : List ℕ) (left : Parsed) (form detail : ℕ) (dotted : Bool) (r : Parsed) : Type 0 where
+  pub to : r .at ≡ left .at + 2
   pub past : left .at < r .at
   pub grew : Grew own now (left .at) (left .free) (r .at) (r .free)
+  pub below : (j : ℕ) → j < nodeCells * r .free → getD now j 0 ≡ getD own j 0
   pub tells : (e : Expr one) → IsExpr own left e → (m : Member) → labelWith form detail (tokenSymbolAt tokens (left .at + 1)) ≡ memberLabel m → dotted ≡ isByName m →
       Tells (IsExpr now r) tokens (r .at) (ok (member m e) (from tokens (left .at + 2)))
 

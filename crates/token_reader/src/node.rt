@@ -9,6 +9,16 @@ ghost use Rattle.token_grammar.specs.Codes.{tokenSymbolAt};
 ghost use Rattle.token_reader.specs.Pieces.{Stored};
 ghost use Rattle.token_reader.specs.Waiting.{Laid};
 
+// The cells of what waits, behind the one that says what it is: two numbers of its own, the lowest level of its expression,
+// and whether that stands in a condition.
+pub(crate) const ONE: usize = 1;
+
+pub(crate) const TWO: usize = 2;
+
+pub(crate) const LEAST: usize = 3;
+
+pub(crate) const PLACE: usize = 4;
+
 // What waits behind `depth` others, in the first cells of a free node.
 pub(crate) fn lay(
     own: &mut [u16],
@@ -24,10 +34,10 @@ pub(crate) fn lay(
 {
     let at = sizes::NODE_CELLS * depth;
     own[at] = what;
-    own[at + 1] = one;
-    own[at + 2] = two;
-    own[at + 3] = least;
-    own[at + 4] = place;
+    own[at + ONE] = one;
+    own[at + TWO] = two;
+    own[at + LEAST] = least;
+    own[at + PLACE] = place;
 }
 
 // Takes the last free node, and says how many are then left. No node has attributes.

@@ -37,15 +37,18 @@ pub struct Parsed {
     pub dotted: bool,
 }
 
-// No type or list stands there.
-pub fn no_piece(tokens: &[u16]) -> Piece
-    ensures { λ r. ⌜ r .at ≡ many (now (tokens .entry)) + 1 ⌝ }
-{
-    Piece {
-        at: tokens.len() / sizes::TOKEN_CELLS + 1,
-        free: 0,
-        named: false,
-    }
+// Where the reader of expressions stands.
+pub struct Reading {
+    // What was read of the expression, or where one starts.
+    pub left: Parsed,
+    // How many wait.
+    pub depth: usize,
+    // What is done next.
+    pub mode: u16,
+    // The lowest level that the expression may have.
+    pub least: u16,
+    // Whether it stands in a condition outside every parenthesis, bracket and list.
+    pub condition: bool,
 }
 
 // No expression stands there.

@@ -1,5 +1,7 @@
 // Types and their lists, turn by turn. What waits for a type lies in the reader's own table, in the first of its nodes that
 // are free: there are more of them than types that wait, since each of these has read a token of its own.
+use crate::node::ONE;
+use crate::node::TWO;
 use crate::node::lay;
 use crate::node::store;
 use crate::node::store_named;
@@ -181,8 +183,8 @@ fn take(tokens: &[u16], own: &mut [u16], base: usize, s: Typing) -> Typing
     if own[top] != POINTER {
         return after_item(tokens, own, s);
     }
-    let form = own[top + 1];
-    let detail = own[top + 2];
+    let form = own[top + ONE];
+    let detail = own[top + TWO];
     let free = store(own, s.free, form, detail, s.free + 1, 0, 0);
     pop(s, READ, free, s.named)
 }
@@ -193,7 +195,7 @@ fn close(tokens: &[u16], own: &mut [u16], s: Typing) -> Typing
     ensures { λ r. ⌜ Listed (now (tokens .entry)) (now (own .entry)) (now (own .exit)) s r ⌝ }
 {
     let top = sizes::NODE_CELLS * (s.depth - 1);
-    let one = own[top + 1];
+    let one = own[top + ONE];
     if own[top] == ITEM {
         let free = store(own, s.free, forms::LINK, 0, one, s.free + 1, 0);
         return pop(s, LISTED, free, false);

@@ -2,7 +2,7 @@
 use mathlib.Core.Path.{refl, sym, _∙_}
 use native.Mathlib.Omega.{arith}
 use borrow.Author.Needs.{needs}
-use Rattle.token_grammar.specs.Tokens.{Gt, operator, Comma, code}
+use Rattle.token_grammar.specs.Tokens.{Gt, operator}
 use Rattle.token_reader.specs.Waiting.{last, another, unclosed}
 use Rattle.token_reader.proofs.Lists.{closed-past, comma-there}
 use Rattle.token_reader.proofs.types.after_item.Statement.{statement}
