@@ -93,7 +93,6 @@ ALLOWED = [
     ('nodes', 'spines/src/*', '', 'a row as one number'),
     ('levels', 'tree_one_pass/*', r'row / 128 % 8', 'a part of a number that holds a row of the table of forms'),
     ('levels', 'row_pack/*', '', 'the weight of a flag'),
-    ('levels', 'row/* row_walk/*', r'/ 256 % 128|flags % 128|128 \* bitOf begins', 'the weight of a flag'),
     ('a node', 'text/* parens/* tokens/* reading/*', '', 'the most bytes of a number with its space'),
     ('bytes', '*/proofs/*', r'65536 - |count < 65536', 'what a loop counts down from: all numbers of two bytes'),
     ('bytes', 'answers/*', r'65536 \*|joined 65536', 'a refusal or a value as a part of one number'),

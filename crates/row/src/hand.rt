@@ -9,13 +9,18 @@ ghost use Prim.Native.Nat.{_/_, _%_};
 ghost use Rattle.tree.specs.Trees.{treeAt};
 ghost use Rattle.fixup.specs.Fixup.{parenthesize};
 ghost use Rattle.row_pack.specs.Packs.{unpackedOf};
-ghost use Rattle.row.specs.Hands.{groupBit, handOf};
+ghost use Rattle.row.specs.Hands.{groupBit, handOf, isQuiet};
 
 // The contexts that eighteen bits hold: the rank stands above them.
 pub const CONTEXTS: u32 = 262_144;
 
 // The bit of a group.
 pub const GROUPED: u32 = 4_194_304;
+
+// The weight of a context's flags, and the numbers that the seven of them have which parenthesize looks at, or an owner moves about.
+const FLAGS: u32 = 256;
+
+const SEVEN_FLAGS: u32 = 128;
 
 pub fn hand_of(handed: Handed) -> u32
     ensures { λ r. ⌜ r ≡ handOf handed ⌝ }
@@ -35,11 +40,11 @@ pub(crate) fn is_grouped(hand: u32) -> bool
     hand / GROUPED % 2 == 1
 }
 
-// Whether a context that is packed has none of the seven flags that parenthesize looks at, or that an owner moves about.
+// Whether a context that is packed has none of the seven.
 pub fn is_quiet(context: u32) -> bool
-    ensures { λ r. ⌜ r ≡ eqb (context / 256 % 128) 0 ⌝ }
+    ensures { λ r. ⌜ r ≡ isQuiet (unpackedOf context) ⌝ }
 {
-    context / 256 % 128 == 0
+    context / FLAGS % SEVEN_FLAGS == 0
 }
 
 // parenthesize in a context that is packed.

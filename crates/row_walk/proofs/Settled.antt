@@ -35,7 +35,7 @@ use Rattle.row_pack.specs.Packs.{packedOf, unpackedOf}
 use Rattle.row_pack.proofs.Cells.{rank-of, flags-of}
 use Rattle.row_pack.proofs.Packs.{none-packed}
 use Rattle.row.specs.Closed.{closedForms, isClosed}
-use Rattle.row.specs.Hands.{contextNumbers, handOf}
+use Rattle.row.specs.Hands.{contextNumbers, handOf, isQuiet}
 use Rattle.row.proofs.Closed.{closed-key, closed-effective, closed-left, closed-right}
 use Rattle.row.proofs.Quiet.{Quiet, quiet}
 use Rattle.row_walk.specs.Settled.{settledIn, flagsBefore, settledNumber, leftNumber, rightNumber}
@@ -128,18 +128,18 @@ module _ (own : ℕ) where
   unfolding unpackedOf
   own-flags = flags-of (own % 16) (own / 16 % 16) (own / 256 % 1024) (omega arith)
 
-module _ (own : ℕ) (q : own / 256 % 128 ≡ 0) where
+module _ (own : ℕ) (q : isQuiet (unpackedOf own) ≡ true) where
   left-hand : (begins generics : Bool) (level : Precedence) → leftNumber own (flagsBefore begins generics) level ≡ handOf (settledIn (withOperator (unpackedOf own) begins generics level))
   unfolding packedOf
   left-hand begins generics level =
-      sym (settled-hand _ ∙ rw (left-flags (unpackedOf own) (quiet own q) begins generics level, previous-rank own))
+      sym (settled-hand _ ∙ rw (left-flags (unpackedOf own) (quiet (unpackedOf own) q) begins generics level, previous-rank own))
 
   right-hand : (level : Precedence) → rightNumber own level ≡ handOf (settledIn (rightmost (unpackedOf own) false false level))
   unfolding packedOf
   right-hand level =
       let d : own / 16 / 16 ≡ own / 256 = omega arith in
       let e = rw d at (digits (own / 16)) in
-      sym (settled-hand _ ∙ rw (right-flags (unpackedOf own) (quiet own q) level, next-rank own, own-flags own) (omega arith))
+      sym (settled-hand _ ∙ rw (right-flags (unpackedOf own) (quiet (unpackedOf own) q) level, next-rank own, own-flags own) (omega arith))
 
   module _ (a : Tree) (closed : isClosed a ≡ true) (f : Precedence → Bool) (free : f Unambiguous ≡ false) where
     pub left-grouped : (begins generics : Bool) (level : Precedence) → leftNumber own (flagsBefore begins generics) level ≡ handOf (groupedBy (leftmostWithOperator (unpackedOf own) a begins generics level) f)
@@ -147,7 +147,7 @@ module _ (own : ℕ) (q : own / 256 % 128 ≡ 0) where
     left-grouped begins generics level = left-hand begins generics level ∙ rw (closed-left a closed (withOperator (unpackedOf own) begins generics level), free)
 
     pub dot-grouped : leftNumber own (flagsBefore false false) Unambiguous ≡ handOf (groupedBy (leftmostWithDot (unpackedOf own) a) f)
-    dot-grouped = left-grouped false false Unambiguous ∙ ap (λ (y : FixupContext). handOf (groupedBy (record { precedence = leftmostPrecedence a y; fixup = y }) f)) (sym (dotted (unpackedOf own) (quiet own q)))
+    dot-grouped = left-grouped false false Unambiguous ∙ ap (λ (y : FixupContext). handOf (groupedBy (record { precedence = leftmostPrecedence a y; fixup = y }) f)) (sym (dotted (unpackedOf own) (quiet (unpackedOf own) q)))
 
     pub right-grouped : (level : Precedence) → rankOf level < 15 → rightNumber own level ≡ handOf (groupedBy (rightmostOperand (unpackedOf own) a level) f)
     unfolding groupedBy

@@ -1,6 +1,6 @@
 -- The hands of closed operands in quiet contexts, as numbers. Nothing here is to be believed.
 use mathlib.Core.Bool.{Bool, false}
-use Prim.Native.Nat.{ℕ, _+_, _*_, _/_, _%_}
+use Prim.Native.Nat.{ℕ, _+_, _*_, _/_, _%_, _^_}
 use Rattle.bools.specs.Bits.{bitOf}
 use Rattle.precedence.specs.declared.Precedence.{Precedence}
 use Rattle.precedence.specs.declared.Precedence.the-variants.{Unambiguous}
@@ -13,9 +13,9 @@ use Rattle.row.specs.Hands.{contextNumbers}
 abbrev pub settledIn : FixupContext → Handed
 settledIn x = record { precedence = Unambiguous; fixup = x; «needs_group» = false }
 
--- the flags of what stands before an operator
+-- the flags of what stands before an operator, bits 7 to 9: it can begin an expression, it goes on with one, it can begin generic arguments
 abbrev pub flagsBefore : Bool → Bool → ℕ
-flagsBefore begins generics = 128 * bitOf begins + 256 + 512 * bitOf generics
+flagsBefore begins generics = 2 ^ 7 * bitOf begins + 2 ^ 8 + 2 ^ 9 * bitOf generics
 
 -- in NONE
 abbrev pub settledNumber : ℕ

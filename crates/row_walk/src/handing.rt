@@ -25,7 +25,7 @@ ghost use Rattle.expr.specs.Expr.{canBeginExpr, canBeginGenerics, callNeedsGrou
 ghost use Rattle.expr.specs.Steps.{givenFirst, givenSecond};
 ghost use Rattle.row_pack.specs.Packs.{unpackedOf};
 ghost use Rattle.row.specs.Closed.{isClosed};
-ghost use Rattle.row.specs.Hands.{handOf};
+ghost use Rattle.row.specs.Hands.{handOf, isQuiet};
 ghost use Rattle.row_walk.specs.Settled.{flagsBefore, leftNumber, rightNumber};
 
 // The hand of what is Unambiguous, in NONE.
@@ -70,7 +70,7 @@ fn right_hand(own: u32, level: Precedence) -> u32
 
 // What is called, if it is closed and no Field; 0 for a Field.
 fn callee_hand(own: u32, table: &[u16], count: u16, func: u16) -> u32
-    requires { ⌜ (own / 256 % 128 ≡ 0) × (isClosed (treeAt (now table) count func) ≡ true) ⌝ }
+    requires { ⌜ (isQuiet (unpackedOf own) ≡ true) × (isClosed (treeAt (now table) count func) ≡ true) ⌝ }
     ensures { λ r. ⌜ ((r ≡ 0 → ⊥) → (order : CalleeOrder) → r ≡ handOf (groupedBy (leftmostWithOperator (unpackedOf own) (treeAt (now (table .entry)) count func) true false Unambiguous) (callNeedsGroup order (treeAt (now (table .entry)) count func)))) ⌝ }
 {
     match form_at(table, count, func) {
@@ -81,7 +81,7 @@ fn callee_hand(own: u32, table: &[u16], count: u16, func: u16) -> u32
 
 // What a node hands to a closed operand at its first place, in a quiet context; 0 where it takes more to say it.
 fn closed_first(own: u32, table: &[u16], count: u16, node: u16, operand: u16) -> u32
-    requires { ⌜ (own / 256 % 128 ≡ 0) × (isClosed (treeAt (now table) count operand) ≡ true) ⌝ }
+    requires { ⌜ (isQuiet (unpackedOf own) ≡ true) × (isClosed (treeAt (now table) count operand) ≡ true) ⌝ }
     ensures { λ r. ⌜ ((r ≡ 0 → ⊥) → (order : CalleeOrder) → r ≡ handOf (givenFirst order (unpackedOf own) (treeAt (now (table .entry)) count node) (treeAt (now (table .entry)) count operand))) ⌝ }
 {
     match form_at(table, count, node) {
@@ -106,7 +106,7 @@ fn closed_first(own: u32, table: &[u16], count: u16, node: u16, operand: u16) ->
 
 // The same at its second place.
 fn closed_second(own: u32, table: &[u16], count: u16, node: u16, operand: u16) -> u32
-    requires { ⌜ (own / 256 % 128 ≡ 0) × (isClosed (treeAt (now table) count operand) ≡ true) ⌝ }
+    requires { ⌜ (isQuiet (unpackedOf own) ≡ true) × (isClosed (treeAt (now table) count operand) ≡ true) ⌝ }
     ensures { λ r. ⌜ ((r ≡ 0 → ⊥) → r ≡ handOf (givenSecond (unpackedOf own) (treeAt (now (table .entry)) count node) (treeAt (now (table .entry)) count operand))) ⌝ }
 {
     match form_at(table, count, node) {
@@ -124,7 +124,7 @@ fn closed_second(own: u32, table: &[u16], count: u16, node: u16, operand: u16) -
 
 // Whether an operand is closed, and its owner's context quiet.
 fn is_settled(own: u32, table: &[u16], count: u16, operand: u16) -> bool
-    ensures { λ r. ⌜ (r ≡ true → (own / 256 % 128 ≡ 0) × (isClosed (treeAt (now (table .entry)) count operand) ≡ true)) ⌝ }
+    ensures { λ r. ⌜ (r ≡ true → (isQuiet (unpackedOf own) ≡ true) × (isClosed (treeAt (now (table .entry)) count operand) ≡ true)) ⌝ }
 {
     if is_quiet(own) {
         is_closed(table, count, operand)

@@ -1,6 +1,5 @@
 -- `row::hand::is_parenthesized` meets its contract. Assumes nothing.
 use mathlib.Core.Path.{sym, ap, _∙_}
-use borrow.Author.Tests.{eqb-true}
 use Rattle.laws.proofs.Calls.{free}
 use Rattle.tree.specs.Trees.{treeAt}
 use Rattle.fixup.specs.declared.context.FixupContext.{FixupContext}
@@ -12,7 +11,7 @@ use Rattle.row.proofs.hand.is_parenthesized.Tie as tie
 returns : tie.Need-returns
 returns c =
     let a = c .before .before .before .args in
-    sym (no-parentheses _ (quiet (a .context) (eqb-true _ _ (sym (c .before .is-quiet .ensures) ∙ c .if1 .taken))) (treeAt (a .table .now) (a .count) (a .node)))
+    sym (no-parentheses _ (quiet _ (sym (c .before .is-quiet .ensures) ∙ c .if1 .taken)) (treeAt (a .table .now) (a .count) (a .node)))
 
 returns-2 : tie.Need-returns-2
 returns-2 c =
