@@ -8,7 +8,12 @@ begins from a copy of that folder, so that only what the edit reaches is checked
 
 - the crate is still proved with it, or it does not reach the prover,
 - its old text is not in its file, or is there more than once,
-- the prover refuses it only because a proof no longer fits the code's shape ('has no Need'), not because a fact fails.
+- all its errors say that a proof no longer fits the code's shape ('has no Need'), so that no fact is seen to fail.
+
+Where a proof fails, each proof that leans on it has an error too ('was not admitted'). An edit whose other errors all say
+that a proof does not fit ('has no Need', 'has no field', a need that is not the one of its place) does not fail here, but
+is told by a line 'shape alone: NAME/LABEL', and counted before the last line: no log of such an edit shows that a fact
+fails. Reword it so that the code keeps its calls and tests.
 
 Logs are target/wrong/NAME/LABEL.log. Seconds are those of the processor. Before the last line, which counts ('N wrong
 programs refused, M failed'), a line a crate says what its check and its wrong programs took, the dearest first."""
@@ -24,7 +29,10 @@ from pathlib import Path
 ROOT = Path(__file__).resolve().parent.parent
 TARGET = ROOT / "target"
 PARTS = ("src", "specs", "proofs")
-SHAPE = "has no Need"  # what the prover says where a proof does not fit the code
+NO_NEED = "has no Need"
+# What the prover says where a proof does not fit the code; the last where an argument of `tie.spec` is one of another need.
+SHAPES = (NO_NEED, "has no field", "expected type `tie.Need-")
+FOLLOWS = "was not admitted"  # and what it says of a proof that leans on one that failed
 
 
 class BadEdit(Exception):
@@ -111,18 +119,24 @@ def make(edit, folder):
         raise BadEdit("it has no 'old:' and 'new:' pair")
 
 
+def of_shape(errors):
+    """Whether all errors that do not follow from others say that a proof does not fit the code."""
+    own = [said for _, said in errors if FOLLOWS not in said]
+    return bool(own) and all(any(shape in said for shape in SHAPES) for said in own)
+
+
 def judged(status, text):
-    """What is wrong with a refusal by this log, or None, and where its first error is."""
+    """What is wrong with a refusal by this log, or None, whether it is one of shape, and where its first error is."""
     errors = re.findall(r"^(\S+): error: (.*(?:\n {2}.*)*)", text, re.M)
     notes = re.findall(r"^note: (\S+:\d+:\d+):", text, re.M)
     first = errors[0][0] if errors else notes[0] if notes else ""
     if status == 0:
-        return "NOT REFUSED: the crate is still proved with this edit", first
+        return "NOT REFUSED: the crate is still proved with this edit", False, first
     if status != 1 or not re.search(r"^logic=not-proved", text, re.M):
-        return f"BAD EDIT: it did not reach the prover (exit {status})", first
-    if errors and all(SHAPE in said for _, said in errors):
-        return f"BAD EDIT: refused by the proof's shape alone ('{SHAPE}')", first
-    return None, first
+        return f"BAD EDIT: it did not reach the prover (exit {status})", False, first
+    if errors and all(NO_NEED in said for _, said in errors):
+        return f"BAD EDIT: refused by the proof's shape alone ('{NO_NEED}')", True, first
+    return None, of_shape(errors), first
 
 
 def warm(prover, name):
@@ -135,10 +149,11 @@ def warm(prover, name):
 
 
 def tried(prover, name, edit):
-    """Tries one edit: what is wrong, or None, the seconds, and what to print."""
+    """Tries one edit: what is wrong, or None, whether it is refused by shape alone, the seconds, and what to print."""
     folder = TARGET / "wrong" / name / edit.stem
     log = folder.with_suffix(".log")
     seconds = 0.0
+    shape = False
     shutil.rmtree(folder, ignore_errors=True)
     kept = folder / "kept"
     try:
@@ -149,14 +164,15 @@ def tried(prover, name, edit):
         # The prover writes each file of what it keeps anew, so that links serve as a copy.
         shutil.copytree(TARGET / "inc" / name, kept, copy_function=os.link)
         status, seconds = prover.check(name, folder, kept, log)
-        wrong, first = judged(status, log.read_text(errors="replace"))
+        wrong, shape, first = judged(status, log.read_text(errors="replace"))
         where = f"first at {first.removeprefix(str(folder) + '/')}; " if first else ""
-        said = f"{wrong or 'refused, as it must be'} ({where}{seconds:.1f} s)"
+        refused = "refused by the proof's shape alone" if shape else "refused, as it must be"
+        said = f"{wrong or refused} ({where}{seconds:.1f} s)"
     except BadEdit as bad:
         wrong = said = f"BAD EDIT: {bad}"
     finally:
         shutil.rmtree(folder, ignore_errors=True)
-    return wrong, seconds, f"wrong program {name}/{edit.stem}: {said}"
+    return wrong, shape, seconds, f"wrong program {name}/{edit.stem}: {said}"
 
 
 def chosen(crates, words):
@@ -191,6 +207,7 @@ def main():
     edits = chosen(crates, given.names)
     prover = Prover(crates)
     failed = []
+    shaped = []
     spent = {name: [] for name in edits}
     with ThreadPoolExecutor(given.jobs) as pool:
         stands = dict(zip(edits, pool.map(lambda name: warm(prover, name), edits)))
@@ -202,12 +219,17 @@ def main():
                 for name in edits if stands[name][0] for edit in edits[name]}
         for run in as_completed(runs):
             name, edit = runs[run]
-            wrong, seconds, said = run.result()
+            wrong, shape, seconds, said = run.result()
             print(said, flush=True)
             spent[name].append(seconds)
             if wrong:
                 failed.append(f"{name}/{edit.stem}")
+            elif shape:
+                shaped.append(f"{name}/{edit.stem}")
     costs({name: seconds for name, (_, seconds) in stands.items()}, spent)
+    for name in sorted(shaped):
+        print(f"shape alone: {name}")
+    print(f"refused by the proof's shape alone: {len(shaped)}")
     for name in failed:
         print(f"failed: {name}")
     print(f"{len(runs) - sum('/' in name for name in failed)} wrong programs refused, {len(failed)} failed")
