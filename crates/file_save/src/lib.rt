@@ -120,7 +120,7 @@ fn put_all(file: &mut [u8], from: usize, numbers: &[u16]) -> usize
 
 // ---- files
 
-// Whether so many bytes are too few for a context, a count and the numbers of the nodes. They are counted only where three for each might be too many, and also three for each that takes more than one.
+// Whether so many bytes are too few for a context, a count and the numbers of the nodes. They are counted only where room for three a number is not certain, nor room for three for each number of 128 and above and one for each other.
 fn is_short(context: u16, count: u16, numbers: &[u16], room: usize) -> bool
     ensures { λ r. ⌜ r ≡ ltb room (length (allBytes (context ∷ count ∷ now (numbers .entry)))) ⌝ }
 {
