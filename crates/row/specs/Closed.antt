@@ -1,4 +1,4 @@
--- Expressions whose precedence their form gives, in every context.
+-- precedence.rs, `Precedence::of`: the forms of the arm that ends in prefix_attrs, and Verbatim, are Unambiguous without outer attributes; fixup.rs's `precedence` changes that for none of them (`closed-effective` in proofs/Closed). A Closure, which prefix_attrs answers where it has an output, is none of these.
 use mathlib.Core.Bool.{Bool, false, not}
 use mathlib.Core.List.{List, [], _∷_}
 use Prim.Native.Nat.{ℕ}
