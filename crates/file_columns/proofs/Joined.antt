@@ -1,20 +1,12 @@
 -- Lists one after the other. Assumes nothing.
-use mathlib.Core.Path.{_≡_, refl}
-use mathlib.Core.List.{List, [], _++_}
-use Prim.Native.Nat.{ℕ, zero, suc, _+_, _*_}
+use mathlib.Core.Path.{_≡_}
+use mathlib.Core.List.{List}
+use Prim.Native.Nat.{ℕ, zero, suc, _*_}
 use native.Mathlib.Omega.{arith}
 use lib.ListN.{length, length-append}
 use Rattle.laws.specs.Puts.{Put}
 use Rattle.laws.proofs.Putting.{put-none, put-more}
 use Rattle.file_columns.specs.Columns.{joined}
-
-pub join-none : (g : ℕ → List ℕ) → joined g 0 ≡ []
-unfolding joined
-join-none g = refl
-
-pub join-more : (g : ℕ → List ℕ) (n : ℕ) → joined g (suc n) ≡ joined g n ++ g n
-unfolding joined
-join-more g n = refl
 
 -- put one after the other
 pub join-put-none : (g : ℕ → List ℕ) (before : List ℕ) (at : ℕ) → Put before at (joined g 0) before at

@@ -1,10 +1,10 @@
 -- The numbers of a file in the lent table, node by node. Assumes nothing.
-use mathlib.Core.Path.{_≡_, refl, sym, ap, _∙_}
+use mathlib.Core.Path.{_≡_, refl, sym, _∙_}
 use mathlib.Core.Bool.{Bool, true, false}
 use mathlib.Core.List.{List, [], _∷_}
-use Prim.Native.Nat.{ℕ, suc, _+_, _*_, _-_, _≤_, _<_}
+use Prim.Native.Nat.{ℕ, _+_, _*_, _-_, _≤_, _<_}
 use native.Mathlib.Omega.{arith}
-use native.Mathlib.Decide.{decLe, decLt}
+use native.Mathlib.Decide.{decLe}
 use native.Mathlib.Numerals.{towards-suc}
 use lib.ListN.{length, getD, set, drop, length-set}
 use Rattle.laws.specs.Lists.{over}
@@ -18,7 +18,7 @@ use Rattle.tree_source.proofs.Nodes.{is-value}
 use Rattle.file_numbers.specs.declared.Number.the-variants.{Malformed, Value}
 use Rattle.file_numbers.specs.Numbers.{malformed}
 use Rattle.file_numbers.specs.Standing.{standsAt}
-use Rattle.file_numbers.proofs.Groups.{nothing-left, one-byte, cut-after-one, zero-second, two-bytes, cut-after-two, zero-third, high-third, three-bytes}
+use Rattle.file_numbers.proofs.Groups.{nothing-left, cut-after-one, zero-second, two-bytes, cut-after-two, zero-third, high-third, three-bytes}
 use Rattle.file_loader.specs.Several.{Numbers, broken, numbers, numbersOf, isBroken, valuesIn}
 use Rattle.file_loader.specs.Reads.{StoredNode}
 use Rattle.file_loader.proofs.Several.{ReadTo, number-bad, numbers-stop, numbers-append, numbers-break, numbers-length, not-broken}

@@ -10,10 +10,6 @@ use Rattle.file_save.specs.declared.Room.the-variants.{Short, Left}
 abbrev pub nodeBytes : ℕ
 nodeBytes = 10
 
--- and of its header: one for the context, two for the count
-abbrev pub headerBytes : ℕ
-headerBytes = 3
-
 -- what bytes leave of so many
 abbrev pub Leaves : List ℕ → ℕ → Room → Type 0
 Leaves bytes room Short = room < length bytes

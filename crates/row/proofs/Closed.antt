@@ -1,21 +1,21 @@
 -- A closed expression without outer attributes is Unambiguous, whatever its context. Assumes nothing.
-use mathlib.Core.Path.{_≡_, refl, sym, ap, _∙_}
+use mathlib.Core.Path.{_≡_, refl, sym, _∙_}
 use mathlib.Core.Bool.{Bool, true, false, not, _&&_, _||_}
 use mathlib.Core.List.{List}
-use Prim.Native.Nat.{ℕ, _<_}
+use Prim.Native.Nat.{_<_}
 use native.Mathlib.Omega.{arith}
 use lib.Dec.{T, eqb}
 use mir.Val.{hasKey}
 use borrow.Author.Tests.{le-ltb, lt-leb, not-true}
 use Rattle.laws.specs.Choice.{pick, Line, lookup}
-use Rattle.laws.proofs.Choice.{pick-true, pick-false, true-not-false}
+use Rattle.laws.proofs.Choice.{pick-false, true-not-false}
 use Rattle.laws.proofs.Keys.{apartFrom, not-found}
 use Rattle.tree.specs.Forms.{ExprVerbatim, anExpression, classOf}
 use Rattle.tree.specs.Trees.{Label, Tree, none, node}
 use Rattle.tree.specs.Walks.{atRoot, answer, walk, follow}
 use Rattle.fixup_look.specs.Looks.{isBareJump, isOpenAhead, isCastToPath}
 use Rattle.precedence.specs.declared.Precedence.{Precedence}
-use Rattle.precedence.specs.declared.Precedence.the-variants.{Jump, Assign, Let, Prefix, Unambiguous}
+use Rattle.precedence.specs.declared.Precedence.the-variants.{Assign, Let, Prefix, Unambiguous}
 use Rattle.precedence.specs.Precedences.{rankOf, same, prefixAttrs, ofLines, closedBy, precedenceOf}
 use Rattle.fixup.specs.declared.context.FixupContext.{FixupContext}
 use Rattle.fixup.specs.Fixup.{effective}

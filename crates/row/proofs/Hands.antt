@@ -1,5 +1,5 @@
 -- What an owner hands down comes back from its number. Assumes nothing.
-use mathlib.Core.Path.{_≡_, refl, sym, ap, _∙_}
+use mathlib.Core.Path.{_≡_, refl, sym, _∙_}
 use mathlib.Core.Bool.{Bool, true, false}
 use Prim.Native.Nat.{ℕ, _+_, _*_, _/_, _%_, _≤_, _<_}
 use native.Mathlib.Omega.{arith}
@@ -9,7 +9,6 @@ use Rattle.precedence.specs.Precedences.{rankOf}
 use Rattle.fixup.specs.declared.context.FixupContext.{FixupContext}
 use Rattle.expr.specs.declared.Handed.{Handed}
 use Rattle.row_pack.specs.FromCells.{ofRank, contextOf}
-use Rattle.row_pack.specs.Cells.{flagsOf}
 use Rattle.row_pack.specs.Packs.{packedOf, unpackedOf}
 use Rattle.row_pack.proofs.Cells.{of-rank, rank-bound, rank-of, flags-bound, flags-of}
 use Rattle.row_pack.proofs.Packs.{unpacks, packs}

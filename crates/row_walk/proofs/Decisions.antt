@@ -7,7 +7,7 @@ use Prim.Native.Nat.{ℕ, _≤_}
 use native.Mathlib.Omega.{arith}
 use native.Mathlib.Decide.{decLe}
 use lib.Dec.{T, eqb}
-use borrow.Author.Tests.{eq-eqb, ne-eqb, le-leb}
+use borrow.Author.Tests.{ne-eqb, le-leb}
 use Rattle.laws.specs.Choice.{Line, pick, lookup}
 use Rattle.laws.proofs.Choice.{pick-true, pick-false, true-not-false}
 use Rattle.laws.proofs.Keys.{apartFrom, not-found, linesBelow, past-rows}
@@ -22,7 +22,7 @@ use Rattle.fixup.specs.Contexts.{NONE}
 use Rattle.expr.specs.declared.Handed.{Handed}
 use Rattle.expr.specs.declared.order.CalleeOrder.{CalleeOrder}
 use Rattle.expr.specs.Handed.{ungrouped, neither}
-use Rattle.expr.specs.Expr.{firstLines, handsFirst, secondLines, handsSecond}
+use Rattle.expr.specs.Expr.{firstLines, handsFirst}
 use Rattle.row.specs.Rows.{outerPair, expressionRow, zeros, isExpression, rowOf, ownContext, rowsOf}
 use Rattle.row.specs.Steps.{alone}
 use Rattle.row.proofs.Decisions.{no-outer}
@@ -78,19 +78,12 @@ first-node : (order : CalleeOrder) (x : FixupContext) (l : Label) (a b : Tree) �
 unfolding handsFirst firstLines
 first-node order x l a b e = sym (other-row (firstLines order x l a) (alone a) (l .form) tt tt (other-form (l .form) e))
 
-second-node : (x : FixupContext) (l : Label) (a b : Tree) → isExpression (node l a b) ≡ false → alone b ≡ handsSecond x (node l a b)
-unfolding handsSecond secondLines
-second-node x l a b e = sym (other-row (secondLines x l b) (alone b) (l .form) tt tt (other-form (l .form) e))
-
 module _ (x : FixupContext) (cells : List ℕ) (count i : ℕ) (low : 1 ≤ i) (high : i ≤ count) (e : isExpression (treeAt cells count i) ≡ false) where
   unfolded : treeAt cells count i ≡ node (labelAt cells i) (treeAt cells count (operandAt cells count i firstColumn)) (treeAt cells count (operandAt cells count i secondColumn))
   unfolded = unfolds cells count i low high
 
   pub first-other : (order : CalleeOrder) → alone (treeAt cells count (operandAt cells count i firstColumn)) ≡ handsFirst order x (treeAt cells count i)
   first-other order = first-node order x _ _ _ (sym (ap isExpression unfolded) ∙ e) ∙ ap (handsFirst order x) (sym unfolded)
-
-  pub second-other : alone (treeAt cells count (operandAt cells count i secondColumn)) ≡ handsSecond x (treeAt cells count i)
-  second-other = second-node x _ _ _ (sym (ap isExpression unfolded) ∙ e) ∙ ap (handsSecond x) (sym unfolded)
 
 -- what is handed to a type or a link does not matter
 pub rows-other : (order : CalleeOrder) (h : Handed) (t : Tree) → isExpression t ≡ false → rowsOf order (alone t) t ≡ rowsOf order h t
@@ -108,14 +101,6 @@ class-is cells count i = go (decLe 1 i) (decLe i count)
     go (yes h) (yes k) = rw (form-in cells count i h k, unfolds cells count i h k)
     go (yes h) (no k) = rw (form-none cells count i (omega arith), tree-past cells count i (omega arith))
     go (no h) d = let z : i ≡ 0 = omega arith in rw (form-none cells count i (omega arith), z, tree-zero cells count)
-
--- and by its class, as the walk asks for it
-module _ (cells : List ℕ) (count i : ℕ) {form class : ℕ} (f : form ≡ formIn cells count i) (k : class ≡ classOf form) where
-  pub is-expression : class ≡ anExpression → isExpression (treeAt cells count i) ≡ true
-  is-expression e = sym (class-is cells count i) ∙ rw (← f, ← k) (eq-eqb _ _ e)
-
-  pub is-other : (class ≡ anExpression → ⊥) → isExpression (treeAt cells count i) ≡ false
-  is-other e = sym (class-is cells count i) ∙ rw (← f, ← k) (ne-eqb _ _ e)
 
 -- an expression is a node of the table
 pub there : (cells : List ℕ) (count i : ℕ) → isExpression (treeAt cells count i) ≡ true → (1 ≤ i) × (i ≤ count)

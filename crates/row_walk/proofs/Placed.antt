@@ -5,7 +5,7 @@ use Prim.Native.Nat.{ℕ, _≤_}
 use lib.ListN.{length, length-set}
 use Rattle.tree.specs.Table.{firstColumn, secondColumn}
 use Rattle.tree.specs.Trees.{none, operandAt, treeAt}
-use Rattle.tree.proofs.Unfold.{unfolds, tree-zero}
+use Rattle.tree.proofs.Unfold.{unfolds}
 use Rattle.expr.specs.declared.Handed.{Handed}
 use Rattle.expr.specs.declared.order.CalleeOrder.{CalleeOrder}
 use Rattle.expr.specs.Expr.{handsFirst, handsSecond}
@@ -41,7 +41,3 @@ module _ (order : CalleeOrder) (cells : List ℕ) (count i : ℕ) (h : Handed) (
       (rowStored i (rowOf h (treeAt cells count i)) into))
   unfolding placed rowsOf
   placed-node low high = rw (unfolds cells count i low high)
-
-  -- an operand that is absent
-  pub placed-absent : i ≡ 0 → placed cells count i (rowsOf order h (treeAt cells count i)) into ≡ into
-  placed-absent e = placed-none (rw e (tree-zero cells count))

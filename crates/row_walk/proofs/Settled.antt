@@ -1,26 +1,25 @@
 -- What a closed operand gets in a quiet context, as a number. Assumes nothing.
 use mathlib.Core.Path.{_≡_, refl, sym, ap, _∙_}
-use mathlib.Core.Bool.{Bool, true, false, _&&_, _||_}
+use mathlib.Core.Bool.{Bool, true, false}
 use mathlib.Core.List.{List, [], _∷_}
 use Prim.Native.Nat.{ℕ, _+_, _*_, _/_, _%_, _≤_, _<_}
 use native.Mathlib.Omega.{arith}
 use native.Mathlib.Decide.{decLe}
-use lib.Dec.{T, eqb}
+use lib.Dec.{eqb}
 use mir.Val.{hasKey}
 use borrow.Author.Tests.{eqb-true}
-use Rattle.bools.specs.Bits.{bitOf}
 use Rattle.laws.specs.Choice.{pick, Line, line, lookup}
-use Rattle.laws.proofs.Choice.{true-of, true-not-false}
+use Rattle.laws.proofs.Choice.{true-of}
 use Rattle.laws.proofs.Each.{all-at}
 use Rattle.laws.proofs.Keys.{Give, apart, past-rows}
 use Rattle.tree.specs.Forms.{ExprField, ExprGroup}
 use Rattle.tree.specs.Trees.{Tree, none, node}
-use Rattle.tree.specs.Walks.{answer, first, atRoot, follow, walk}
+use Rattle.tree.specs.Walks.{atRoot, follow, walk}
 use Rattle.precedence.specs.declared.Precedence.{Precedence}
 use Rattle.precedence.specs.declared.Precedence.the-variants.{Jump, Unambiguous}
 use Rattle.precedence.specs.declared.Lean.the-variants.{Left}
 use Rattle.precedence.specs.declared.Binding.{Binding}
-use Rattle.precedence.specs.Precedences.{rankOf, below, binding, operators, binopBinding}
+use Rattle.precedence.specs.Precedences.{rankOf, binding, operators, binopBinding}
 use Rattle.fixup.specs.declared.context.FixupContext.{FixupContext}
 use Rattle.fixup.specs.Contexts.{NONE, withOperator, withDot, rightmost}
 use Rattle.fixup_scan.specs.Scans.{leftmostPrecedence}
@@ -35,7 +34,7 @@ use Rattle.row_pack.specs.Packs.{packedOf, unpackedOf}
 use Rattle.row_pack.proofs.Cells.{rank-of, flags-of}
 use Rattle.row_pack.proofs.Packs.{none-packed}
 use Rattle.row.specs.Closed.{closedForms, isClosed}
-use Rattle.row.specs.Hands.{contextNumbers, handOf, isQuiet}
+use Rattle.row.specs.Hands.{handOf, isQuiet}
 use Rattle.row.proofs.Closed.{closed-key, closed-effective, closed-left, closed-right}
 use Rattle.row.proofs.Quiet.{Quiet, quiet}
 use Rattle.row_walk.specs.Settled.{settledIn, flagsBefore, settledNumber, leftNumber, rightNumber}

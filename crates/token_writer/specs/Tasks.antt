@@ -145,7 +145,3 @@ rootIn context = place 0 false (eqb context (contextNumber CONDITION))
 -- as many tasks as may wait while a tree of so many nodes is written
 abbrev pub tasksFor : ℕ → ℕ
 tasksFor nodes = 1 + 4 * nodes
-
--- trees of at most so many nodes get a small stack
-abbrev pub fewNodes : ℕ
-fewNodes = 64

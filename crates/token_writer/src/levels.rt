@@ -19,7 +19,7 @@ ghost use Rattle.token_grammar.specs.Tokens.{operatorOf};
 ghost use Rattle.token_grammar.specs.Levels.{assignments, comparisons, prefixes, kind, level, lowest};
 ghost use Rattle.token_grammar.specs.Grammar.{opensArguments};
 ghost use Rattle.token_grammar.specs.Bounds.{highest};
-ghost use Rattle.token_writer.specs.Levels.{opening, place, lowestIn, opensIn, conditionIn, closed, strengthLines, needs, firstLines, secondLines};
+ghost use Rattle.token_writer.specs.Levels.{opening, place, opensIn, conditionIn, closed, strengthLines, needs, firstLines, secondLines};
 
 // The levels, under the names that the definitions give them (token_grammar/specs/Levels.antt).
 const ASSIGNMENTS: u16 = 1;

@@ -39,7 +39,6 @@ ghost use Rattle.laws.specs.Puts.{Put};
 ghost use Rattle.tree.specs.Sizes.{nodeCells, tokenCells, mostNodes, mostTokens};
 ghost use Rattle.tree.specs.Forms.{ExprBinary, Link};
 ghost use Rattle.tree.specs.Table.{cellAt, formAt, firstAt, secondAt, symbolAt};
-ghost use Rattle.tree_rules.specs.Refusals.{refusal};
 ghost use Rattle.token_writer.specs.declared.Written.the-variants.{Tokens};
 ghost use Rattle.token_writer.specs.Puts.{spelled, symbolOn, cellsWith};
 ghost use Rattle.token_writer.specs.Tasks.{taskOf, betweenTask, behindTask, lastTask, codeTask, cellsBy, pairsAt, signCells, taskCells, enterWork, taskWork, laid, laidThree, waiting, Turned, TurnedOnly, rootIn, tasksFor};

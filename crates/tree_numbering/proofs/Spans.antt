@@ -44,12 +44,6 @@ module _ (context count : ℕ) (cells : List ℕ) (ok : Accepted context count c
       each (suc j) p q = absurd (let r = q (omega arith) in omega arith)
 
   module _ (n : ℕ) (xs : List ℕ) (m : Measured cells count n xs) (i : ℕ) (low : 1 ≤ i) (high : i ≤ count) (past : n ≤ i) where
-    pub first-cell : firstAt cells i < length xs
-    first-cell = let f = first-most context count cells ok i low high in let r = m .room in omega arith
-
-    pub second-cell : secondAt cells i < length xs
-    second-cell = let f = second-most context count cells ok i low high in let r = m .room in omega arith
-
     pub first-span : getD xs (firstAt cells i) 0 ≡ size (treeAt cells count (firstAt cells i))
     first-span = m .at (firstAt cells i) (first-most context count cells ok i low high) (λ h. let w = first-above context count cells ok i low high h in omega arith)
 

@@ -13,7 +13,7 @@ use borrow.Author.Tests.{eqb-false, eq-eqb, ne-eqb, lt-ltb, le-ltb, lt-leb, not-
 use Rattle.laws.specs.Choice.{pick, lookup}
 use Rattle.laws.specs.Each.{some}
 use Rattle.laws.proofs.Choice.{pick-true, pick-false, and-true}
-use Rattle.tree.specs.Sizes.{nodeCells, mostNodes, mostLevels}
+use Rattle.tree.specs.Sizes.{nodeCells, mostNodes}
 use Rattle.tree_places.specs.declared.place.Place.{Place}
 use Rattle.tree_places.specs.declared.place.Place.the-variants.{Nothing, Required, Optional, List as ListOf, Item, Next}
 use Rattle.tree.specs.Forms.{aLink, classOf, allowed}

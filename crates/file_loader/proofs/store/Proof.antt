@@ -2,8 +2,6 @@
 use mathlib.Core.Path.{_≡_}
 use Prim.Native.Nat.{_-_, _≤_}
 use native.Mathlib.Omega.{arith}
-use borrow.Author.Needs.{needs}
-use Rattle.tree.specs.Sizes.{nodeCells}
 use Rattle.file_loader.proofs.Storing.{StoredTo, stored-none, next-formed, stored-more, stored-all}
 use Rattle.file_loader.proofs.store.Statement.{statement}
 use Rattle.file_loader.proofs.store.Tie as tie

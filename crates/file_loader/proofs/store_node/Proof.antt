@@ -1,10 +1,7 @@
 -- `file_loader::store_node` meets its contract. Assumes nothing.
-use mathlib.Core.Path.{_∙_}
 use native.Mathlib.Omega.{arith}
 use lib.ListN.{length-set}
 use Rattle.tree.specs.Sizes.{nodeCells}
-use Rattle.tree_source.specs.Source.{run}
-use Rattle.tree_source.proofs.Nodes.{is-value}
 use Rattle.file_loader.proofs.Several.{read-none, read-next}
 use Rattle.file_loader.proofs.Storing.{still-formed, put-node}
 use borrow.Author.Needs.{needs}

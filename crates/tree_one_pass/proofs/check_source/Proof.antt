@@ -2,7 +2,6 @@
 use mathlib.Core.Path.{sym, _∙_}
 use borrow.Author.Needs.{needs}
 use borrow.Author.Tests.{lt-ltb, le-ltb}
-use Rattle.laws.specs.Choice.{pick}
 use Rattle.laws.proofs.Calls.{free}
 use Rattle.laws.proofs.Choice.{pick-true, pick-false}
 use Rattle.tree_one_pass.specs.Marks.{byLevels}

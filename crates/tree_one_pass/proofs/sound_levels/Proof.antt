@@ -1,5 +1,5 @@
 -- `tree_one_pass::sound_levels` meets its contract. The loop's invariant: the nodes above the one that it has come to break no rule, and the array holds the marks of those that no owner has taken yet. Assumes nothing.
-use mathlib.Core.Path.{_≡_, refl, sym, _∙_}
+use mathlib.Core.Path.{_≡_, refl, _∙_}
 use Prim.Native.Nat.{_≤_}
 use native.Mathlib.Omega.{arith}
 use borrow.Author.Needs.{needs}

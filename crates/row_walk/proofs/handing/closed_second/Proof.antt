@@ -1,17 +1,14 @@
 -- `row_walk::handing::closed_second` meets its contract. Assumes nothing.
-use mathlib.Core.Path.{_≡_, refl, ap, _∙_}
-use mathlib.Core.Bool.{Bool, true, false}
-use Prim.Native.Nat.{ℕ}
+use mathlib.Core.Path.{refl, ap, _∙_}
 use native.Mathlib.Omega.{arith}
-use borrow.Author.Needs.{needs}
 use Rattle.laws.proofs.Calls.{free}
 use Rattle.tree.specs.Table.{detailAt}
 use Rattle.tree.specs.Trees.{labelAt, treeAt}
 use Rattle.tree.proofs.Matches.{root-arm}
 use Rattle.precedence.specs.declared.Precedence.{Precedence}
-use Rattle.precedence.specs.declared.Precedence.the-variants.{Assign, Range, Cast, Prefix, Unambiguous}
-use Rattle.precedence.specs.declared.Lean.the-variants.{Right, Neither}
-use Rattle.precedence.specs.Precedences.{below, binopBinding, ofBinop}
+use Rattle.precedence.specs.declared.Precedence.the-variants.{Assign}
+use Rattle.precedence.specs.declared.Lean.the-variants.{Right}
+use Rattle.precedence.specs.Precedences.{binopBinding, ofBinop}
 use Rattle.fixup.specs.Contexts.{NONE}
 use Rattle.expr.specs.Handed.{neither}
 use Rattle.expr.specs.Expr.{rightNeedsGroup, binaryRight, secondLines}
