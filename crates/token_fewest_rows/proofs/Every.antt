@@ -15,8 +15,8 @@ use Rattle.tree_rules.specs.Refusals.{Accepted}
 use Rattle.row_walk.specs.Paths.{Branch, first, second, numberAt, treeBy}
 use Rattle.row_walk.proofs.Paths.{there-at, one-path, reached}
 use Rattle.token_grammar.specs.Tokens.{Token, operator, Lt, Gt, As, Name, Dot, LeftParen, RightParen, LeftBracket, RightBracket, Comma, Question, cellsOf}
-use Rattle.token_grammar.specs.Types.{Sort, one, list, items, Ty, named, applied, pointing, sign, noTypes, types, lastType, moreTypes, typePrefixToken, typeSignToken, writeType}
-use Rattle.token_grammar.specs.Expressions.{Expr, atom, paren, prefix, binary, cast, member, try, index, call, method, noArguments, arguments, lastArgument, moreArguments, atomToken, prefixToken, memberToken, write}
+use Rattle.token_grammar.specs.Types.{Sort, one, list, items, Ty, named, applied, pointing, sign, noTypes, types, lastType, moreTypes, typePrefixToken, writeType}
+use Rattle.token_grammar.specs.Expressions.{Expr, atom, paren, prefix, binary, cast, member, try, index, call, method, noArguments, arguments, lastArgument, moreArguments, prefixToken, memberToken, write}
 use Rattle.token_grammar.specs.Grammar.{NONE, contextNumber}
 use Rattle.token_grammar.specs.Commas.{withoutTypeCommas, withoutCommas, CommasPut, ended}
 use Rattle.token_grammar.specs.Bare.{bare}
