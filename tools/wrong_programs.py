@@ -31,6 +31,7 @@ PARTS = ("src", "specs", "proofs")
 # What the prover says where a proof does not fit the code; the last two where an argument of `spec` is one of another need.
 SHAPES = re.compile(r"has no `Need-|has no field|expected type `[\w·-]+\.Need-|this λ has \d+ binders")
 FOLLOWS = "was not admitted"  # and what it says of a proof that leans on one that failed
+UNPROVED = re.compile(r"^note: \S+: it is not proved that", re.M)  # and of a fact of a function that has no proof file
 
 
 class BadEdit(Exception):
@@ -132,7 +133,7 @@ def judged(status, text):
         return "NOT REFUSED: the crate is still proved with this edit", False, first
     if status != 1 or not re.search(r"^logic=not-proved", text, re.M):
         return f"BAD EDIT: it did not reach the prover (exit {status})", False, first
-    return None, of_shape(errors), first
+    return None, not UNPROVED.search(text) and of_shape(errors), first
 
 
 def warm(prover, name):
