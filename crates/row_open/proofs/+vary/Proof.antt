@@ -1,15 +1,15 @@
 -- `row_open::vary` meets its contract: each call is for one entry less. The loop keeps what the cells will hold when the operators that are left have been tried. Assumes nothing.
 use mathlib.Core.Path.{_≡_, refl, sym, ap, _∙_}
 use mathlib.Core.Bool.{true}
-use mathlib.Core.List.{List}
-use Prim.Native.Nat.{ℕ, suc, _+_, _*_, _-_, _≤_, _<_}
+use Prim.Native.Nat.{ℕ, suc, _*_, _-_, _≤_, _<_}
 use native.Mathlib.Omega.{arith}
 use borrow.Author.Needs.{needs}
 use borrow.Fn.PlainCycle.{Measures}
 use lib.ListN.{length, getD, set, length-set}
 use lib.Seq.{set-set, set-getD}
-use Rattle.laws.proofs.Calls.{free, given-at, given-below}
-use Rattle.row_open.specs.Open.{entriesIn}
+use Rattle.laws.proofs.Calls.{given-at, given-below}
+use Rattle.tree.specs.Sizes.{nodeCells}
+use Rattle.row_open.specs.Open.{entriesIn, lastBinary}
 use Rattle.row_open.specs.Steps.{isNew, news, sweep, varied}
 use Rattle.row_open.proofs.Entries.{last-within, others-within, less-room}
 use Rattle.row_open.proofs.Shallow.{shallow-put}
@@ -72,94 +72,53 @@ sub-others t c = omega arith
 entry-at-requires : (t : ℕ) → vary-lts.Need-entry-at-requires (claims t) (given-at 4 vary-kinds.ps μ-vary vary.Pre t) vary.Post Inv-loop μ-loop
 entry-at-requires t c κs = omega (arith, c .before .before .before .before .before .pre .1 .0 .entries, c .if1 .left)
 
-operator-place-requires : (t : ℕ) → vary-lts.Need-operator-place-requires (claims t) (given-at 4 vary-kinds.ps μ-vary vary.Pre t) vary.Post Inv-loop μ-loop
-operator-place-requires t c κs =
+-- the last entry's node has its cells in the table
+last : (t : ℕ) (c : vary-lts.After-entry-at (claims t) (given-at 4 vary-kinds.ps μ-vary vary.Pre t) vary.Post Inv-loop μ-loop) → let a = c .before .before .before .before .before .before .args in let e = c .entry-at .result in
+    (1 ≤ e .node) × (nodeCells * e .node ≤ length (a .table .now)) × (e .highest ≤ lastBinary)
+last t c =
     let s = c .before .before .before .before .before .before in
-    let a = s .args in
-    let n : 0 < a .entered = omega (arith, c .before .if1 .left) in
-    let e = c .entry-at .ensures in
-    let w = last-within (a .entries .now) (a .entered) n (s .pre .1 .1) _ e in
-    w .0
+    last-within (s .args .entries .now) (s .args .entered) (omega (arith, c .before .if1 .left)) (s .pre .1 .1) _ (c .entry-at .ensures)
+
+operator-place-requires : (t : ℕ) → vary-lts.Need-operator-place-requires (claims t) (given-at 4 vary-kinds.ps μ-vary vary.Pre t) vary.Post Inv-loop μ-loop
+operator-place-requires t c κs = last t c .0
+
+-- so has its operator
+inside : (t : ℕ) (c : vary-lts.After-operator-place (claims t) (given-at 4 vary-kinds.ps μ-vary vary.Pre t) vary.Post Inv-loop μ-loop) → c .operator-place .result < length (c .before .before .before .before .before .before .before .args .table .now)
+inside t c = let w = last t (c .before) in omega (arith, c .operator-place .ensures, w .0, w .1)
 
 mul-own : (t : ℕ) → vary-lts.Need-mul-own (claims t) (given-at 4 vary-kinds.ps μ-vary vary.Pre t) vary.Post Inv-loop μ-loop
-mul-own t c =
-    let s = c .before .before .before .before .before .before .before in
-    let a = s .args in
-    let n : 0 < a .entered = omega (arith, c .before .before .if1 .left) in
-    let e = c .before .entry-at .ensures in
-    let w = last-within (a .entries .now) (a .entered) n (s .pre .1 .1) _ e in
-    let p = c .operator-place .ensures in
-    let q : c .operator-place .result < length (a .table .now) = omega (arith, p, w .0, w .1) in
-    search needs
+mul-own t c = let q = inside t c in search needs
 
 slice-read-own : (t : ℕ) → vary-lts.Need-slice-read-own (claims t) (given-at 4 vary-kinds.ps μ-vary vary.Pre t) vary.Post Inv-loop μ-loop
-slice-read-own t c =
-    let s = c .before .before .before .before .before .before .before .before in
-    let a = s .args in
-    let n : 0 < a .entered = omega (arith, c .before .before .before .if1 .left) in
-    let e = c .before .before .entry-at .ensures in
-    let w = last-within (a .entries .now) (a .entered) n (s .pre .1 .1) _ e in
-    omega (arith, c .before .operator-place .ensures, w .0, w .1)
+slice-read-own t c = inside t (c .before)
 
 loop-holds : (t : ℕ) → vary-lts.Need-loop-holds (claims t) (given-at 4 vary-kinds.ps μ-vary vary.Pre t) vary.Post Inv-loop μ-loop
-loop-holds t c =
-    let s = c .before .before .before .before .before .before .before .before in
-    let a = s .args in
-    let n : 0 < a .entered = omega (arith, c .before .before .before .if1 .left) in
-    let e = c .before .before .entry-at .ensures in
-    let w = last-within (a .entries .now) (a .entered) n (s .pre .1 .1) _ e in
-    (omega arith, λ h. new-lowest _ (omega (arith, w .2)), refl, refl, refl, set-getD _ _ 0, refl)
+loop-holds t c = (omega arith, λ h. new-lowest _ (omega (arith, last t (c .before .before) .2)), refl, refl, refl, set-getD _ _ 0, refl)
 
 mul-table : (t : ℕ) → vary-lts.Need-mul-table (claims t) (given-at 4 vary-kinds.ps μ-vary vary.Pre t) vary.Post Inv-loop μ-loop
-mul-table t c =
-    let s = c .before .before .before .before .before .before .before .before .before .before in
-    let a = s .args in
-    let n : 0 < a .entered = omega (arith, c .before .before .before .before .before .if1 .left) in
-    let e = c .before .before .before .before .entry-at .ensures in
-    let w = last-within (a .entries .now) (a .entered) n (s .pre .1 .1) _ e in
-    let p = c .before .before .before .operator-place .ensures in
-    let q : c .before .before .before .operator-place .result < length (a .table .now) = omega (arith, p, w .0, w .1) in
-    search needs
+mul-table t c = let q = inside t (c .before .before .before) in search needs
 
 slice-write-table : (t : ℕ) → vary-lts.Need-slice-write-table (claims t) (given-at 4 vary-kinds.ps μ-vary vary.Pre t) vary.Post Inv-loop μ-loop
-slice-write-table t c =
-    let s = c .before .before .before .before .before .before .before .before .before .before in
-    let a = s .args in
-    let n : 0 < a .entered = omega (arith, c .before .before .before .before .before .if1 .left) in
-    let e = c .before .before .before .before .entry-at .ensures in
-    let w = last-within (a .entries .now) (a .entered) n (s .pre .1 .1) _ e in
-    omega (arith, c .before .before .before .operator-place .ensures, w .0, w .1, c .before .loop .inv .2)
+slice-write-table t c = omega (arith, inside t (c .before .before .before), c .before .loop .inv .2)
 
 vary-requires : (t : ℕ) → vary-lts.Need-vary-requires (claims t) (given-at 4 vary-kinds.ps μ-vary vary.Pre t) vary.Post Inv-loop μ-loop
 vary-requires t c κs =
     let s = c .before .before .before .before .before .before .before .before .before .before .before .before .before in
     let a = s .args in
     let n : 0 < a .entered = omega (arith, c .before .before .before .before .before .before .before .before .if1 .left) in
-    let e = c .before .before .before .before .before .before .before .entry-at .ensures in
-    let w = last-within (a .entries .now) (a .entered) n (s .pre .1 .1) _ e in
     let l = c .before .before .before .before .loop in
     let t′ = sym (length-set (l .table) (c .before .before .before .before .before .before .operator-place .result) (l .op) ∙ l .inv .2) in
-    (omega (arith, s .pre .0, c .before .before .before .before .before .before .before .before .if1 .left), (less-room (s .pre .1 .0) t′ (sym (l .inv .3)) (sym (l .inv .4)), others-within (a .entries .now) (a .entered) n (s .pre .1 .1) _ t′, shallow-put (a .count) _ (w .0) (a .table .now) (s .pre .1 .2) _ (c .before .before .before .before .before .before .operator-place .ensures) (l .table) _ (l .op) (l .inv .5)))
+    (omega (arith, s .pre .0), (less-room (s .pre .1 .0) t′ (sym (l .inv .3)) (sym (l .inv .4)), others-within (a .entries .now) (a .entered) n (s .pre .1 .1) _ t′, shallow-put (a .count) _ (last t (c .before .before .before .before .before .before .before) .0) (a .table .now) (s .pre .1 .2) _ (c .before .before .before .before .before .before .operator-place .ensures) (l .table) _ (l .op) (l .inv .5)))
 
 next-new-requires : (t : ℕ) → vary-lts.Need-next-new-requires (claims t) (given-at 4 vary-kinds.ps μ-vary vary.Pre t) vary.Post Inv-loop μ-loop
-next-new-requires t c κs =
-    let s = c .before .before .before .before .before .before .before .before .before .before .before .before .before .before .before .before .before .before .before .before in
-    let a = s .args in
-    let n : 0 < a .entered = omega (arith, c .before .before .before .before .before .before .before .before .before .before .before .before .before .before .before .if1 .left) in
-    let e = c .before .before .before .before .before .before .before .before .before .before .before .before .before .before .entry-at .ensures in
-    let w = last-within (a .entries .now) (a .entered) n (s .pre .1 .1) _ e in
-    (c .before .before .before .before .before .before .before .before .before .before .loop-test .taken, w .2)
+next-new-requires t c κs = (c .before .before .before .before .before .before .before .before .before .before .loop-test .taken, last t (c .before .before .before .before .before .before .before .before .before .before .before .before .before .before) .2)
 
 loop-less : (t : ℕ) → vary-lts.Need-loop-less (claims t) (given-at 4 vary-kinds.ps μ-vary vary.Pre t) vary.Post Inv-loop μ-loop
 loop-less t c = omega (arith, c .next-new .ensures .above, c .before .before .before .before .before .before .before .before .before .before .before .loop-test .taken)
 
 loop-again : (t : ℕ) → vary-lts.Need-loop-again (claims t) (given-at 4 vary-kinds.ps μ-vary vary.Pre t) vary.Post Inv-loop μ-loop
 loop-again t c =
-    let s = c .before .before .before .before .before .before .before .before .before .before .before .before .before .before .before .before .before .before .before .before .before in
-    let a = s .args in
-    let n : 0 < a .entered = omega (arith, c .before .before .before .before .before .before .before .before .before .before .before .before .before .before .before .before .if1 .left) in
-    let e = c .before .before .before .before .before .before .before .before .before .before .before .before .before .before .before .entry-at .ensures in
-    let w = last-within (a .entries .now) (a .entered) n (s .pre .1 .1) _ e in
+    let a = c .before .before .before .before .before .before .before .before .before .before .before .before .before .before .before .before .before .before .before .before .before .args in
     let l = c .before .before .before .before .before .before .before .before .before .before .before .before .loop in
     let v = c .before .before .before .before .before .before .before .vary .ensures in
     let m = c .next-new .ensures in
@@ -177,24 +136,10 @@ loop-again t c =
     )
 
 mul-table-2 : (t : ℕ) → vary-lts.Need-mul-table-2 (claims t) (given-at 4 vary-kinds.ps μ-vary vary.Pre t) vary.Post Inv-loop μ-loop
-mul-table-2 t c =
-    let s = c .before .before .before .before .before .before .before .before .before .before in
-    let a = s .args in
-    let n : 0 < a .entered = omega (arith, c .before .before .before .before .before .if1 .left) in
-    let e = c .before .before .before .before .entry-at .ensures in
-    let w = last-within (a .entries .now) (a .entered) n (s .pre .1 .1) _ e in
-    let p = c .before .before .before .operator-place .ensures in
-    let q : c .before .before .before .operator-place .result < length (a .table .now) = omega (arith, p, w .0, w .1) in
-    search needs
+mul-table-2 t c = let q = inside t (c .before .before .before) in search needs
 
 slice-write-table-2 : (t : ℕ) → vary-lts.Need-slice-write-table-2 (claims t) (given-at 4 vary-kinds.ps μ-vary vary.Pre t) vary.Post Inv-loop μ-loop
-slice-write-table-2 t c =
-    let s = c .before .before .before .before .before .before .before .before .before .before in
-    let a = s .args in
-    let n : 0 < a .entered = omega (arith, c .before .before .before .before .before .if1 .left) in
-    let e = c .before .before .before .before .entry-at .ensures in
-    let w = last-within (a .entries .now) (a .entered) n (s .pre .1 .1) _ e in
-    omega (arith, c .before .before .before .operator-place .ensures, w .0, w .1, c .before .loop .inv .2)
+slice-write-table-2 t c = omega (arith, inside t (c .before .before .before), c .before .loop .inv .2)
 
 same-length-4 : (t : ℕ) → vary-lts.Need-same-length-4 (claims t) (given-at 4 vary-kinds.ps μ-vary vary.Pre t) vary.Post Inv-loop μ-loop
 same-length-4 t c = ap length (c .before .loop .inv .5)
@@ -207,11 +152,9 @@ same-length-6 t c = c .before .loop .inv .4
 
 returns-2 : (t : ℕ) → vary-lts.Need-returns-2 (claims t) (given-at 4 vary-kinds.ps μ-vary vary.Pre t) vary.Post Inv-loop μ-loop
 returns-2 t c =
-    let s = c .before .before .before .before .before .before .before .before .before .before in
-    let a = s .args in
+    let a = c .before .before .before .before .before .before .before .before .before .before .args in
     let n : 0 < a .entered = omega (arith, c .before .before .before .before .before .if1 .left) in
     let e = c .before .before .before .before .entry-at .ensures in
-    let w = last-within (a .entries .now) (a .entered) n (s .pre .1 .1) _ e in
     let l = c .before .loop in
     let p = c .before .before .before .operator-place .result in
     let x = c .before .before .before .before .entry-at .result in
