@@ -1,10 +1,11 @@
 -- `tree_numbering::accepted::place` meets its contract. The loop's invariant: the operands of the nodes up to the one that it has come to have their numbers, and the cells of those nodes are stored. Assumes nothing.
 use mathlib.Core.Path.{_≡_, refl, _∙_}
-use Prim.Native.Nat.{suc, _-_, _≤_}
+use Prim.Native.Nat.{suc, _+_, _*_, _-_, _≤_}
 use native.Mathlib.Omega.{arith}
 use borrow.Author.Needs.{needs}
-use lib.ListN.{length, length-set}
-use Rattle.tree.specs.Table.{cellAt}
+use lib.ListN.{length, getD, length-set}
+use Rattle.tree.specs.Sizes.{nodeCells, mostNodes}
+use Rattle.tree.specs.Table.{cellAt, firstColumn, secondColumn}
 use Rattle.tree_rules.proofs.Accepted.{count-bounds}
 use Rattle.tree_numbering.proofs.Spans.{first-read, second-read, cells-read, first-span, span-most}
 use Rattle.tree_numbering.proofs.Placing.{Placed, Filled, placed-none, filled-none, number-range, next-node, all-filled}
@@ -28,193 +29,84 @@ loop-holds c =
     let p = c .before .before .before .before .pre in
     (omega arith, refl, placed-none 0 _ _ (p .0) (c .before .before .before .before .args .numbers .now) (p .2), filled-none 0 _ _ (p .0) _ _)
 
+-- a turn's node: its cells are in the table, and its operands, its number and those that it gives them are in range
+node : (c : tie.In-loop Inv-loop μ-loop) → let a = c .before .before .before .before .before .before .args in let l = c .before .loop in
+    let first = getD (a .table .now) (nodeCells * l .done + firstColumn) 0 in
+    let second = getD (a .table .now) (nodeCells * l .done + secondColumn) 0 in
+    (nodeCells * l .done + nodeCells ≤ length (a .table .now)) × (a .count ≤ mostNodes) × (first ≤ a .count) × (second ≤ a .count)
+    × (1 ≤ getD (l .numbers) (l .done + 1) 0) × (getD (l .numbers) (l .done + 1) 0 ≤ a .count)
+    × (1 + getD (a .spans .now) first 0 + getD (a .spans .now) second 0 ≤ a .count)
+unfolding cellAt
+node c =
+    let l = c .before .loop in
+    let p = c .before .before .before .before .before .before .pre in
+    let t = c .loop-test .taken in
+    let k = cells-read 0 _ _ (p .0) (l .done) t in
+    let o = number-range 0 _ _ (p .0) (l .done) _ (l .inv .2) t in
+    (k .0, k .1, first-read 0 _ _ (p .0) (l .done) t, second-read 0 _ _ (p .0) (l .done) t, o .0, o .1, span-most 0 _ _ (p .0) _ _ (p .1) (suc (l .done)) (omega arith) (omega arith) (omega arith))
+
 shared-slice-read-first : tie.Need-shared-slice-read-first Inv-loop μ-loop
-shared-slice-read-first c =
-    let l = c .before .before .loop in
-    let p = c .before .before .before .before .before .before .before .pre in
-    let t = c .before .loop-test in
-    let k = cells-read 0 _ _ (p .0) (l .done) (omega arith) in
-    omega arith
+shared-slice-read-first c = let n = node (c .before) in omega arith
 
 shared-slice-read-second : tie.Need-shared-slice-read-second Inv-loop μ-loop
-shared-slice-read-second c =
-    let l = c .before .before .before .loop in
-    let p = c .before .before .before .before .before .before .before .before .pre in
-    let t = c .before .before .loop-test in
-    let k = cells-read 0 _ _ (p .0) (l .done) (omega arith) in
-    omega arith
+shared-slice-read-second c = let n = node (c .before .before) in omega arith
 
 add-at : tie.Need-add-at Inv-loop μ-loop
-add-at c =
-    let l = c .before .before .before .loop in
-    let p = c .before .before .before .before .before .before .before .before .pre in
-    let t = c .before .before .loop-test in
-    let k = cells-read 0 _ _ (p .0) (l .done) (omega arith) in
-    omega arith
+add-at c = let n = node (c .before .before) in omega arith
 
 cast-one : tie.Need-cast-one Inv-loop μ-loop
-cast-one c =
-    let l = c .before .before .before .loop in
-    let p = c .before .before .before .before .before .before .before .before .pre in
-    let t = c .before .before .loop-test in
-    let k = cells-read 0 _ _ (p .0) (l .done) (omega arith) in
-    let f = first-read 0 _ _ (p .0) (l .done) (omega arith) in
-    omega arith
+cast-one c = let n = node (c .before .before) in omega arith
 
 cast-two : tie.Need-cast-two Inv-loop μ-loop
-cast-two c =
-    let l = c .before .before .before .loop in
-    let p = c .before .before .before .before .before .before .before .before .pre in
-    let t = c .before .before .loop-test in
-    let k = cells-read 0 _ _ (p .0) (l .done) (omega arith) in
-    let f = second-read 0 _ _ (p .0) (l .done) (omega arith) in
-    omega arith
+cast-two c = let n = node (c .before .before) in omega arith
 
 slice-read-own : tie.Need-slice-read-own Inv-loop μ-loop
-slice-read-own c =
-    let l = c .before .before .before .before .loop in
-    let p = c .before .before .before .before .before .before .before .before .before .pre in
-    let t = c .before .before .before .loop-test in
-    let r = l .inv .2 .room in
-    omega arith
+slice-read-own c = let n = node (c .before .before .before) in let r = c .before .before .before .before .loop .inv .2 .room in omega arith
 
 mul-after : tie.Need-mul-after Inv-loop μ-loop
-mul-after c =
-    let l = c .before .before .before .before .loop in
-    let p = c .before .before .before .before .before .before .before .before .before .pre in
-    let t = c .before .before .before .loop-test in
-    let k = cells-read 0 _ _ (p .0) (l .done) (omega arith) in
-    let f = first-read 0 _ _ (p .0) (l .done) (omega arith) in
-    omega arith
+mul-after c = let n = node (c .before .before .before) in omega arith
 
 shared-slice-read-after : tie.Need-shared-slice-read-after Inv-loop μ-loop
-shared-slice-read-after c =
-    let l = c .before .before .before .before .before .loop in
-    let p = c .before .before .before .before .before .before .before .before .before .before .pre in
-    let t = c .before .before .before .before .loop-test in
-    let f = first-read 0 _ _ (p .0) (l .done) (omega arith) in
-    let q = p .1 .room in
-    omega arith
+shared-slice-read-after c = let n = node (c .before .before .before .before) in let r = c .before .before .before .before .before .before .before .before .before .before .pre .1 .room in omega arith
 
 add-after : tie.Need-add-after Inv-loop μ-loop
-unfolding cellAt
-add-after c =
-    let l = c .before .before .before .before .before .loop in
-    let p = c .before .before .before .before .before .before .before .before .before .before .pre in
-    let t = c .before .before .before .before .loop-test in
-    let k = cells-read 0 _ _ (p .0) (l .done) (omega arith) in
-    let o = number-range 0 _ _ (p .0) (l .done) _ (l .inv .2) (omega arith) in
-    let m = span-most 0 _ _ (p .0) _ _ (p .1) (suc (l .done)) (omega arith) (omega arith) (omega arith) in
-    omega arith
+add-after c = let n = node (c .before .before .before .before) in omega arith
 
 add-numbers : tie.Need-add-numbers Inv-loop μ-loop
-add-numbers c =
-    let l = c .before .before .before .before .before .loop in
-    let p = c .before .before .before .before .before .before .before .before .before .before .pre in
-    let t = c .before .before .before .before .loop-test in
-    let k = cells-read 0 _ _ (p .0) (l .done) (omega arith) in
-    let o = number-range 0 _ _ (p .0) (l .done) _ (l .inv .2) (omega arith) in
-    omega arith
+add-numbers c = let n = node (c .before .before .before .before) in omega arith
 
 mul-numbers : tie.Need-mul-numbers Inv-loop μ-loop
-mul-numbers c =
-    let l = c .before .before .before .before .before .loop in
-    let p = c .before .before .before .before .before .before .before .before .before .before .pre in
-    let t = c .before .before .before .before .loop-test in
-    let k = cells-read 0 _ _ (p .0) (l .done) (omega arith) in
-    let f = first-read 0 _ _ (p .0) (l .done) (omega arith) in
-    omega arith
+mul-numbers c = let n = node (c .before .before .before .before) in omega arith
 
 slice-write-numbers-2 : tie.Need-slice-write-numbers-2 Inv-loop μ-loop
-slice-write-numbers-2 c =
-    let l = c .before .before .before .before .before .loop in
-    let p = c .before .before .before .before .before .before .before .before .before .before .pre in
-    let t = c .before .before .before .before .loop-test in
-    let f = first-read 0 _ _ (p .0) (l .done) (omega arith) in
-    let r = l .inv .2 .room in
-    omega arith
+slice-write-numbers-2 c = let n = node (c .before .before .before .before) in let r = c .before .before .before .before .before .loop .inv .2 .room in omega arith
 
 add-numbers-2 : tie.Need-add-numbers-2 Inv-loop μ-loop
-unfolding cellAt
-add-numbers-2 c =
-    let l = c .before .before .before .before .before .loop in
-    let p = c .before .before .before .before .before .before .before .before .before .before .pre in
-    let t = c .before .before .before .before .loop-test in
-    let k = cells-read 0 _ _ (p .0) (l .done) (omega arith) in
-    let o = number-range 0 _ _ (p .0) (l .done) _ (l .inv .2) (omega arith) in
-    let m = span-most 0 _ _ (p .0) _ _ (p .1) (suc (l .done)) (omega arith) (omega arith) (omega arith) in
-    omega arith
+add-numbers-2 c = let n = node (c .before .before .before .before) in omega arith
 
 mul-numbers-2 : tie.Need-mul-numbers-2 Inv-loop μ-loop
-mul-numbers-2 c =
-    let l = c .before .before .before .before .before .loop in
-    let p = c .before .before .before .before .before .before .before .before .before .before .pre in
-    let t = c .before .before .before .before .loop-test in
-    let k = cells-read 0 _ _ (p .0) (l .done) (omega arith) in
-    let f = second-read 0 _ _ (p .0) (l .done) (omega arith) in
-    omega arith
+mul-numbers-2 c = let n = node (c .before .before .before .before) in omega arith
 
 slice-write-numbers-3 : tie.Need-slice-write-numbers-3 Inv-loop μ-loop
-slice-write-numbers-3 c =
-    let l = c .before .before .before .before .before .loop in
-    let p = c .before .before .before .before .before .before .before .before .before .before .pre in
-    let t = c .before .before .before .before .loop-test in
-    let f = second-read 0 _ _ (p .0) (l .done) (omega arith) in
-    let r = l .inv .2 .room in
-    simp length-set (omega arith)
+slice-write-numbers-3 c = let n = node (c .before .before .before .before) in let r = c .before .before .before .before .before .loop .inv .2 .room in simp length-set (omega arith)
 
 add-store : tie.Need-add-store Inv-loop μ-loop
-add-store c =
-    let l = c .before .before .before .before .before .loop in
-    let p = c .before .before .before .before .before .before .before .before .before .before .pre in
-    let t = c .before .before .before .before .loop-test in
-    let k = cells-read 0 _ _ (p .0) (l .done) (omega arith) in
-    omega arith
+add-store c = let n = node (c .before .before .before .before) in omega arith
 
 sub-store : tie.Need-sub-store Inv-loop μ-loop
-sub-store c =
-    let l = c .before .before .before .before .before .loop in
-    let p = c .before .before .before .before .before .before .before .before .before .before .pre in
-    let t = c .before .before .before .before .loop-test in
-    let o = number-range 0 _ _ (p .0) (l .done) _ (l .inv .2) (omega arith) in
-    o .0
+sub-store c = let n = node (c .before .before .before .before) in omega arith
 
 number-after-requires : tie.Need-number-after-requires Inv-loop μ-loop
-number-after-requires c κs =
-    let l = c .before .before .before .before .before .loop in
-    let p = c .before .before .before .before .before .before .before .before .before .before .pre in
-    let t = c .before .before .before .before .loop-test in
-    let k = cells-read 0 _ _ (p .0) (l .done) (omega arith) in
-    let o = number-range 0 _ _ (p .0) (l .done) _ (l .inv .2) (omega arith) in
-    omega arith
+number-after-requires c κs = let n = node (c .before .before .before .before) in omega arith
 
 number-after-requires-2 : tie.Need-number-after-requires-2 Inv-loop μ-loop
-unfolding cellAt
-number-after-requires-2 c κs =
-    let l = c .before .before .before .before .before .before .loop in
-    let p = c .before .before .before .before .before .before .before .before .before .before .before .pre in
-    let t = c .before .before .before .before .before .loop-test in
-    let k = cells-read 0 _ _ (p .0) (l .done) (omega arith) in
-    let o = number-range 0 _ _ (p .0) (l .done) _ (l .inv .2) (omega arith) in
-    let m = span-most 0 _ _ (p .0) _ _ (p .1) (suc (l .done)) (omega arith) (omega arith) (omega arith) in
-    omega arith
+number-after-requires-2 c κs = let n = node (c .before .before .before .before .before) in omega arith
 
 store-requires : tie.Need-store-requires Inv-loop μ-loop
-store-requires c κs =
-    let l = c .before .before .before .before .before .before .before .before .loop in
-    let p = c .before .before .before .before .before .before .before .before .before .before .before .before .before .pre in
-    let t = c .before .before .before .before .before .before .before .loop-test in
-    let o = number-range 0 _ _ (p .0) (l .done) _ (l .inv .2) (omega arith) in
-    let g = l .inv .3 .long in
-    omega (arith, p .3)
+store-requires c κs = let n = node (c .before .before .before .before .before .before .before) in let g = c .before .before .before .before .before .before .before .before .loop .inv .3 .long in omega (arith, c .before .before .before .before .before .before .before .before .before .before .before .before .before .pre .3)
 
 add-done : tie.Need-add-done Inv-loop μ-loop
-add-done c =
-    let l = c .before .before .before .before .before .before .before .before .before .before .before .loop in
-    let p = c .before .before .before .before .before .before .before .before .before .before .before .before .before .before .before .before .pre in
-    let t = c .before .before .before .before .before .before .before .before .before .before .loop-test in
-    let k = cells-read 0 _ _ (p .0) (l .done) (omega arith) in
-    omega arith
+add-done c = let n = node (c .before .before .before .before .before .before .before .before .before .before) in omega arith
 
 loop-less : tie.Need-loop-less Inv-loop μ-loop
 loop-less c =
