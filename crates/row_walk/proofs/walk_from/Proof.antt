@@ -229,41 +229,8 @@ second-hand-requires-2 c κs = c .before .before .operand-number3 .ensures
 
 pub walk-from-spec : {M : Type 1} → statement M
 walk-from-spec =
-    tie.close
-    (tie.spec
-    Inv-loop
-    μ-loop
-    loop-holds
-    enter-alone-requires
-    enter-requires
-    free
-    free
-    free
-    mul-nodes
-    array-write-nodes
-    mul-contexts
-    array-write-contexts
-    add-depth
-    free
-    loop-less
-    loop-again
-    first-hand-requires
-    loop-less-2
-    loop-again-2
-    second-hand-requires
-    loop-less-3
-    loop-again-3
-    same-length
-    returns
-    (λ c. search needs)
-    mul-owner
-    array-read-owner
-    free
-    free
-    loop-less-4
-    loop-again-4
-    mul-kept
-    array-read-kept
-    second-hand-requires-2
-    loop-less-5
-    loop-again-5)
+    tie.close (tie.spec Inv-loop μ-loop loop-holds enter-alone-requires enter-requires free free free mul-nodes
+    array-write-nodes mul-contexts array-write-contexts add-depth free loop-less loop-again first-hand-requires
+    loop-less-2 loop-again-2 second-hand-requires loop-less-3 loop-again-3 same-length returns (λ c. search needs)
+    mul-owner array-read-owner free free loop-less-4 loop-again-4 mul-kept array-read-kept second-hand-requires-2
+    loop-less-5 loop-again-5)
