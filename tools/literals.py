@@ -83,6 +83,7 @@ ALLOWED = [
     ('code', '*/proofs/*', r'pick(-true|-false)? (\(refusal.*\) )?1[23] |\) 13 0', 'the number of a refusal'),
     ('code', '*/proofs/*', r'_ \d+ tt', 'the place of a row in its table'),
     ('code', '*/src/*', r'1 \| 3 => true', 'the pairs of a row, which are no codes'),
+    ('cells', 'tree_rules/proofs/*', r'drop \d+ rs', 'refusals that are passed over'),
     ('levels', 'file_numbers/* file_loader/* file_bytes/* file_save/*', '', 'the base of the groups of seven bits'),
     ('place', 'file_numbers/* file_loader/src/* file_save/src/*', '', 'a byte of a number'),
     ('bytes', 'file_bytes/* file_save/proofs/* file_columns_laws/proofs/*', r'AllBelow 65536|< 65536', 'all numbers of two bytes'),
