@@ -144,7 +144,7 @@ uint64_t tezhukor_write(uint16_t context, uint16_t count, const uint16_t *table,
  * a numbered member's symbol stands on the node that it names. In context 3 a struct (46)
  * outside every parenthesis, bracket and argument list has no reading. Replies the refusal
  * times 65,536 (3, then 13, then 12, then 14 to 16), or the number of nodes.
- * It was measured to take up to 4.4 MiB of stack, for the longest lists (docs/PERFORMANCE.md). */
+ * It was measured to take up to 644 KiB of stack, for the longest lists (docs/PERFORMANCE.md). */
 uint32_t tezhukor_read(uint16_t context, const uint16_t *tokens, size_t tokens_length,
                        uint16_t *table, size_t table_length);
 

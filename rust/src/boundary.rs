@@ -10,7 +10,7 @@ pub mod library;
 pub mod questions;
 
 use crate::Refusal;
-use model::sizes::{CONTEXT_UNIT, MOST_TOKENS, REFUSAL_UNIT, TOKEN_CELLS};
+use model::sizes::{CONTEXT_UNIT, REFUSAL_UNIT};
 use model::sizes::{PAIRS_UNIT, WRITTEN_UNIT};
 
 /// What a reply of one number says: what was done, or the refusal.
@@ -76,7 +76,7 @@ pub fn decide(context: u16, count: u16, table: &[u16], rows: &mut [u16]) -> u16 
 }
 
 /// Writes the tokens of a plain table in a context of [`PLAIN`](model::contexts::PLAIN),
-/// [`TOKEN_CELLS`] cells a token: its code and its symbol;
+/// [`TOKEN_CELLS`](model::sizes::TOKEN_CELLS) cells a token: its code and its symbol;
 /// [`TOKEN_CELLS_PER_NODE`](model::sizes::TOKEN_CELLS_PER_NODE) cells a node must be lent.
 /// The reply says how many they are, and how many pairs: see [`counted`].
 pub fn write(context: u16, count: u16, table: &[u16], tokens: &mut [u16]) -> u64 {
@@ -112,36 +112,10 @@ pub fn counted(reply: u64) -> Result<Counted, Refusal> {
     }
 }
 
-/// Lists of more tokens than this are read on a stack of their own.
-const LONG: usize = 2_048;
-
-/// The longest lists were measured to take up to 4.4 MiB of it (docs/PERFORMANCE.md).
-const STACK: usize = 16 << 20;
-
-/// Reads a token list, [`TOKEN_CELLS`] cells a token, in a context of
+/// Reads a token list, [`TOKEN_CELLS`](model::sizes::TOKEN_CELLS) cells a token, in a context of
 /// [`PLAIN`](model::contexts::PLAIN) into a table of at least
 /// [`MOST_CELLS`](model::sizes::MOST_CELLS) cells. What is done is the number of nodes.
-///
-/// The library's reader is recursive: a long list is read on a thread of its own,
-/// whose stack is large enough for the longest one.
-///
-/// # Panics
-///
-/// If the list is long and the system starts no thread.
 pub fn read(context: u16, tokens: &[u16], table: &mut [u16]) -> u32 {
-    let length = tokens.len().div_ceil(TOKEN_CELLS);
-    if length <= LONG || length > MOST_TOKENS {
-        return read_here(context, tokens, table);
-    }
-    std::thread::scope(|scope| {
-        let builder = std::thread::Builder::new().stack_size(STACK);
-        let reader = builder.spawn_scoped(scope, || read_here(context, tokens, table));
-        reader.expect("a thread can be started").join().expect("the library does not panic")
-    })
-}
-
-/// As [`read`], always on the caller's stack.
-pub fn read_here(context: u16, tokens: &[u16], table: &mut [u16]) -> u32 {
     // SAFETY: as above.
     unsafe {
         library::tezhukor_read(

@@ -101,7 +101,7 @@ impl Side {
                 let room = TOKEN_CELLS_PER_NODE * count;
                 boundary::write(context, nodes, cells, &mut lent.tokens[..room])
             }
-            Side::Read => boundary::read_here(context, &case.tokens, &mut lent.cells).into(),
+            Side::Read => boundary::read(context, &case.tokens, &mut lent.cells).into(),
             Side::Edit => {
                 let [table, rows] = lent.for_edit(case);
                 table[..cells.len()].copy_from_slice(cells);

@@ -328,7 +328,7 @@ impl Asker {
         let table = meant.unwrap_or_default();
         self.twice(refusal_of(number), number.into(), |[from, to, ..], watch| {
             let (held, lent) = (from.hold(&cells), to.lend(room));
-            let reply = watch.time(|| boundary::read_here(context, held, lent));
+            let reply = watch.time(|| boundary::read(context, held, lent));
             (reply.into(), from.holds(cells.len(), &cells) & to.holds(room, &table))
         })
     }
@@ -337,7 +337,7 @@ impl Asker {
     /// tokens but for parentheses and commas.
     fn read_long(&mut self, context: u16, cells: &[u16], room: usize) -> Told {
         let mut table = vec![0; room];
-        let number = boundary::read_here(context, cells, &mut table);
+        let number = boundary::read(context, cells, &mut table);
         let refusal = refusal_of(number);
         table.truncate(if refusal == 0 { NODE_CELLS * number as usize } else { 0 });
         let is_read = match refusal {
@@ -352,7 +352,7 @@ impl Asker {
         };
         let told = self.twice(refusal, number.into(), |[from, to, ..], watch| {
             let (held, lent) = (from.hold(cells), to.lend(room));
-            let reply = watch.time(|| boundary::read_here(context, held, lent));
+            let reply = watch.time(|| boundary::read(context, held, lent));
             (reply.into(), from.holds(cells.len(), cells) & to.holds(room, &table))
         });
         Told { is_same: told.is_same && is_read, ..told }

@@ -208,7 +208,7 @@ mod library {
         }
 
         pub fn read(&mut self, context: u16, tokens: &[u16], lent: usize) -> Verdict {
-            let reply = boundary::read_here(context, tokens, self.0.lend(lent));
+            let reply = boundary::read(context, tokens, self.0.lend(lent));
             self.taken(boundary::done(reply), NODE_CELLS)
         }
 
