@@ -8,8 +8,8 @@ use Rattle.tree.specs.Sizes.{nodeCells}
 use Rattle.file_numbers.specs.declared.Number.{Number}
 use Rattle.file_numbers.specs.declared.Number.the-variants.{Malformed, Value}
 use Rattle.file_numbers.specs.Standing.{standsAt}
-use Rattle.file_numbers.proofs.Groups.{one-byte}
 use Rattle.tree_source.specs.Source.{valueIn, nextIn, valueAt, nextAt}
+use Rattle.tree_source.proofs.Near.{small-form, small-attributes, small-detail}
 use Rattle.file_loader.specs.declared.Body.the-variants.{End}
 use Rattle.file_loader.specs.Reads.{Passed}
 use Rattle.file_loader.proofs.Several.{read-none, read-next}
@@ -24,16 +24,7 @@ skipped file at next e n = go (standsAt file at) refl
     go (Value v m) p = rw (e, p)
 
 module _ (file : List ℕ) (at a b c : ℕ) (room : at + 12 ≤ length file) (is-a : a ≡ getD file at 0) (is-b : b ≡ getD file (at + 1) 0) (is-c : c ≡ getD file (at + 2) 0) (small : a + b + c ≤ 127) where
-  first : Value a (at + 1) ≡ standsAt file at
-  first = one-byte file at a is-a (omega arith) (omega arith)
-
-  second : Value b (at + 2) ≡ standsAt file (at + 1)
-  second = let e : at + 1 + 1 ≡ at + 2 = omega arith in rw e at (one-byte file (at + 1) b is-b (omega arith) (omega arith))
-
-  third : Value c (at + 3) ≡ standsAt file (at + 2)
-  third = let e : at + 2 + 1 ≡ at + 3 = omega arith in rw e at (one-byte file (at + 2) c is-c (omega arith) (omega arith))
-
   pub quick-passed : (s y e : ℕ) → s ≡ nextAt file (at + 3) → (s ≡ 0 → ⊥) → y ≡ nextAt file s → (y ≡ 0 → ⊥) → e ≡ nextAt file y → (e ≡ 0 → ⊥) → Passed file at nodeCells (End e)
   quick-passed s y e is-s ns is-y ny is-e ne =
-      let r = read-next 2 file at _ _ _ (read-next 1 file at _ _ _ (read-next 0 file at _ _ _ (read-none file at) first) second) third in
+      let r = read-next 2 file at _ _ _ (read-next 1 file at _ _ _ (read-next 0 file at _ _ _ (read-none file at) (small-form file at a b c room is-a is-b is-c small)) (small-attributes file at a b c room is-a is-b is-c small)) (small-detail file at a b c room is-a is-b is-c small) in
       read-next 5 file at _ _ _ (read-next 4 file at _ _ _ (read-next 3 file at _ _ _ r (skipped file (at + 3) s is-s ns)) (skipped file s y is-y ny)) (skipped file y e is-e ne) .0

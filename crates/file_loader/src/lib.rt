@@ -4,6 +4,7 @@ use file_numbers::number_at;
 use file_numbers::wide;
 use tree::offsets;
 use tree::sizes;
+use tree_source::QUICK;
 ghost use mathlib.Core.Path.{_≡_};
 ghost use mathlib.Core.Bool.{false};
 ghost use Prim.Native.Nat.{_+_, _*_, _≤_, _<_};
@@ -111,9 +112,6 @@ fn skip_at(file: &[u8], at: usize) -> usize
     }
     at + 3
 }
-
-// The bytes that a node has at most whose form, attributes and detail are a byte each.
-const QUICK: usize = 12;
 
 // The place after a node's numbers from a place on, where so many bytes are left and its first three numbers are small, as they are in accepted files; 0 otherwise.
 fn after_quick_node(file: &[u8], at: usize) -> usize

@@ -91,6 +91,10 @@ module _ (file held : List ℕ) where
         let l = runs-length file (behindHeader file ∷ held) in
         rw cells-file (omega arith)
 
+    -- a node that has its cells has a place
+    pub has-place : (i : ℕ) → nodeCells * i ≤ length (cellsOf file held) → i ≤ length held + 1
+    has-place i h = let l = cells-length in omega arith
+
     pub cell-inside : (i k : ℕ) → 1 ≤ i → i ≤ length held + 1 → k < nodeCells → valueAt file (skip k file (getD (behindHeader file ∷ held) (i - 1) 0)) ≡ cellAt (cellsOf file held) i k
     unfolding cellAt
     cell-inside zero k h l m = absurd (omega arith)

@@ -1,2 +1,3 @@
 pub mod Cells
 pub mod Nodes
+pub mod Near

@@ -3,13 +3,14 @@
 // begins; the first begins behind the header.
 use file_numbers::Number;
 use file_numbers::number_at;
+use file_numbers::wide;
 use tree::columns;
 use tree::sizes;
 use tree::table::cell;
 ghost use mathlib.Core.Path.{_≡_};
 ghost use mathlib.Core.Bool.{_||_};
 ghost use mathlib.Core.List.{_∷_};
-ghost use Prim.Native.Nat.{_+_, _*_, _-_, _≤_};
+ghost use Prim.Native.Nat.{_+_, _*_, _-_, _≤_, _<_};
 ghost use lib.Dec.{eqb, ltb};
 ghost use lib.ListN.{length, getD};
 ghost use Rattle.tree.specs.Sizes.{nodeCells};
@@ -34,6 +35,41 @@ fn step(file: &[u8], at: usize) -> Reading
     Reading {
         value: value,
         next: next,
+    }
+}
+
+// The same where three bytes are left.
+fn near_at(file: &[u8], at: usize) -> Reading
+    requires { ⌜ at + 2 < length (now file) ⌝ }
+    ensures { λ r. ⌜ (r .value ≡ valueAt (now (file .entry)) at) × (r .next ≡ nextAt (now (file .entry)) at) × (r .next ≤ at + 3) ⌝ }
+{
+    let low = wide(file[at]);
+    if low < 128 {
+        return Reading {
+            value: low,
+            next: at + 1,
+        };
+    }
+    let middle = wide(file[at + 1]);
+    if middle == 0 {
+        return Reading { value: 0, next: 0 };
+    }
+    if middle < 128 {
+        return Reading {
+            value: (low - 128) + 128 * middle,
+            next: at + 2,
+        };
+    }
+    let high = wide(file[at + 2]);
+    if high == 0 {
+        return Reading { value: 0, next: 0 };
+    }
+    if high > 3 {
+        return Reading { value: 0, next: 0 };
+    }
+    Reading {
+        value: (low - 128) + 128 * (middle - 128) + 16384 * high,
+        next: at + 3,
     }
 }
 
@@ -80,6 +116,16 @@ pub struct Node {
     pub symbol: u16,
 }
 
+// Those of no node.
+const NONE: Node = Node {
+    form: 0,
+    attributes: 0,
+    detail: 0,
+    first: 0,
+    second: 0,
+    symbol: 0,
+};
+
 // Those from a place of a file on.
 fn node_from(file: &[u8], at: usize) -> Node
     ensures { λ r. ⌜ NodeFrom (now (file .entry)) at r ⌝ }
@@ -94,6 +140,36 @@ fn node_from(file: &[u8], at: usize) -> Node
         form: form.value,
         attributes: attributes.value,
         detail: detail.value,
+        first: first.value,
+        second: second.value,
+        symbol: symbol.value,
+    }
+}
+
+// The bytes that a node has at most whose form, attributes and detail are a byte each.
+pub const QUICK: usize = 12;
+
+// Those from a place of a file on, where so many bytes are left and the first three numbers are small, as they are in accepted files; zeros otherwise.
+pub fn quick_from(file: &[u8], place: u16) -> Node
+    ensures { λ r. ⌜ ((r .form ≡ 0 → ⊥) → NodeFrom (now (file .entry)) place r) ⌝ }
+{
+    let at = place as usize;
+    if file.len() < at + QUICK {
+        return NONE;
+    }
+    let form = wide(file[at]);
+    let attributes = wide(file[at + 1]);
+    let detail = wide(file[at + 2]);
+    if 127 < form + attributes + detail {
+        return NONE;
+    }
+    let first = near_at(file, at + 3);
+    let second = near_at(file, first.next);
+    let symbol = near_at(file, second.next);
+    Node {
+        form: form,
+        attributes: attributes,
+        detail: detail,
         first: first.value,
         second: second.value,
         symbol: symbol.value,
@@ -122,14 +198,7 @@ pub fn node_at(file: &[u8], held: &[u16], node: u16) -> Node
         return node_in(held, node);
     }
     if is_outside(held, node) {
-        return Node {
-            form: 0,
-            attributes: 0,
-            detail: 0,
-            first: 0,
-            second: 0,
-            symbol: 0,
-        };
+        return NONE;
     }
     node_from(file, place_of(file, held, node))
 }
