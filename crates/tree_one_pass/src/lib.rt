@@ -10,9 +10,11 @@ use rows::row_of;
 use tree::offsets;
 use tree::sizes;
 use tree_labels::form::is_symbol_allowed;
+use tree_labels::level::larger;
 use tree_rules::refusal::has_bad_count;
 use tree_source::Node;
 use tree_source::node_at;
+use tree_source::quick_from;
 ghost use mathlib.Core.Path.{_≡_};
 ghost use mathlib.Core.Bool.{true};
 ghost use Prim.Native.Nat.{ℕ, _+_, _*_, _≤_, _<_};
@@ -23,12 +25,19 @@ ghost use Rattle.tree_source.specs.Source.{cellsOf};
 ghost use Rattle.tree_source.specs.Nodes.{NodeAt};
 ghost use Rattle.tree_one_pass.specs.Marks.{Marks, byLevels};
 
-// The numbers of a node that is there; those of a table without a look at its length.
+// The numbers of a node that is there; those of a table without a look at its length, those of a file quickly where that can be.
 fn numbers_at(file: &[u8], held: &[u16], node: u16) -> Node
     requires { ⌜ (1 ≤ node) × (nodeCells * node ≤ length (cellsOf (now file) (now held))) ⌝ }
     ensures { λ r. ⌜ NodeAt (cellsOf (now (file .entry)) (now (held .entry))) node r ⌝ }
 {
     if file.len() != 0 {
+        if node != 1 {
+            let at = node as usize;
+            let quick = quick_from(file, held[at - 2]);
+            if quick.form != 0 {
+                return quick;
+            }
+        }
         return node_at(file, held, node);
     }
     let at = sizes::NODE_CELLS * ((node - 1) as usize);
@@ -66,43 +75,19 @@ fn mark_at(file: &[u8], held: &[u16], node: u16, numbers: Node, one: u16, two: u
     )
 }
 
-// Whether four nodes from a number on have been taken by their owners.
-fn four_taken(marks: &[u16], at: usize) -> bool
-    requires { ⌜ at + 3 < length (now marks) ⌝ }
-    ensures { λ r. ⌜ (r ≡ true → (j : ℕ) → at ≤ j → j < at + 4 → getD (now (marks .entry)) j 0 ≡ 0) ⌝ }
-{
-    if marks[at] != 0 {
-        return false;
-    }
-    if marks[at + 1] != 0 {
-        return false;
-    }
-    if marks[at + 2] != 0 {
-        return false;
-    }
-    marks[at + 3] == 0
-}
-
 // Whether each node but 1 has been taken by an owner.
 fn all_taken(marks: &[u16], count: u16) -> bool
     requires { ⌜ (count ≤ mostNodes) × (count < length (now marks)) ⌝ }
     ensures { λ r. ⌜ (r ≡ true → (j : ℕ) → 2 ≤ j → j ≤ count → getD (now (marks .entry)) j 0 ≡ 0) ⌝ }
 {
+    let mut most: u16 = 0;
     let mut done: u16 = 1;
-    while done + 3 < count {
-        if !four_taken(marks, (done + 1) as usize) {
-            return false;
-        }
-        done += 4;
-    }
     while done < count {
         let at = (done + 1) as usize;
-        if marks[at] != 0 {
-            return false;
-        }
+        most = larger(most, marks[at]);
         done += 1;
     }
-    true
+    most == 0
 }
 
 // How many nodes the longest path from node 1 holds, where it is certain that none of 6 to 10 applies; 0 otherwise. From the last node to the first, as operands come after their owners.
