@@ -10,7 +10,6 @@ use rows::row_of;
 use tree::offsets;
 use tree::sizes;
 use tree_labels::form::is_symbol_allowed;
-use tree_labels::level::larger;
 use tree_rules::refusal::has_bad_count;
 use tree_source::Node;
 use tree_source::node_at;
@@ -80,14 +79,14 @@ fn all_taken(marks: &[u16], count: u16) -> bool
     requires { ⌜ (count ≤ mostNodes) × (count < length (now marks)) ⌝ }
     ensures { λ r. ⌜ (r ≡ true → (j : ℕ) → 2 ≤ j → j ≤ count → getD (now (marks .entry)) j 0 ≡ 0) ⌝ }
 {
-    let mut most: u16 = 0;
+    let mut left: u16 = 0;
     let mut done: u16 = 1;
     while done < count {
         let at = (done + 1) as usize;
-        most = larger(most, marks[at]);
+        left = left | marks[at];
         done += 1;
     }
-    most == 0
+    left == 0
 }
 
 // How many nodes the longest path from node 1 holds, where it is certain that none of 6 to 10 applies; 0 otherwise. From the last node to the first, as operands come after their owners.
