@@ -4,7 +4,7 @@ use file_numbers::number_at;
 use file_numbers::wide;
 use tree::offsets;
 use tree::sizes;
-use tree_source::QUICK;
+use tree_source::QUICK_BYTES;
 ghost use mathlib.Core.Path.{_≡_};
 ghost use mathlib.Core.Bool.{false};
 ghost use Prim.Native.Nat.{_+_, _*_, _≤_, _<_};
@@ -118,10 +118,10 @@ fn after_quick_node(file: &[u8], at: usize) -> usize
     ensures { λ r. ⌜ ((r ≡ 0 → ⊥) → Passed (now (file .entry)) at nodeCells (End r)) ⌝ }
 {
     let end = file.len();
-    if end < QUICK {
+    if end < QUICK_BYTES {
         return 0;
     }
-    if end - QUICK < at {
+    if end - QUICK_BYTES < at {
         return 0;
     }
     if 127 < wide(file[at]) + wide(file[at + 1]) + wide(file[at + 2]) {

@@ -1,14 +1,18 @@
 -- A number that starts where three bytes are left, by these bytes. Assumes nothing.
-use mathlib.Core.Path.{_≡_}
+use mathlib.Core.Path.{_≡_, refl, sym, ap, _∙_}
+use mathlib.Core.Bool.{Bool, true, false}
 use mathlib.Core.List.{List}
 use Prim.Native.Nat.{ℕ, _+_, _*_, _-_, _≤_, _<_}
 use native.Mathlib.Omega.{arith}
 use lib.ListN.{length, getD}
+use borrow.Author.Tests.{lt-ltb, le-ltb}
+use Rattle.laws.proofs.Choice.{true-not-false}
 use Rattle.file_numbers.specs.declared.Number.the-variants.{Malformed, Value}
 use Rattle.file_numbers.specs.Standing.{standsAt}
 use Rattle.file_numbers.proofs.Groups.{one-byte, zero-second, two-bytes, zero-third, high-third, three-bytes}
 use Rattle.tree_source.specs.Source.{valueAt, nextAt}
-use Rattle.tree_source.specs.Nodes.{NodeFrom}
+use Rattle.tree_source.specs.declared.Node.{Node}
+use Rattle.tree_source.specs.Nodes.{NodeFrom, QuickFrom, isSlow, noNode, quickBytes}
 use Rattle.tree_source.proofs.Nodes.{no-value, is-value, six-from}
 
 -- the value of the number at a place, and the place after it, which is near
@@ -60,3 +64,32 @@ module _ (file : List ℕ) (at a b c : ℕ) (room : at + 12 ≤ length file) (is
   -- and three that are near
   pub quick-node : (d e f d′ e′ f′ : ℕ) → NearAt file (at + 3) d d′ → NearAt file d′ e e′ → NearAt file e′ f f′ → NodeFrom file at (record { form = a; attributes = b; detail = c; first = d; second = e; symbol = f })
   quick-node d e f d′ e′ f′ p q r = six-from file at _ _ _ _ _ _ _ _ _ _ _ (is-value _ _ _ _ small-form) (is-value _ _ _ _ small-attributes) (is-value _ _ _ _ small-detail) (p .0, p .1) (q .0, q .1) (r .0)
+
+-- where the numbers from a place on are quickly read, and where they are not
+module _ (file : List ℕ) (at : ℕ) where
+  pub slow-short : length file < at + quickBytes → isSlow file at ≡ true
+  unfolding isSlow
+  slow-short h = rw (lt-ltb (length file) (at + quickBytes) h)
+
+  module _ (room : at + quickBytes ≤ length file) (a b c : ℕ) (is-a : a ≡ getD file at 0) (is-b : b ≡ getD file (at + 1) 0) (is-c : c ≡ getD file (at + 2) 0) where
+    pub slow-large : 127 < a + b + c → isSlow file at ≡ true
+    unfolding isSlow
+    slow-large h = rw (le-ltb (length file) (at + quickBytes) room, sym is-a, sym is-b, sym is-c) (lt-ltb 127 (a + b + c) h)
+
+    pub quick-small : a + b + c ≤ 127 → isSlow file at ≡ false
+    unfolding isSlow
+    quick-small h = rw (le-ltb (length file) (at + quickBytes) room, sym is-a, sym is-b, sym is-c) (le-ltb 127 (a + b + c) h)
+
+  pub read-slowly : (n : Node) → isSlow file at ≡ true → n ≡ noNode → QuickFrom file at n
+  read-slowly n s e = record { quick = λ q. absurd (true-not-false (sym s ∙ q)); slow = λ _. e }
+
+  pub read-quickly : (n : Node) → isSlow file at ≡ false → NodeFrom file at n → QuickFrom file at n
+  read-quickly n q f = record { quick = λ _. f; slow = λ s. absurd (true-not-false (sym s ∙ q)) }
+
+  -- a form that is not 0 was read
+  pub form-read : (n : Node) → QuickFrom file at n → (n .form ≡ 0 → ⊥) → NodeFrom file at n
+  form-read n r some = go (isSlow file at) refl
+    where
+      go : (b : Bool) → isSlow file at ≡ b → NodeFrom file at n
+      go false q = r .quick q
+      go true s = absurd (some (ap (λ m. m .form) (r .slow s)))

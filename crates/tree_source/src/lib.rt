@@ -16,7 +16,7 @@ ghost use lib.ListN.{length, getD};
 ghost use Rattle.tree.specs.Sizes.{nodeCells};
 ghost use Rattle.tree.specs.Table.{formAt};
 ghost use Rattle.tree_source.specs.Source.{valueAt, nextAt, behindHeader, cellsOf};
-ghost use Rattle.tree_source.specs.Nodes.{NodeAt, NodeFrom};
+ghost use Rattle.tree_source.specs.Nodes.{NodeAt, NodeFrom, QuickFrom};
 
 // ---- numbers of a file
 
@@ -147,14 +147,14 @@ fn node_from(file: &[u8], at: usize) -> Node
 }
 
 // The bytes that a node has at most whose form, attributes and detail are a byte each.
-pub const QUICK: usize = 12;
+pub const QUICK_BYTES: usize = 12;
 
 // Those from a place of a file on, where so many bytes are left and the first three numbers are small, as they are in accepted files; zeros otherwise.
 pub fn quick_from(file: &[u8], place: u16) -> Node
-    ensures { λ r. ⌜ ((r .form ≡ 0 → ⊥) → NodeFrom (now (file .entry)) place r) ⌝ }
+    ensures { λ r. ⌜ QuickFrom (now (file .entry)) place r ⌝ }
 {
     let at = place as usize;
-    if file.len() < at + QUICK {
+    if file.len() < at + QUICK_BYTES {
         return NONE;
     }
     let form = wide(file[at]);

@@ -6,6 +6,7 @@ use Rattle.laws.proofs.Calls.{free}
 use Rattle.tree.specs.Sizes.{nodeCells}
 use Rattle.tree.specs.Table.{attributesColumn, detailColumn, firstColumn, secondColumn, symbolColumn}
 use Rattle.tree_source.proofs.Cells.{cells-table, has-place}
+use Rattle.tree_source.proofs.Near.{form-read}
 use Rattle.tree_source.proofs.Nodes.{other-node}
 use Rattle.tree_one_pass.proofs.Fine.{cell-form, cell-other}
 use borrow.Author.Needs.{needs}
@@ -36,7 +37,7 @@ returns c =
     let p = c .before .before .before .before .before .before .before .before .pre in
     let s = c .before .before .before .before .before .if1 .taken in
     let n = c .before .before .before .before .if2 .taken in
-    other-node (a .file .now) (a .held .now) s (a .node) (omega (arith, n)) (has-place _ _ s _ (p .1)) _ (c .before .before .quick-from .ensures (c .if3 .taken))
+    other-node (a .file .now) (a .held .now) s (a .node) (omega (arith, n)) (has-place _ _ s _ (p .1)) _ (form-read _ _ _ (c .before .before .quick-from .ensures) (c .if3 .taken))
 
 pub numbers-at-spec : {M : Type 1} → statement M
 numbers-at-spec =
