@@ -13,6 +13,17 @@ pub some-more : (f : ℕ → Bool) (n : ℕ) → some f n ≡ false → f (n + 1
 unfolding some
 some-more f n e p = let s : n + 1 ≡ suc n = omega arith in rw s (rw (e, rw s at p))
 
+-- one number more
+pub some-next : (f : ℕ → Bool) (n : ℕ) (b : Bool) → b ≡ f (n + 1) → (some f n || b) ≡ some f (n + 1)
+unfolding some
+some-next f n b e = let s : n + 1 ≡ suc n = omega arith in rw (e, s)
+
+-- tests that agree in the range
+pub some-same : (f g : ℕ → Bool) (n : ℕ) → ((j : ℕ) → j ≤ n → f j ≡ g j) → some f n ≡ some g n
+unfolding some
+some-same f g zero e = refl
+some-same f g (suc n) e = rw (some-same f g n (λ j h. e j (omega arith)), e (suc n) (omega arith))
+
 -- none in the range: not at a number of it
 pub some-none : (f : ℕ → Bool) (n : ℕ) → some f n ≡ false → (i : ℕ) → 1 ≤ i → i ≤ n → f i ≡ false
 unfolding some

@@ -187,9 +187,9 @@ module _ (cells : List ℕ) (count : ℕ) where
     tells-class o v (nothing e) h = rw e
     tells-class o v (mark a b) h = let q = mark-kind o in rw q (low-kind o (done o a b) (omega arith))
 
-    tells-right : (p : Place) (o v k : ℕ) → Tells o v → (k ≤ 2 → classAt cells (firstAt cells n) ≡ k) → Fits p k (v % 8) → wrongAt cells count n p o ≡ false
+    tells-right : (p : Place) (o v k : ℕ) → Tells o v → (k ≤ 2 → classAt cells (firstAt cells n) ≡ k) → Fits p k (v % 8) → wrongAt cells count (firstAt cells n) p o ≡ false
     unfolding Fits isRequired wrongPresent wrongItem wrongNext
-    tells-right p o v k (nothing e) g f = wrong-absent cells count n p o e ∙ absent-right p f
+    tells-right p o v k (nothing e) g f = wrong-absent cells count (firstAt cells n) p o e ∙ absent-right p f
       where
         absent-right : (p : Place) → Fits p k 0 → isRequired p ≡ false
         absent-right Nothing f = refl
@@ -198,9 +198,9 @@ module _ (cells : List ℕ) (count : ℕ) where
         absent-right (ListOf class) f = refl
         absent-right Item f = absurd (omega arith)
         absent-right Next f = refl
-    tells-right p o v k (mark a b) g f = wrong-present cells count n p o (λ z. omega arith) ∙ present-right p (rw (mark-kind o) at f)
+    tells-right p o v k (mark a b) g f = wrong-present cells count (firstAt cells n) p o (λ z. omega arith) ∙ present-right p (rw (mark-kind o) at f)
       where
-        present-right : (p : Place) → Fits p k (kindAt cells o) → wrongPresent cells count n p o ≡ false
+        present-right : (p : Place) → Fits p k (kindAt cells o) → wrongPresent cells count (firstAt cells n) p o ≡ false
         present-right Nothing f = let z = some-kind o (done o a b) in absurd (omega arith)
         present-right (Required class) f = right-class o (done o a b) class (low-kind o (done o a b) (f .1) ∙ f .2)
         present-right (Optional class) (inl f) = let z = some-kind o (done o a b) in absurd (omega arith)

@@ -10,12 +10,12 @@ use Rattle.tree_places.specs.declared.place.Place.the-variants.{Nothing,
 use Rattle.tree_places.specs.Places.{wrongAt}
 use Rattle.tree_places.specs.Steps.{isRequired, wrongPresent}
 
-module _ (cells : List ℕ) (count i : ℕ) (place : Place) (o : ℕ) where
-  pub wrong-absent : o ≡ 0 → wrongAt cells count i place o ≡ isRequired place
+module _ (cells : List ℕ) (count f : ℕ) (place : Place) (o : ℕ) where
+  pub wrong-absent : o ≡ 0 → wrongAt cells count f place o ≡ isRequired place
   unfolding wrongAt isRequired
   wrong-absent z = go place (eq-eqb o 0 z)
     where
-      go : (p : Place) → eqb o 0 ≡ true → wrongAt cells count i p o ≡ isRequired p
+      go : (p : Place) → eqb o 0 ≡ true → wrongAt cells count f p o ≡ isRequired p
       go Nothing e = rw e
       go (Required class) e = rw e
       go (Optional class) e = rw e
@@ -23,11 +23,11 @@ module _ (cells : List ℕ) (count i : ℕ) (place : Place) (o : ℕ) where
       go Item e = rw e
       go Next e = rw e
 
-  pub wrong-present : (o ≡ 0 → ⊥) → wrongAt cells count i place o ≡ wrongPresent cells count i place o
+  pub wrong-present : (o ≡ 0 → ⊥) → wrongAt cells count f place o ≡ wrongPresent cells count f place o
   unfolding wrongAt wrongPresent
   wrong-present n = go place (ne-eqb o 0 n)
     where
-      go : (p : Place) → eqb o 0 ≡ false → wrongAt cells count i p o ≡ wrongPresent cells count i p o
+      go : (p : Place) → eqb o 0 ≡ false → wrongAt cells count f p o ≡ wrongPresent cells count f p o
       go Nothing e = rw e
       go (Required class) e = rw e
       go (Optional class) e = rw e

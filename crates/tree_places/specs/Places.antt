@@ -74,23 +74,23 @@ wrongItem cells count o = wrongClass cells count anExpression o && wrongClass ce
 
 -- "and each next link's item of the class of the item before it"; an item above the count has no class to compare with
 unfoldable pub wrongNext : List ℕ → ℕ → ℕ → ℕ → Bool
-wrongNext cells count i o =
-    pick
-    (leb (firstAt cells i) count)
-    (wrongList cells count (classAt cells (firstAt cells i)) o)
-    (wrongClass cells count aLink o)
+wrongNext cells count item o =
+    pick (leb item count) (wrongList cells count (classAt cells item) o) (wrongClass cells count aLink o)
 
--- the number o at a place of node i: "An operand is absent where required, present where forbidden, or of the wrong class"
+-- the number o at a place of a node whose first number is f, a link's item: "An operand is absent where required, present where forbidden, or of the wrong class"
 unfoldable pub wrongAt : List ℕ → ℕ → ℕ → Place → ℕ → Bool
-wrongAt cells count i Nothing o = not (eqb o 0)
-wrongAt cells count i (Required class) o = eqb o 0 || wrongClass cells count class o
-wrongAt cells count i (Optional class) o = not (eqb o 0) && wrongClass cells count class o
-wrongAt cells count i (ListOf class) o = not (eqb o 0) && wrongList cells count class o
-wrongAt cells count i Item o = eqb o 0 || wrongItem cells count o
-wrongAt cells count i Next o = not (eqb o 0) && wrongNext cells count i o
+wrongAt cells count f Nothing o = not (eqb o 0)
+wrongAt cells count f (Required class) o = eqb o 0 || wrongClass cells count class o
+wrongAt cells count f (Optional class) o = not (eqb o 0) && wrongClass cells count class o
+wrongAt cells count f (ListOf class) o = not (eqb o 0) && wrongList cells count class o
+wrongAt cells count f Item o = eqb o 0 || wrongItem cells count o
+wrongAt cells count f Next o = not (eqb o 0) && wrongNext cells count f o
 
--- 7, of node i: at its first place, or at its second
+-- 7, of a node with these numbers: at its first place, or at its second
+abbrev pub wrongOperands : List ℕ → ℕ → ℕ → ℕ → ℕ → ℕ → Bool
+wrongOperands cells count form detail f s =
+    wrongAt cells count f (firstPlace form detail) f || wrongAt cells count f (secondPlace form detail) s
+
+-- and of node i
 unfoldable pub badOperands : List ℕ → ℕ → ℕ → Bool
-badOperands cells count i =
-    wrongAt cells count i (firstPlace (formAt cells i) (detailAt cells i)) (firstAt cells i)
-    || wrongAt cells count i (secondPlace (formAt cells i) (detailAt cells i)) (secondAt cells i)
+badOperands cells count i = wrongOperands cells count (formAt cells i) (detailAt cells i) (firstAt cells i) (secondAt cells i)

@@ -26,11 +26,11 @@ isRequired (ListOf class) = false
 isRequired Item = true
 isRequired Next = false
 
--- an operand that is present at a place of node i
+-- an operand that is present at a place of a node whose first number is f
 unfoldable pub wrongPresent : List ℕ → ℕ → ℕ → Place → ℕ → Bool
-wrongPresent cells count i Nothing o = true
-wrongPresent cells count i (Required class) o = wrongClass cells count class o
-wrongPresent cells count i (Optional class) o = wrongClass cells count class o
-wrongPresent cells count i (ListOf class) o = wrongList cells count class o
-wrongPresent cells count i Item o = wrongItem cells count o
-wrongPresent cells count i Next o = wrongNext cells count i o
+wrongPresent cells count f Nothing o = true
+wrongPresent cells count f (Required class) o = wrongClass cells count class o
+wrongPresent cells count f (Optional class) o = wrongClass cells count class o
+wrongPresent cells count f (ListOf class) o = wrongList cells count class o
+wrongPresent cells count f Item o = wrongItem cells count o
+wrongPresent cells count f Next o = wrongNext cells count f o

@@ -126,18 +126,17 @@ fn wrong_item(file: &[u8], held: &[u16], count: u16, operand: u16) -> bool
 }
 
 // A next link that is none, or whose item is of another class than the item of the link before it.
-fn wrong_next(file: &[u8], held: &[u16], count: u16, node: u16, operand: u16) -> bool
-    ensures { λ r. ⌜ r ≡ wrongNext (cellsOf (now (file .entry)) (now (held .entry))) count node operand ⌝ }
+fn wrong_next(file: &[u8], held: &[u16], count: u16, item: u16, operand: u16) -> bool
+    ensures { λ r. ⌜ r ≡ wrongNext (cellsOf (now (file .entry)) (now (held .entry))) count item operand ⌝ }
 {
-    let link = node_at(file, held, node);
-    if link.first > count {
+    if item > count {
         return wrong_class(file, held, count, 3, operand);
     }
     wrong_list(
         file,
         held,
         count,
-        class_of(form_at(file, held, link.first)),
+        class_of(form_at(file, held, item)),
         operand,
     )
 }
@@ -156,16 +155,16 @@ fn is_required(place: Place) -> bool
     }
 }
 
-// Whether an operand that is present does not fit a place of a node.
+// Whether an operand that is present does not fit a place of a node whose first number is this.
 fn wrong_present(
     file: &[u8],
     held: &[u16],
     count: u16,
-    node: u16,
+    first: u16,
     place: Place,
     operand: u16,
 ) -> bool
-    ensures { λ r. ⌜ r ≡ wrongPresent (cellsOf (now (file .entry)) (now (held .entry))) count node place operand ⌝ }
+    ensures { λ r. ⌜ r ≡ wrongPresent (cellsOf (now (file .entry)) (now (held .entry))) count first place operand ⌝ }
 {
     match place {
         Place::Nothing => true,
@@ -173,23 +172,23 @@ fn wrong_present(
         Place::Optional(class) => wrong_class(file, held, count, class, operand),
         Place::List(class) => wrong_list(file, held, count, class, operand),
         Place::Item => wrong_item(file, held, count, operand),
-        Place::Next => wrong_next(file, held, count, node, operand),
+        Place::Next => wrong_next(file, held, count, first, operand),
     }
 }
 
-// Whether the number at a place of a node is absent where required, present where forbidden, or of the wrong class.
+// Whether the number at a place of a node whose first number is this is absent where required, present where forbidden, or of the wrong class.
 pub fn is_wrong(
     file: &[u8],
     held: &[u16],
     count: u16,
-    node: u16,
+    first: u16,
     place: Place,
     operand: u16,
 ) -> bool
-    ensures { λ r. ⌜ r ≡ wrongAt (cellsOf (now (file .entry)) (now (held .entry))) count node place operand ⌝ }
+    ensures { λ r. ⌜ r ≡ wrongAt (cellsOf (now (file .entry)) (now (held .entry))) count first place operand ⌝ }
 {
     if operand == 0 {
         return is_required(place);
     }
-    wrong_present(file, held, count, node, place, operand)
+    wrong_present(file, held, count, first, place, operand)
 }

@@ -104,7 +104,7 @@ module _ (cells : List ℕ) (count : ℕ) where
       go true p = inr (right-class aType o h (rw p at e))
       go false p = inl (right-class anExpression o h p)
 
-  right-next : (i o : ℕ) → firstAt cells i ≤ count → o ≤ count → firstAt cells o ≤ count → wrongNext cells count i o ≡ false
+  right-next : (i o : ℕ) → firstAt cells i ≤ count → o ≤ count → firstAt cells o ≤ count → wrongNext cells count (firstAt cells i) o ≡ false
       → (classAt cells o ≡ aLink) × (classAt cells (firstAt cells o) ≡ classAt cells (firstAt cells i))
   unfolding wrongNext
   right-next i o h k l e =
@@ -192,7 +192,7 @@ module _ (context count : ℕ) (cells : List ℕ) (ok : Accepted context count c
     absent-fits Item z e = true-not-false e
     absent-fits Next z e = inl z
 
-    present-fits : (place : Place) → Within count i o → wrongPresent cells count i place o ≡ false → Fits cells count i place o
+    present-fits : (place : Place) → Within count i o → wrongPresent cells count (firstAt cells i) place o ≡ false → Fits cells count i place o
     unfolding wrongPresent
     present-fits Nothing w e = true-not-false e
     present-fits (Required class) w e = (w, right-class cells count class o (w .1) e)
@@ -201,12 +201,12 @@ module _ (context count : ℕ) (cells : List ℕ) (ok : Accepted context count c
     present-fits Item w e = (w, right-item cells count o (w .1) e)
     present-fits Next w e = let r = right-next cells count i o (first-most i low high) (w .1) (first-most o (omega arith) (w .1)) e in inr (w, r .0, r .1)
 
-    fits : (place : Place) → wrongAt cells count i place o ≡ false → Fits cells count i place o
+    fits : (place : Place) → wrongAt cells count (firstAt cells i) place o ≡ false → Fits cells count i place o
     fits place e = go (ℕ-discrete o 0)
       where
         go : Dec (o ≡ 0) → Fits cells count i place o
-        go (yes z) = absent-fits place z (sym (wrong-absent cells count i place o z) ∙ e)
-        go (no z) = present-fits place (placed count i o in-order z) (sym (wrong-present cells count i place o z) ∙ e)
+        go (yes z) = absent-fits place z (sym (wrong-absent cells count (firstAt cells i) place o z) ∙ e)
+        go (no z) = present-fits place (placed count i o in-order z) (sym (wrong-present cells count (firstAt cells i) place o z) ∙ e)
 
   -- operands are present exactly where their form has them, and of the right class
   pub first-fits : (i : ℕ) → 1 ≤ i → i ≤ count → Fits cells count i (firstPlace (formAt cells i) (detailAt cells i)) (firstAt cells i)
@@ -215,7 +215,7 @@ module _ (context count : ℕ) (cells : List ℕ) (ok : Accepted context count c
 
   pub second-fits : (i : ℕ) → 1 ≤ i → i ≤ count → Fits cells count i (secondPlace (formAt cells i) (detailAt cells i)) (secondAt cells i)
   unfolding badOperands
-  second-fits i low high = fits i low high (secondAt cells i) (second-placed i low high) _ (or-false (wrongAt cells count i (firstPlace (formAt cells i) (detailAt cells i)) (firstAt cells i)) _ (operands-right i low high) .1)
+  second-fits i low high = fits i low high (secondAt cells i) (second-placed i low high) _ (or-false (wrongAt cells count (firstAt cells i) (firstPlace (formAt cells i) (detailAt cells i)) (firstAt cells i)) _ (operands-right i low high) .1)
 
   -- the tree's operands are the table's numbers
   standing-operand : (i o : ℕ) → (o ≡ 0) ⊎ Within count i o → operandOf count i o ≡ o

@@ -1,4 +1,5 @@
 pub mod Owners
+pub mod Broken
 pub mod Depth
 pub mod First
 pub mod Count

@@ -13,7 +13,7 @@ use Rattle.laws.specs.Choice.{pick}
 use Rattle.tree.specs.Sizes.{mostNodes}
 use Rattle.tree.specs.Table.{firstAt, secondAt}
 use Rattle.tree_rules.specs.Refusals.{owners, badOwner}
-use Rattle.tree_rules.specs.Passes.{counted, Counted}
+use Rattle.tree_rules.specs.Passes.{counted, Counted, badlyOwned}
 
 counted-in : (xs : List ℕ) (o : ℕ) → o < length xs → counted xs o ≡ set xs o (getD xs o 0 + 1)
 unfolding counted pick
@@ -108,6 +108,6 @@ unfolding owners
 counted-none cells n = let l = length-replicate {A = ℕ} n 0 in record { at = λ j h. getD-replicate n j 0 0 (omega arith) }
 
 -- the test on a node's count is the rule
-pub owned-badly : (cells : List ℕ) (count : ℕ) (xs : List ℕ) → Counted cells count xs → count < length xs → (j : ℕ) → j ≤ count → (not (eqb j 1) && not (eqb (getD xs j 0) 1)) ≡ badOwner cells count j
-unfolding badOwner
+pub owned-badly : (cells : List ℕ) (count : ℕ) (xs : List ℕ) → Counted cells count xs → count < length xs → (j : ℕ) → j ≤ count → badlyOwned xs j ≡ badOwner cells count j
+unfolding badlyOwned badOwner
 owned-badly cells count xs k s j h = rw (k .at j (omega arith))

@@ -51,8 +51,11 @@ unfoldable pub refusal8 : List ℕ → ℕ → Bool
 refusal8 cells count = some (badOrder cells count) count || some (badOwner cells count) count
 
 -- 9. "A path type has no segment, or a bound list is empty." Their detail is then 0
+abbrev pub emptyNumbers : ℕ → ℕ → Bool
+emptyNumbers form detail = isOneOf (TypeImplTrait ∷ TypePath ∷ TypeTraitObject ∷ []) form && eqb detail 0
+
 unfoldable pub empty : List ℕ → ℕ → Bool
-empty cells i = isOneOf (TypeImplTrait ∷ TypePath ∷ TypeTraitObject ∷ []) (formAt cells i) && eqb (detailAt cells i) 0
+empty cells i = emptyNumbers (formAt cells i) (detailAt cells i)
 
 unfoldable pub refusal9 : List ℕ → ℕ → Bool
 refusal9 cells count = some (empty cells) count
@@ -61,8 +64,11 @@ refusal9 cells count = some (empty cells) count
 unfoldable pub plainBlock : List ℕ → ℕ → Bool
 plainBlock cells i = eqb (formAt cells i) ExprBlock && (eqb (attributesAt cells i) 0 && eqb (detailAt cells i) 0)
 
+abbrev pub badOutputOf : List ℕ → ℕ → ℕ → ℕ → Bool
+badOutputOf cells form detail body = eqb form ExprClosure && (eqb detail 1 && not (plainBlock cells body))
+
 unfoldable pub badOutput : List ℕ → ℕ → Bool
-badOutput cells i = eqb (formAt cells i) ExprClosure && (eqb (detailAt cells i) 1 && not (plainBlock cells (firstAt cells i)))
+badOutput cells i = badOutputOf cells (formAt cells i) (detailAt cells i) (firstAt cells i)
 
 unfoldable pub refusal10 : List ℕ → ℕ → Bool
 refusal10 cells count = some (badOutput cells) count

@@ -1,4 +1,5 @@
-// The refusals 3, 4 and 6 to 11 of a context, a count and the nodes of a source, each a pass over the nodes, in their order.
+// The refusals 3, 4 and 6 to 11 of a context, a count and the nodes of a source: the first that applies.
+use bools::either;
 use tree::forms;
 use tree::sizes;
 use tree::table::operand_of;
@@ -13,7 +14,7 @@ use tree_source::is_short;
 use tree_source::node_at;
 ghost use mathlib.Core.Path.{_≡_};
 ghost use mathlib.Core.Bool.{false, not, _&&_, _||_};
-ghost use Prim.Native.Nat.{_+_, _≤_, _<_};
+ghost use Prim.Native.Nat.{_≤_, _<_};
 ghost use lib.Dec.{eqb, ltb};
 ghost use lib.ListN.{length, getD};
 ghost use Rattle.laws.specs.Each.{some};
@@ -21,8 +22,8 @@ ghost use Rattle.tree.specs.Sizes.{mostNodes};
 ghost use Rattle.tree.specs.Forms.{ExprBlock, allowed};
 ghost use Rattle.tree.specs.Trees.{treeAt, levels};
 ghost use Rattle.tree_source.specs.Source.{cellsOf};
-ghost use Rattle.tree_rules.specs.Refusals.{refusal4, refusal7, misplaced, badOrder, refusal8, empty, badOutput, refusal11, firstOf, nodeRefusals, refusal};
-ghost use Rattle.tree_rules.specs.Passes.{breaks, counted, Counted, Levelled};
+ghost use Rattle.tree_rules.specs.Refusals.{refusal4, refusal6, misplaced, emptyNumbers, badOutputOf, badOutput, refusal11, firstOf, nodeRefusals, refusal};
+ghost use Rattle.tree_rules.specs.Passes.{firstRuled, BrokenWith, BrokenBy, counted, Counted, badlyOwned, Levelled};
 
 // Whether a count is 0 or above 4,096.
 fn is_no_count(count: u16) -> bool
@@ -54,19 +55,7 @@ pub fn has_bad_count(file: &[u8], held: &[u16], count: u16) -> bool
     is_short(file, held, count)
 }
 
-// ---- rules that look at one node after the other
-
-// What a pass looks for.
-enum Rule {
-    // 6: a number that is not allowed.
-    Numbers,
-    // 7: an operand that does not fit its place.
-    Operands,
-    // 9: a path without a segment, or bounds without a bound.
-    Empty,
-    // 10: a closure with an output and without a plain block.
-    Output,
-}
+// ---- the rules of one node, by its numbers
 
 fn has_bad_numbers(node: Node) -> bool
     ensures { λ r. ⌜ r ≡ not (allowed (node .form) (node .attributes) (node .detail) (node .symbol)) ⌝ }
@@ -96,14 +85,12 @@ fn has_bad_order(count: u16, node: u16, first: u16, second: u16) -> bool
     is_misplaced(count, node, second)
 }
 
-fn is_empty(file: &[u8], held: &[u16], node: u16) -> bool
-    ensures { λ r. ⌜ r ≡ empty (cellsOf (now (file .entry)) (now (held .entry))) node ⌝ }
+fn is_empty(node: Node) -> bool
+    ensures { λ r. ⌜ r ≡ emptyNumbers (node .form) (node .detail) ⌝ }
 {
-    match form_at(file, held, node) {
-        forms::TYPE_IMPL_TRAIT | forms::TYPE_PATH | forms::TYPE_TRAIT_OBJECT => {
-            let numbers = node_at(file, held, node);
-            numbers.detail == 0
-        }
+    let form = node.form;
+    match form {
+        forms::TYPE_IMPL_TRAIT | forms::TYPE_PATH | forms::TYPE_TRAIT_OBJECT => node.detail == 0,
         _ => false,
     }
 }
@@ -120,65 +107,63 @@ fn is_plain_block(node: Node) -> bool
     node.detail == 0
 }
 
-// 10, of one node.
+// 10, of a node with these numbers.
+fn is_output_bad(file: &[u8], held: &[u16], node: Node) -> bool
+    ensures { λ r. ⌜ r ≡ badOutputOf (cellsOf (now (file .entry)) (now (held .entry))) (node .form) (node .detail) (node .first) ⌝ }
+{
+    if node.form != forms::EXPR_CLOSURE {
+        return false;
+    }
+    if node.detail != 1 {
+        return false;
+    }
+    !is_plain_block(node_at(file, held, node.first))
+}
+
+// The same, of a node.
 pub fn has_bad_output(file: &[u8], held: &[u16], node: u16) -> bool
     ensures { λ r. ⌜ r ≡ badOutput (cellsOf (now (file .entry)) (now (held .entry))) node ⌝ }
 {
-    let numbers = node_at(file, held, node);
-    if numbers.form != forms::EXPR_CLOSURE {
-        return false;
-    }
-    if numbers.detail != 1 {
-        return false;
-    }
-    !is_plain_block(node_at(file, held, numbers.first))
+    is_output_bad(file, held, node_at(file, held, node))
 }
 
-// The same, which of most nodes reads the form alone.
-fn is_output_bad(file: &[u8], held: &[u16], node: u16) -> bool
-    ensures { λ r. ⌜ r ≡ badOutput (cellsOf (now (file .entry)) (now (held .entry))) node ⌝ }
-{
-    if form_at(file, held, node) != forms::EXPR_CLOSURE {
-        return false;
-    }
-    has_bad_output(file, held, node)
+// ---- what some node breaks
+
+struct Broken {
+    // 6: a number that is not allowed. Then the others are not known.
+    numbers: bool,
+    // 7: an operand that does not fit its place.
+    operands: bool,
+    // 8: an operand that does not come after its owner, or is above the count.
+    order: bool,
+    // 9: a path without a segment, or bounds without a bound.
+    empty: bool,
+    // 10: a closure with an output and without a plain block.
+    output: bool,
 }
 
-// Whether a node breaks a rule.
-fn breaks(rule: Rule, file: &[u8], held: &[u16], count: u16, node: u16) -> bool
-    ensures { λ r. ⌜ r ≡ breaks rule (cellsOf (now (file .entry)) (now (held .entry))) count node ⌝ }
+// What some node breaks, with one node more, whose numbers are allowed.
+fn broken_with(
+    broken: Broken,
+    file: &[u8],
+    held: &[u16],
+    count: u16,
+    node: u16,
+    numbers: Node,
+) -> Broken
+    ensures { λ r. ⌜ BrokenWith broken (cellsOf (now (file .entry)) (now (held .entry))) count node numbers r ⌝ }
 {
-    match rule {
-        Rule::Numbers => has_bad_numbers(node_at(file, held, node)),
-        Rule::Operands => has_bad_operands(file, held, count, node),
-        Rule::Empty => is_empty(file, held, node),
-        Rule::Output => is_output_bad(file, held, node),
+    let operands = has_bad_operands(file, held, count, numbers);
+    let order = has_bad_order(count, node, numbers.first, numbers.second);
+    let empty = is_empty(numbers);
+    let output = is_output_bad(file, held, numbers);
+    Broken {
+        numbers: false,
+        operands: either(broken.operands, operands),
+        order: either(broken.order, order),
+        empty: either(broken.empty, empty),
+        output: either(broken.output, output),
     }
-}
-
-// Whether some node breaks a rule.
-fn some_breaks(rule: Rule, file: &[u8], held: &[u16], count: u16) -> bool
-    ensures { λ r. ⌜ r ≡ some (breaks rule (cellsOf (now (file .entry)) (now (held .entry))) count) count ⌝ }
-{
-    let mut done: u16 = 0;
-    while done < count {
-        if breaks(rule, file, held, count, done + 1) {
-            return true;
-        }
-        done += 1;
-    }
-    false
-}
-
-// ---- 7 and 8
-
-fn has_wrong_operands(file: &[u8], held: &[u16], count: u16) -> bool
-    ensures { λ r. ⌜ r ≡ refusal7 (cellsOf (now (file .entry)) (now (held .entry))) count ⌝ }
-{
-    if class_of(form_at(file, held, 1)) != 1 {
-        return true;
-    }
-    some_breaks(Rule::Operands, file, held, count)
 }
 
 // One more owner for an operand.
@@ -192,30 +177,44 @@ fn count_owner(owners: &mut [u16], operand: u16)
     }
 }
 
-// Whether an operand is misplaced, and if none is, how many owners each node has.
-fn count_owners(file: &[u8], held: &[u16], count: u16, owners: &mut [u16]) -> bool
+// What some node breaks, and where all numbers are allowed how many owners each node has, with an array of zeros.
+fn broken_rules(file: &[u8], held: &[u16], count: u16, owners: &mut [u16]) -> Broken
     requires { ⌜ (count ≤ mostNodes) × Counted (cellsOf (now file) (now held)) 0 (now owners) ⌝ }
-    ensures { λ r. ⌜ r ≡ some (badOrder (cellsOf (now (file .entry)) (now (held .entry))) count) count ⌝ }
-    ensures { λ r. ⌜ (r ≡ false → Counted (cellsOf (now (file .entry)) (now (held .entry))) count (now (owners .exit))) ⌝ }
+    ensures { λ r. ⌜ r .numbers ≡ refusal6 (cellsOf (now (file .entry)) (now (held .entry))) count ⌝ }
+    ensures { λ r. ⌜ (r .numbers ≡ false → BrokenBy (cellsOf (now (file .entry)) (now (held .entry))) count count r × Counted (cellsOf (now (file .entry)) (now (held .entry))) count (now (owners .exit))) ⌝ }
     ensures { λ r. ⌜ length (now (owners .exit)) ≡ length (now (owners .entry)) ⌝ }
 {
+    let mut broken = Broken {
+        numbers: false,
+        operands: false,
+        order: false,
+        empty: false,
+        output: false,
+    };
     let mut done: u16 = 0;
     while done < count {
-        let node = node_at(file, held, done + 1);
-        if has_bad_order(count, done + 1, node.first, node.second) {
-            return true;
+        let numbers = node_at(file, held, done + 1);
+        if has_bad_numbers(numbers) {
+            return Broken {
+                numbers: true,
+                operands: false,
+                order: false,
+                empty: false,
+                output: false,
+            };
         }
-        count_owner(owners, node.first);
-        count_owner(owners, node.second);
+        broken = broken_with(broken, file, held, count, done + 1, numbers);
+        count_owner(owners, numbers.first);
+        count_owner(owners, numbers.second);
         done += 1;
     }
-    false
+    broken
 }
 
 // Whether a node but 1 is not owned exactly once.
 fn is_badly_owned(owners: &[u16], node: u16) -> bool
     requires { ⌜ node < length (now owners) ⌝ }
-    ensures { λ r. ⌜ r ≡ (not (eqb node 1) && not (eqb (getD (now (owners .entry)) node 0) 1)) ⌝ }
+    ensures { λ r. ⌜ r ≡ badlyOwned (now (owners .entry)) node ⌝ }
 {
     if node == 1 {
         return false;
@@ -224,14 +223,10 @@ fn is_badly_owned(owners: &[u16], node: u16) -> bool
     owners[at] != 1
 }
 
-// 8, with an array of zeros.
-fn has_wrong_owners(file: &[u8], held: &[u16], count: u16, owners: &mut [u16]) -> bool
-    requires { ⌜ (count ≤ mostNodes) × (count < length (now owners)) × Counted (cellsOf (now file) (now held)) 0 (now owners) ⌝ }
-    ensures { λ r. ⌜ r ≡ refusal8 (cellsOf (now (file .entry)) (now (held .entry))) count ⌝ }
+fn some_badly_owned(owners: &[u16], count: u16) -> bool
+    requires { ⌜ count < length (now owners) ⌝ }
+    ensures { λ r. ⌜ r ≡ some (badlyOwned (now (owners .entry))) count ⌝ }
 {
-    if count_owners(file, held, count, owners) {
-        return true;
-    }
     let mut done: u16 = 0;
     while done < count {
         if is_badly_owned(owners, done + 1) {
@@ -242,33 +237,60 @@ fn has_wrong_owners(file: &[u8], held: &[u16], count: u16, owners: &mut [u16]) -
     false
 }
 
+// The first of 6 to 10 that applies, or 0, with an array of zeros.
+fn first_broken(file: &[u8], held: &[u16], count: u16, owners: &mut [u16]) -> u16
+    requires { ⌜ (count ≤ mostNodes) × (count < length (now owners)) × Counted (cellsOf (now file) (now held)) 0 (now owners) ⌝ }
+    ensures { λ r. ⌜ r ≡ firstRuled count (cellsOf (now (file .entry)) (now (held .entry))) ⌝ }
+{
+    let broken = broken_rules(file, held, count, owners);
+    if broken.numbers {
+        return 6;
+    }
+    if class_of(form_at(file, held, 1)) != 1 {
+        return 7;
+    }
+    if broken.operands {
+        return 7;
+    }
+    if broken.order {
+        return 8;
+    }
+    if some_badly_owned(owners, count) {
+        return 8;
+    }
+    if broken.empty {
+        return 9;
+    }
+    if broken.output { 10 } else { 0 }
+}
+
 // The same for fewer than 64 nodes, with an array that is quickly made.
-fn has_few_wrong_owners(file: &[u8], held: &[u16], count: u16) -> bool
+fn first_broken_of_few(file: &[u8], held: &[u16], count: u16) -> u16
     requires { ⌜ count < 64 ⌝ }
-    ensures { λ r. ⌜ r ≡ refusal8 (cellsOf (now (file .entry)) (now (held .entry))) count ⌝ }
+    ensures { λ r. ⌜ r ≡ firstRuled count (cellsOf (now (file .entry)) (now (held .entry))) ⌝ }
 {
     let mut owners = [0u16; 64];
-    has_wrong_owners(file, held, count, &mut owners)
+    first_broken(file, held, count, &mut owners)
 }
 
 // The same for up to 4,096 nodes.
-fn has_many_wrong_owners(file: &[u8], held: &[u16], count: u16) -> bool
+fn first_broken_of_many(file: &[u8], held: &[u16], count: u16) -> u16
     requires { ⌜ count ≤ mostNodes ⌝ }
-    ensures { λ r. ⌜ r ≡ refusal8 (cellsOf (now (file .entry)) (now (held .entry))) count ⌝ }
+    ensures { λ r. ⌜ r ≡ firstRuled count (cellsOf (now (file .entry)) (now (held .entry))) ⌝ }
 {
     let mut owners = [0u16; sizes::MOST_NODES as usize + 1];
-    has_wrong_owners(file, held, count, &mut owners)
+    first_broken(file, held, count, &mut owners)
 }
 
 // The same, with an array as long as it takes.
-fn is_owned_wrongly(file: &[u8], held: &[u16], count: u16) -> bool
+fn first_broken_of_nodes(file: &[u8], held: &[u16], count: u16) -> u16
     requires { ⌜ count ≤ mostNodes ⌝ }
-    ensures { λ r. ⌜ r ≡ refusal8 (cellsOf (now (file .entry)) (now (held .entry))) count ⌝ }
+    ensures { λ r. ⌜ r ≡ firstRuled count (cellsOf (now (file .entry)) (now (held .entry))) ⌝ }
 {
     if count < 64 {
-        return has_few_wrong_owners(file, held, count);
+        return first_broken_of_few(file, held, count);
     }
-    has_many_wrong_owners(file, held, count)
+    first_broken_of_many(file, held, count)
 }
 
 // ---- 11
@@ -329,25 +351,14 @@ fn are_too_deep(file: &[u8], held: &[u16], count: u16) -> bool
 
 // ---- the first that applies
 
-// The first of 6 to 11 that applies, or 0: each refusal by a pass of its own.
+// The first of 6 to 11 that applies, or 0: 6 to 10 by one pass over the nodes, 11 by another.
 fn find_refusal(file: &[u8], held: &[u16], count: u16) -> u16
     requires { ⌜ (1 ≤ count) × (count ≤ mostNodes) ⌝ }
     ensures { λ r. ⌜ r ≡ firstOf (nodeRefusals count (cellsOf (now (file .entry)) (now (held .entry)))) ⌝ }
 {
-    if some_breaks(Rule::Numbers, file, held, count) {
-        return 6;
-    }
-    if has_wrong_operands(file, held, count) {
-        return 7;
-    }
-    if is_owned_wrongly(file, held, count) {
-        return 8;
-    }
-    if some_breaks(Rule::Empty, file, held, count) {
-        return 9;
-    }
-    if some_breaks(Rule::Output, file, held, count) {
-        return 10;
+    let first = first_broken_of_nodes(file, held, count);
+    if first != 0 {
+        return first;
     }
     if are_too_deep(file, held, count) {
         11

@@ -77,7 +77,7 @@ module _ (cells : List ℕ) (count : ℕ) (ordered : Ordered cells count) where
   wrong-list class o h = rw (le-leb o count h, le-leb (firstAt cells o) count (first-most o h), class-at o h, item-at o h)
 
   module _ (i o : ℕ) (high : i ≤ count) (most : o ≤ count) where
-    other-present : (place : Place) → wrongPresent cells count i place o ≡ otherPresent place (treeAt cells count (firstAt cells i)) (treeAt cells count o)
+    other-present : (place : Place) → wrongPresent cells count (firstAt cells i) place o ≡ otherPresent place (treeAt cells count (firstAt cells i)) (treeAt cells count o)
     unfolding wrongPresent otherPresent wrongItem wrongNext
     other-present Nothing = refl
     other-present (Required class) = wrong-class class o most
@@ -89,13 +89,13 @@ module _ (cells : List ℕ) (count : ℕ) (ordered : Ordered cells count) where
         ∙ wrong-list (classAt cells (firstAt cells i)) o most
         ∙ rw (class-at (firstAt cells i) (first-most i high))
 
-    wrong-at : (place : Place) → wrongAt cells count i place o ≡ otherAt place (treeAt cells count (firstAt cells i)) (treeAt cells count o)
+    wrong-at : (place : Place) → wrongAt cells count (firstAt cells i) place o ≡ otherAt place (treeAt cells count (firstAt cells i)) (treeAt cells count o)
     unfolding otherAt
     wrong-at place = go (ℕ-discrete o 0)
       where
-        go : Dec (o ≡ 0) → wrongAt cells count i place o ≡ otherAt place (treeAt cells count (firstAt cells i)) (treeAt cells count o)
-        go (yes z) = wrong-absent cells count i place o z ∙ sym (pick-false _ _ (not-true _ (sym (there-at o most) ∙ eq-eqb o 0 z)))
-        go (no z) = wrong-present cells count i place o z ∙ other-present place ∙ sym (pick-true _ _ (not-false _ (sym (there-at o most) ∙ ne-eqb o 0 z)))
+        go : Dec (o ≡ 0) → wrongAt cells count (firstAt cells i) place o ≡ otherAt place (treeAt cells count (firstAt cells i)) (treeAt cells count o)
+        go (yes z) = wrong-absent cells count (firstAt cells i) place o z ∙ sym (pick-false _ _ (not-true _ (sym (there-at o most) ∙ eq-eqb o 0 z)))
+        go (no z) = wrong-present cells count (firstAt cells i) place o z ∙ other-present place ∙ sym (pick-true _ _ (not-false _ (sym (there-at o most) ∙ ne-eqb o 0 z)))
 
   module _ (i : ℕ) (low : 1 ≤ i) (high : i ≤ count) where
     pub operands-at : badOperands cells count i ≡ otherOperands (labelAt cells i) (treeAt cells count (firstAt cells i)) (treeAt cells count (secondAt cells i))

@@ -21,6 +21,7 @@
 //!     cargo run --release -- nests [FOLDER]       nests of 4 to 126 levels
 //!     cargo run --release -- slowest [FOLDER]     the slowest trees that a search finds
 //!     cargo run --release -- reads FILE..         reads of the table a node, with valgrind
+//!     cargo run --release -- refused              refused files beside accepted ones, with valgrind
 //!     cargo run --release -- archive FOLDER       tree files for tools/store.py (archive.rs)
 //!     cargo run --release -- run SET SIDE TIMES   what perf and valgrind look at
 //!
@@ -64,6 +65,7 @@ mod measure;
 mod nests;
 mod open;
 mod reads;
+mod refused;
 mod sets;
 mod sheets;
 mod sides;
@@ -98,6 +100,8 @@ fn main() -> ExitCode {
         ["slowest", folder] => nests::search_slowest(Some(folder)),
         ["reads", ref files @ ..] if !files.is_empty() => reads::count_reads(files),
         ["read", row_cells, file] => reads::read_once(number(row_cells), file),
+        ["refused"] => refused::print(),
+        ["load-once", number_of_set] => refused::once(number(number_of_set)),
         ["once", number] => measure::once(How::Instructions.cases(set(number))),
         ["serve", number] => beside::serve(set(number)),
         ["run", number_of_set, side, times] => {
@@ -111,7 +115,7 @@ fn main() -> ExitCode {
 
 fn usage() -> ExitCode {
     eprintln!("usage: bench [files | edits | open | all | beside OLD.a NEW.a] [times | turns | instructions]");
-    eprintln!("       bench nests [FOLDER] | slowest [FOLDER] | reads FILE.. | archive FOLDER | run SET SIDE TIMES");
+    eprintln!("       bench nests [FOLDER] | slowest [FOLDER] | reads FILE.. | refused | archive FOLDER | run SET SIDE TIMES");
     for (number, set) in SETS.iter().enumerate() {
         eprintln!("set {number}: {}", set.name);
     }

@@ -63,30 +63,48 @@ pub fn this() -> PathBuf {
     env::current_exe().expect("a program that runs")
 }
 
-/// How many instructions each side takes in a program for a set of that number. callgrind
-/// counts one for each byte that `rep stosb` fills, as memset does for some kilobytes.
+/// How many instructions each side takes in a program for a set of that number.
 pub fn counts(program: &Path, set: usize, sides: &[Side]) -> Figures {
+    let words = ["once".to_string(), set.to_string()];
+    let mut figures = NO_FIGURES;
+    for (&side, count) in
+        sides.iter().zip(instructions_of_calls(program, &words, "asked_once", sides.len()))
+    {
+        figures[side as usize] = count;
+    }
+    alone(figures)
+}
+
+/// How many instructions each of so many calls of a function takes in a program. callgrind
+/// counts one for each byte that `rep stosb` fills, as memset does for some kilobytes.
+pub fn instructions_of_calls(
+    program: &Path,
+    words: &[String],
+    function: &str,
+    calls: usize,
+) -> Vec<f64> {
     let folder = env::temp_dir().join(format!("bench-{}", std::process::id()));
     fs::create_dir_all(&folder).expect("a folder");
     let out = folder.join("counts");
     let output = Command::new("valgrind")
-        .args(["--tool=callgrind", "--toggle-collect=asked_once", "--dump-after=asked_once"])
+        .args(["--tool=callgrind".to_string(), format!("--toggle-collect={function}")])
+        .arg(format!("--dump-after={function}"))
         .arg(format!("--callgrind-out-file={}", out.display()))
         .arg(program)
-        .args(["once", &set.to_string()])
+        .args(words)
         .output()
         .expect("valgrind");
     assert!(output.status.success(), "{}", String::from_utf8_lossy(&output.stderr));
-    let mut figures = NO_FIGURES;
     // There is a file for each call.
-    for (number, &side) in (1..).zip(sides) {
-        let told = fs::read_to_string(format!("{}.{number}", out.display())).expect("a count");
+    let count = |call: usize| {
+        let told = fs::read_to_string(format!("{}.{call}", out.display())).expect("a count");
         let total = told.lines().find_map(|line| line.strip_prefix("totals: "));
         let total = total.unwrap_or_else(|| panic!("no count in: {told}"));
-        figures[side as usize] = total.trim().parse().expect("a number of instructions");
-    }
+        total.trim().parse().expect("a number of instructions")
+    };
+    let counts = (1..=calls).map(count).collect();
     fs::remove_dir_all(&folder).expect("a folder");
-    alone(figures)
+    counts
 }
 
 /// Without what asking nothing takes.

@@ -9,7 +9,5 @@ use Rattle.tree_places.proofs.place.wrong_next.Tie as tie
 pub wrong-next-spec : {M : Type 1} → statement M
 unfolding wrongNext pick
 wrong-next-spec =
-    tie.close (tie.spec free free
-    (λ c. rw (← c .before .before .before .node-at .ensures .first, lt-leb _ _ (c .before .if1 .taken)) (c .wrong-class .ensures)) free
-    free free
-    (λ c. rw (← c .before .before .before .before .before .node-at .ensures .first, le-leb _ _ (c .before .before .before .if1 .left), ← c .before .before .form-at .ensures, ← c .before .class-of .ensures) (c .wrong-list .ensures)))
+    tie.close (tie.spec free (λ c. rw (lt-leb _ _ (c .before .if1 .taken)) (c .wrong-class .ensures)) free free free
+    (λ c. rw (le-leb _ _ (c .before .before .before .if1 .left), ← c .before .before .form-at .ensures, ← c .before .class-of .ensures) (c .wrong-list .ensures)))
