@@ -27,7 +27,7 @@ use Rattle.row_walk.proofs.Replies.{walked}
 use Rattle.sheet_edit.specs.declared.Edited.{Edited}
 use Rattle.sheet_edit.specs.declared.Edited.the-variants.{Refused, Nodes}
 use Rattle.sheet_edit.specs.Edits.{refusal17, refusal18, editRefusal12, Edit, result, editRefusal, editReply, resultTable, resultRows}
-use Rattle.sheet_edit.specs.Steps.{ownsOutput, Replaces}
+use Rattle.sheet_edit.specs.Steps.{ownsOutput, Numbers}
 use Rattle.tree_sound.proofs.Tables.{plain-block}
 use Rattle.tree_sound.proofs.Accepts.{numbered-10, numbered-11, accepted-ordered, accepted-outputs}
 use Rattle.sheet_edit.proofs.Replaced.{named-here, over-accepted}
@@ -141,23 +141,9 @@ pub start : (t : Tree) (cells : List ℕ) → take (nodeCells * size t) (over (n
 unfolding over
 start t cells = take-at (numbered t) _ (nodeCells * size t) (length-numbered t)
 
-module _ (t : Tree) (cells rows : List ℕ) (context : ℕ) (order : CalleeOrder) where
-  -- a table that holds the result, and the rows that the walk writes from it
-  pub shows : ((cells : List ℕ) → Accepted context (size t) (over (numbered t) cells)) → size t ≤ mostNodes → rowCells * size t ≤ length rows → (n : ℕ) → n ≡ size t
-      → (table : List ℕ) → table ≡ over (numbered t) cells
-      → (after : List ℕ) → after ≡ walkedAfter order context n table rows
-      → Replaces t cells rows context order n table after
-  shows ok few wide n m table u after e =
-      (m, (u, e ∙ rw (m, u) (walked order context (size t) (over (numbered t) cells) rows (ok cells) wide ∙ rw (over-numbered t cells (omega arith)))))
-
-  -- the result is numbered into an array of its own, which is copied
-  pub replaces : ((cells : List ℕ) → Accepted context (size t) (over (numbered t) cells)) → size t ≤ mostNodes → rowCells * size t ≤ length rows → (n : ℕ) → n ≡ size t
-      → (base own : List ℕ) → own ≡ over (numbered t) base
-      → (table : List ℕ) → table ≡ over (take (nodeCells * n) own) cells
-      → (after : List ℕ) → after ≡ walkedAfter order context n table rows
-      → Replaces t cells rows context order n table after
-  replaces ok few wide n m base own eo table et after e =
-      shows ok few wide n m table (et ∙ rw (m, eo, start t base)) after e
+-- an array that holds the result, copied over the table
+pub copied : (t : Tree) (base cells : List ℕ) (n : ℕ) (own : List ℕ) → Numbers t base n own → (table : List ℕ) → table ≡ over (take (nodeCells * n) own) cells → Numbers t cells n table
+copied t base cells n own w table e = (w .0, e ∙ rw (w .0, w .1, start t base))
 
 -- ---- a refused edit, and an edit that is done
 
@@ -211,9 +197,17 @@ module _ (e : Edit) (long wide : ℕ) where
           let t = size-accepted (e .second-context) (e .second-count) (e .second) other in
           omega arith
 
-  -- where nothing is refused: the result numbered over the table, and its rows
-  pub done : (order : CalleeOrder) (cells rows : List ℕ) → editRefusal e long wide ≡ 0 → (n : ℕ) (table after : List ℕ) → Replaces (result e) cells rows (e .context) order n table after → Gives order cells rows (Nodes n) table after
+  -- where nothing is refused: the result numbered over the table, and the rows that the walk writes from it
+  pub done : (order : CalleeOrder) (cells rows : List ℕ) → editRefusal e long wide ≡ 0 → wide ≤ length rows → (n : ℕ) (table after : List ℕ) → Numbers (result e) cells n table → after ≡ walkedAfter order (e .context) n table rows → Gives order cells rows (Nodes n) table after
   unfolding editReply resultTable resultRows
-  done order cells rows z n table after w =
+  done order cells rows z lent n table after w q =
       let f = eq-eqb (editRefusal e long wide) 0 z in
-      (rw (w .0) (sym (pick-true _ _ f)), (w .1 .0 ∙ sym (pick-true _ _ f), w .1 .1 ∙ sym (pick-true _ _ f)))
+      let a = allowed z in
+      let few = a .few in
+      let r = a .rows-room in (
+        rw (w .0) (sym (pick-true _ _ f)),
+        (
+          w .1 ∙ sym (pick-true _ _ f),
+          q ∙ rw (w .0, w .1) (walked order (e .context) (size (result e)) (over (numbered (result e)) cells) rows (a .accepted cells) (omega arith) ∙ rw (over-numbered (result e) cells (omega arith))) ∙ sym (pick-true _ _ f),
+        ),
+      )

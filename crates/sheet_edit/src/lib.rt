@@ -16,7 +16,7 @@ use tree_numbering::room_after;
 use tree_one_pass::check;
 ghost use mathlib.Core.Path.{_≡_};
 ghost use mathlib.Core.Bool.{not, _&&_};
-ghost use Prim.Native.Nat.{_*_, _≤_, min};
+ghost use Prim.Native.Nat.{_+_, _*_, _≤_, min};
 ghost use lib.Dec.{ltb};
 ghost use lib.ListN.{length, take};
 ghost use Rattle.laws.specs.Each.{some};
@@ -24,10 +24,11 @@ ghost use Rattle.laws.specs.Lists.{over};
 ghost use Rattle.tree.specs.Sizes.{nodeCells, mostNodes, mostLevels};
 ghost use Rattle.tree.specs.Trees.{treeAt, levels};
 ghost use Rattle.tree_rules.specs.Refusals.{plainBlock};
+ghost use Rattle.tree_numbering.specs.Numbered.{size};
 ghost use Rattle.tree_numbering.specs.Replaced.{replacedAt};
 ghost use Rattle.sheet_edit.specs.Edits.{editOf, editRefusal, editReply, tableAfter, editedRows};
 ghost use Rattle.sheet_edit.specs.Previews.{previewReply, previewTable, previewRows};
-ghost use Rattle.sheet_edit.specs.Steps.{joined, ownsOutput, Replaces, Fits};
+ghost use Rattle.sheet_edit.specs.Steps.{joined, ownsOutput, FitsIn, Numbers};
 
 // What an edit answers.
 pub enum Edited {
@@ -193,109 +194,63 @@ fn first_refusal(
     0
 }
 
-// The result over the table, numbered, and its rows; how many nodes there are. It is numbered into an array of its own, since the sheet is read meanwhile.
-fn replace(
-    context: u16,
-    count: u16,
-    order: CalleeOrder,
+// The result over the table, numbered; how many nodes there are. It is numbered into an array of its own, since the sheet is read meanwhile.
+fn replace_by(
     table: &mut [u16],
-    rows: &mut [u16],
+    count: u16,
     place: u16,
-    nodes: u16,
     second: &[u16],
+    nodes: u16,
     own: &mut [u16],
 ) -> u16
-    requires { ⌜ Fits (joined (now table) count place (now second) nodes) context nodes (length (now own)) (length (now table)) (length (now rows)) ⌝ }
-    ensures { λ r. ⌜ Replaces (joined (now (table .entry)) count place (now (second .entry)) nodes) (now (table .entry)) (now (rows .entry)) context order r (now (table .exit)) (now (rows .exit)) ⌝ }
+    requires { ⌜ FitsIn (joined (now table) count place (now second) nodes) nodes (length (now own)) (length (now table)) ⌝ }
+    ensures { λ r. ⌜ Numbers (joined (now (table .entry)) count place (now (second .entry)) nodes) (now (table .entry)) r (now (table .exit)) ⌝ }
 {
     let done = number(table, count, place, second, nodes, own);
     copy(own, sizes::NODE_CELLS * (done as usize), table);
-    walk(order, context, done, table, rows);
     done
 }
 
 // The same for a result of fewer than 64 nodes, with an array that is quickly made.
-fn replace_small(
-    context: u16,
-    count: u16,
-    order: CalleeOrder,
-    table: &mut [u16],
-    rows: &mut [u16],
-    place: u16,
-    nodes: u16,
-    second: &[u16],
-) -> u16
-    requires { ⌜ Fits (joined (now table) count place (now second) nodes) context nodes (nodeCells * 64) (length (now table)) (length (now rows)) ⌝ }
-    ensures { λ r. ⌜ Replaces (joined (now (table .entry)) count place (now (second .entry)) nodes) (now (table .entry)) (now (rows .entry)) context order r (now (table .exit)) (now (rows .exit)) ⌝ }
+fn replace_small(table: &mut [u16], count: u16, place: u16, second: &[u16], nodes: u16) -> u16
+    requires { ⌜ FitsIn (joined (now table) count place (now second) nodes) nodes (nodeCells * 64) (length (now table)) ⌝ }
+    ensures { λ r. ⌜ Numbers (joined (now (table .entry)) count place (now (second .entry)) nodes) (now (table .entry)) r (now (table .exit)) ⌝ }
 {
     let mut own = [0u16; sizes::NODE_CELLS * 64];
-    replace(
-        context,
-        count,
-        order,
-        table,
-        rows,
-        place,
-        nodes,
-        second,
-        &mut own,
-    )
+    replace_by(table, count, place, second, nodes, &mut own)
 }
 
 // The same for fewer than 512.
-fn replace_medium(
-    context: u16,
-    count: u16,
-    order: CalleeOrder,
-    table: &mut [u16],
-    rows: &mut [u16],
-    place: u16,
-    nodes: u16,
-    second: &[u16],
-) -> u16
-    requires { ⌜ Fits (joined (now table) count place (now second) nodes) context nodes (nodeCells * 512) (length (now table)) (length (now rows)) ⌝ }
-    ensures { λ r. ⌜ Replaces (joined (now (table .entry)) count place (now (second .entry)) nodes) (now (table .entry)) (now (rows .entry)) context order r (now (table .exit)) (now (rows .exit)) ⌝ }
+fn replace_medium(table: &mut [u16], count: u16, place: u16, second: &[u16], nodes: u16) -> u16
+    requires { ⌜ FitsIn (joined (now table) count place (now second) nodes) nodes (nodeCells * 512) (length (now table)) ⌝ }
+    ensures { λ r. ⌜ Numbers (joined (now (table .entry)) count place (now (second .entry)) nodes) (now (table .entry)) r (now (table .exit)) ⌝ }
 {
     let mut own = [0u16; sizes::NODE_CELLS * 512];
-    replace(
-        context,
-        count,
-        order,
-        table,
-        rows,
-        place,
-        nodes,
-        second,
-        &mut own,
-    )
+    replace_by(table, count, place, second, nodes, &mut own)
 }
 
 // The same for any number of nodes that a table may have.
-fn replace_large(
-    context: u16,
-    count: u16,
-    order: CalleeOrder,
-    table: &mut [u16],
-    rows: &mut [u16],
-    place: u16,
-    nodes: u16,
-    second: &[u16],
-) -> u16
-    requires { ⌜ Fits (joined (now table) count place (now second) nodes) context nodes (nodeCells * mostNodes) (length (now table)) (length (now rows)) ⌝ }
-    ensures { λ r. ⌜ Replaces (joined (now (table .entry)) count place (now (second .entry)) nodes) (now (table .entry)) (now (rows .entry)) context order r (now (table .exit)) (now (rows .exit)) ⌝ }
+fn replace_large(table: &mut [u16], count: u16, place: u16, second: &[u16], nodes: u16) -> u16
+    requires { ⌜ FitsIn (joined (now table) count place (now second) nodes) nodes (nodeCells * mostNodes) (length (now table)) ⌝ }
+    ensures { λ r. ⌜ Numbers (joined (now (table .entry)) count place (now (second .entry)) nodes) (now (table .entry)) r (now (table .exit)) ⌝ }
 {
     let mut own = [0u16; sizes::NODE_CELLS * (sizes::MOST_NODES as usize)];
-    replace(
-        context,
-        count,
-        order,
-        table,
-        rows,
-        place,
-        nodes,
-        second,
-        &mut own,
-    )
+    replace_by(table, count, place, second, nodes, &mut own)
+}
+
+// The same, with an array for as many nodes as both trees have.
+fn replace(table: &mut [u16], count: u16, place: u16, second: &[u16], nodes: u16) -> u16
+    requires { ⌜ (size (joined (now table) count place (now second) nodes) ≤ count + nodes) × (count ≤ mostNodes) × (nodes ≤ mostNodes) × FitsIn (joined (now table) count place (now second) nodes) nodes (nodeCells * mostNodes) (length (now table)) ⌝ }
+    ensures { λ r. ⌜ Numbers (joined (now (table .entry)) count place (now (second .entry)) nodes) (now (table .entry)) r (now (table .exit)) ⌝ }
+{
+    let most = count + nodes;
+    if most < 64 {
+        return replace_small(table, count, place, second, nodes);
+    }
+    if most < 512 {
+        return replace_medium(table, count, place, second, nodes);
+    }
+    replace_large(table, count, place, second, nodes)
 }
 
 // The expression at a node of an open sheet replaced by another accepted tree: the sheet's context, count, callee order, table and rows, the node, and the second tree.
@@ -328,41 +283,9 @@ pub fn edit(
     if refused != 0 {
         return Edited::Refused(refused);
     }
-    let most = count + second_count;
-    if most < 64 {
-        return Edited::Nodes(replace_small(
-            context,
-            count,
-            order,
-            table,
-            rows,
-            node,
-            second_count,
-            second,
-        ));
-    }
-    if most < 512 {
-        return Edited::Nodes(replace_medium(
-            context,
-            count,
-            order,
-            table,
-            rows,
-            node,
-            second_count,
-            second,
-        ));
-    }
-    Edited::Nodes(replace_large(
-        context,
-        count,
-        order,
-        table,
-        rows,
-        node,
-        second_count,
-        second,
-    ))
+    let done = replace(table, count, node, second, second_count);
+    walk(order, context, done, table, rows);
+    Edited::Nodes(done)
 }
 
 // ---- the preview
@@ -373,27 +296,7 @@ fn smaller(a: usize, b: usize) -> usize
     if a < b { a } else { b }
 }
 
-// The result over a lent table, numbered, and its rows over lent ones; how many nodes there are. The sheet is another table, so that nothing is copied.
-fn show(
-    context: u16,
-    count: u16,
-    order: CalleeOrder,
-    table: &[u16],
-    place: u16,
-    nodes: u16,
-    second: &[u16],
-    out: &mut [u16],
-    rows: &mut [u16],
-) -> u16
-    requires { ⌜ Fits (joined (now table) count place (now second) nodes) context nodes (length (now out)) (length (now out)) (length (now rows)) ⌝ }
-    ensures { λ r. ⌜ Replaces (joined (now (table .entry)) count place (now (second .entry)) nodes) (now (out .entry)) (now (rows .entry)) context order r (now (out .exit)) (now (rows .exit)) ⌝ }
-{
-    let done = number(table, count, place, second, nodes, out);
-    walk(order, context, done, out, rows);
-    done
-}
-
-// What an edit would give: the same answer, and the result's table and rows in lent buffers. The open sheet is only read.
+// What an edit would give: the same answer, and the result's table and rows in lent buffers. The open sheet is only read, so that nothing is copied.
 pub fn preview(
     context: u16,
     count: u16,
@@ -427,15 +330,7 @@ pub fn preview(
     if refused != 0 {
         return Edited::Refused(refused);
     }
-    Edited::Nodes(show(
-        context,
-        count,
-        order,
-        table,
-        node,
-        second_count,
-        second,
-        result_table,
-        result_rows,
-    ))
+    let done = number(table, count, node, second, second_count, result_table);
+    walk(order, context, done, result_table, result_rows);
+    Edited::Nodes(done)
 }

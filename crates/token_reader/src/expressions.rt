@@ -7,8 +7,12 @@ use crate::node::TWO;
 use crate::node::lay;
 use crate::node::store;
 use crate::node::store_named;
+use crate::piece::ENDED;
+use crate::piece::LISTED;
 use crate::piece::Parsed;
+use crate::piece::READ;
 use crate::piece::Reading;
+use crate::piece::WANTED;
 use crate::piece::no_expr;
 use crate::token::code_at;
 use crate::token::lowest_after;
@@ -37,18 +41,6 @@ ghost use Rattle.token_reader.specs.Waiting as waiting;
 ghost use Rattle.token_reader.specs.Waiting.{Stays};
 ghost use Rattle.token_reader.specs.Turns as waits;
 ghost use Rattle.token_reader.specs.Turns.{IsCall, callForm, Able, Turnable, begins, waitsWith, cameTo, Lost, Waiting, Wanted, Calling, Stepped, topAt, IsItem, Took, Gone, Listed, Turned};
-
-// What is done next: an expression that starts here is read,
-const WANTED: u16 = 0;
-
-// what was read goes on or ends,
-const READ: u16 = 1;
-
-// or what waits takes the list, with the sign that closes it.
-const LISTED: u16 = 2;
-
-// Nothing is.
-const ENDED: u16 = 3;
 
 // What waits: a Unary or a Reference, with its form and detail;
 const PREFIX: u16 = 3;

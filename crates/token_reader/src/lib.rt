@@ -9,6 +9,7 @@ mod types; // types.rt: types and their lists
 use expressions::expr;
 use numbering::number;
 use token::is_token;
+use token_grammar::context;
 use token_grammar::level;
 use tree::sizes;
 use tree_numbering::Renumbered;
@@ -41,11 +42,6 @@ const SOME_TOKENS: usize = sizes::TOKEN_CELLS * (SOME as usize);
 const MANY: u16 = 8_192;
 
 const MANY_TOKENS: usize = sizes::TOKEN_CELLS * (MANY as usize);
-
-// The contexts that the reader takes.
-const NONE: u16 = 0;
-
-const CONDITION: u16 = 3;
 
 // What reading answers.
 pub enum Reply {
@@ -160,13 +156,13 @@ fn read_in(tokens: &[u16], table: &mut [u16], condition: bool) -> Reply
 pub fn read(context: u16, tokens: &[u16], table: &mut [u16]) -> Reply
     ensures { λ r. ⌜ Answers context (now (tokens .entry)) (now (table .entry)) r (now (table .exit)) ⌝ }
 {
-    if context > CONDITION {
+    if context > context::CONDITION {
         return Reply::Refused(3);
     }
-    if context == NONE {
+    if context == context::NONE {
         return read_in(tokens, table, false);
     }
-    if context == CONDITION {
+    if context == context::CONDITION {
         return read_in(tokens, table, true);
     }
     Reply::Refused(13)

@@ -4,6 +4,18 @@ ghost use mathlib.Core.Path.{_≡_};
 ghost use Prim.Native.Nat.{_+_};
 ghost use Rattle.token_reader.specs.Pieces.{many};
 
+// What is done next: a type or an expression that starts here is read,
+pub const WANTED: u16 = 0;
+
+// what waits takes the type that was read, or the expression goes on or ends,
+pub const READ: u16 = 1;
+
+// or what waits takes the list, with the sign that closes it.
+pub const LISTED: u16 = 2;
+
+// Nothing is.
+pub const ENDED: u16 = 3;
+
 // A type, or a list with the sign that closes it. It is the node after the free ones.
 pub struct Piece {
     // The place of the first token behind it, or one past the end where there is none.

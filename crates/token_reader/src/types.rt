@@ -5,8 +5,12 @@ use crate::node::TWO;
 use crate::node::lay;
 use crate::node::store;
 use crate::node::store_named;
+use crate::piece::ENDED;
+use crate::piece::LISTED;
 use crate::piece::Piece;
+use crate::piece::READ;
 use crate::piece::Typing;
+use crate::piece::WANTED;
 use crate::token::code_at;
 use crate::token::past_comma;
 use crate::token::symbol_at;
@@ -22,18 +26,6 @@ ghost use Rattle.token_grammar.specs.Codes.{codeAt};
 ghost use Rattle.token_reader.specs.Pieces.{many, Ready, TypeAt, SignAt};
 ghost use Rattle.token_reader.specs.Waiting.{whatAt, Stays, Laid, pieceOf, Able, Turnable, waitsFor, Wanted, Took, Taken, Listed, Turned};
 ghost use Rattle.token_reader.specs.Waiting as waiting;
-
-// What is done next: a type that starts here is read,
-const WANTED: u16 = 0;
-
-// what waits takes the type that was read,
-const READ: u16 = 1;
-
-// or the list, with the sign that closes it.
-const LISTED: u16 = 2;
-
-// Nothing is.
-const ENDED: u16 = 3;
 
 // What waits: a Ptr or a Reference, with its form and detail;
 const POINTER: u16 = 0;

@@ -3,6 +3,7 @@ use bools::bit;
 use bools::both;
 use classify::trailing_unparameterized_path;
 use token_grammar::codes;
+use token_grammar::level;
 use tree::columns;
 use tree::forms;
 use tree::table::cell;
@@ -21,35 +22,8 @@ ghost use Rattle.token_grammar.specs.Grammar.{opensArguments};
 ghost use Rattle.token_grammar.specs.Bounds.{highest};
 ghost use Rattle.token_writer.specs.Levels.{opening, place, opensIn, conditionIn, closed, strengthLines, needs, firstLines, secondLines};
 
-// The levels, under the names that the definitions give them (token_grammar/specs/Levels.antt).
-const ASSIGNMENTS: u16 = 1;
-
-const ORS: u16 = 3;
-
-const ANDS: u16 = 4;
-
-const COMPARISONS: u16 = 6;
-
-const BIT_ORS: u16 = 7;
-
-const BIT_XORS: u16 = 8;
-
-const BIT_ANDS: u16 = 9;
-
-const SHIFTS: u16 = 10;
-
-const SUMS: u16 = 11;
-
-const PRODUCTS: u16 = 12;
-
-const CASTS: u16 = 13;
-
-const PREFIXES: u16 = 14;
-
-const POSTFIXES: u16 = 15;
-
 // One more than a postfix form's: what may be called.
-const CALLABLE: u16 = 16;
+const CALLABLE: u16 = level::POSTFIXES + 1;
 
 // More than any place asks for.
 const CLOSED: u16 = OPENING;
@@ -71,20 +45,20 @@ pub fn level_of(operator: u16) -> u16
     ensures { λ r. ⌜ (r ≡ level (kind (operatorOf operator))) × (r ≤ highest) ⌝ }
 {
     match operator {
-        codes::ADD => SUMS,
-        codes::SUB => SUMS,
-        codes::MUL | codes::REM => PRODUCTS,
-        codes::DIV => PRODUCTS,
-        codes::AND => ANDS,
-        codes::OR => ORS,
-        codes::BIT_XOR => BIT_XORS,
-        codes::BIT_AND => BIT_ANDS,
-        codes::BIT_OR => BIT_ORS,
-        codes::SHL => SHIFTS,
-        codes::SHR => SHIFTS,
-        codes::EQ | codes::LE | codes::GE => COMPARISONS,
-        codes::LT | codes::NE | codes::GT => COMPARISONS,
-        _ => ASSIGNMENTS,
+        codes::ADD => level::SUMS,
+        codes::SUB => level::SUMS,
+        codes::MUL | codes::REM => level::PRODUCTS,
+        codes::DIV => level::PRODUCTS,
+        codes::AND => level::ANDS,
+        codes::OR => level::ORS,
+        codes::BIT_XOR => level::BIT_XORS,
+        codes::BIT_AND => level::BIT_ANDS,
+        codes::BIT_OR => level::BIT_ORS,
+        codes::SHL => level::SHIFTS,
+        codes::SHR => level::SHIFTS,
+        codes::EQ | codes::LE | codes::GE => level::COMPARISONS,
+        codes::LT | codes::NE | codes::GT => level::COMPARISONS,
+        _ => level::ASSIGNMENTS,
     }
 }
 
@@ -94,7 +68,7 @@ fn left_of(own: u16) -> u16
     ensures { λ r. ⌜ (r ≡ lowest (not (isOneOf (level assignments ∷ level comparisons ∷ level prefixes ∷ []) own)) own) × (r < opening) ⌝ }
 {
     match own {
-        ASSIGNMENTS | COMPARISONS | PREFIXES => own + 1,
+        level::ASSIGNMENTS | level::COMPARISONS | level::PREFIXES => own + 1,
         _ => own,
     }
 }
@@ -105,7 +79,7 @@ fn right_of(own: u16) -> u16
     ensures { λ r. ⌜ (r ≡ pick (isOneOf (level assignments ∷ level prefixes ∷ []) own) 0 (suc own)) × (r < opening) ⌝ }
 {
     match own {
-        ASSIGNMENTS | PREFIXES => 0,
+        level::ASSIGNMENTS | level::PREFIXES => 0,
         _ => own + 1,
     }
 }
@@ -126,10 +100,14 @@ fn strength_of(form: u16, detail: u16, weak: bool) -> u16
 {
     match form {
         forms::EXPR_BINARY => level_of(detail),
-        forms::EXPR_ASSIGN => ASSIGNMENTS,
-        forms::EXPR_CAST => if weak { 0 } else { CASTS },
-        forms::EXPR_UNARY | forms::EXPR_REFERENCE => PREFIXES,
-        forms::EXPR_FIELD => if detail == 0 { POSTFIXES } else { CLOSED },
+        forms::EXPR_ASSIGN => level::ASSIGNMENTS,
+        forms::EXPR_CAST => if weak { 0 } else { level::CASTS },
+        forms::EXPR_UNARY | forms::EXPR_REFERENCE => level::PREFIXES,
+        forms::EXPR_FIELD => if detail == 0 {
+            level::POSTFIXES
+        } else {
+            CLOSED
+        },
         _ => CLOSED,
     }
 }
@@ -144,14 +122,14 @@ pub fn first_place(form: u16, detail: u16, opens: bool, condition: bool) -> u16
             opens_arguments(detail),
             condition,
         ),
-        forms::EXPR_ASSIGN => placed(ASSIGNMENTS + 1, false, condition),
-        forms::EXPR_CAST => placed(CASTS, false, condition),
-        forms::EXPR_UNARY | forms::EXPR_REFERENCE => placed(PREFIXES, opens, condition),
+        forms::EXPR_ASSIGN => placed(level::ASSIGNMENTS + 1, false, condition),
+        forms::EXPR_CAST => placed(level::CASTS, false, condition),
+        forms::EXPR_UNARY | forms::EXPR_REFERENCE => placed(level::PREFIXES, opens, condition),
         forms::EXPR_AWAIT
         | forms::EXPR_FIELD
         | forms::EXPR_INDEX
         | forms::EXPR_METHOD_CALL
-        | forms::EXPR_TRY => placed(POSTFIXES, false, condition),
+        | forms::EXPR_TRY => placed(level::POSTFIXES, false, condition),
         forms::EXPR_CALL => placed(CALLABLE, false, condition),
         _ => 0,
     }

@@ -20,6 +20,7 @@ use signs::one_if;
 use signs::operator_code;
 use signs::signs_at;
 use token_grammar::codes;
+use token_grammar::context;
 use tree::columns;
 use tree::forms;
 use tree::sizes;
@@ -46,11 +47,6 @@ ghost use Rattle.token_writer.specs.Writes.{takesContext, answered, toke
 
 // The cells of the tokens that the writer asks room for, a node.
 const NODE_TOKENS: usize = sizes::TOKEN_CELLS * sizes::TOKENS_PER_NODE;
-
-// The contexts whose trees have tokens.
-const NONE: u16 = 0;
-
-const CONDITION: u16 = 3;
 
 // What writing answers.
 pub enum Written {
@@ -485,7 +481,7 @@ fn write_tree(table: &[u16], count: u16, here: u16, stack: &mut [u32], tokens: &
 fn root_place(context: u16) -> u16
     ensures { λ r. ⌜ (r ≡ rootIn context) × (r < betweenTask) ⌝ }
 {
-    CONDITIONAL * bit(context == CONDITION)
+    CONDITIONAL * bit(context == context::CONDITION)
 }
 
 // What was written in all, as an answer.
@@ -516,10 +512,10 @@ fn write_plain(context: u16, count: u16, table: &[u16], tokens: &mut [u16]) -> W
 fn takes(context: u16) -> bool
     ensures { λ r. ⌜ r ≡ takesContext context ⌝ }
 {
-    if context == NONE {
+    if context == context::NONE {
         return true;
     }
-    if context == CONDITION {
+    if context == context::CONDITION {
         return true;
     }
     false

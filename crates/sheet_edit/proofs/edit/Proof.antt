@@ -15,58 +15,19 @@ returns c =
     let a = c .before .before .before .before .before .before .args in
     refused (editOf (a .context) (a .count) (a .table .now) (a .node) (a .second-context) (a .second-count) (a .second .now)) (length (a .table .now)) (length (a .rows .now)) (a .order) (a .table .now) (a .rows .now) _ (c .before .first-refusal .ensures) (c .if1 .taken)
 
-add-most : tie.Need-add-most
-add-most c =
-    let a = c .before .before .before .before .before .before .args in
-    let w = allowed (editOf (a .context) (a .count) (a .table .now) (a .node) (a .second-context) (a .second-count) (a .second .now)) (length (a .table .now)) (length (a .rows .now)) (sym (c .before .first-refusal .ensures) ∙ c .if1 .left) in
-    let k = count-bounds _ _ _ (w .sheet) .1 in
-    let l = count-bounds _ _ _ (w .other) .1 in
-    record { fits = omega arith }
-
-replace-small-requires : tie.Need-replace-small-requires
-replace-small-requires c κs =
-    let a = c .before .before .before .before .before .before .before .before .before .args in
-    let w = allowed (editOf (a .context) (a .count) (a .table .now) (a .node) (a .second-context) (a .second-count) (a .second .now)) (length (a .table .now)) (length (a .rows .now)) (sym (c .before .before .before .before .first-refusal .ensures) ∙ c .before .before .before .if1 .left) in
-    let m = w .most in
+replace-requires : tie.Need-replace-requires
+replace-requires c κs =
+    let a = c .before .before .before .before .before .before .before .args in
+    let w = allowed (editOf (a .context) (a .count) (a .table .now) (a .node) (a .second-context) (a .second-count) (a .second .now)) (length (a .table .now)) (length (a .rows .now)) (sym (c .before .before .first-refusal .ensures) ∙ c .before .if1 .left) in
     let f = w .few in
-    let h = c .before .before .if2 .taken in
-    record { accepted = w .accepted; there = count-bounds _ _ _ (w .other) .0; few = f; own-room = omega arith; table-room = w .table-room; rows-room = w .rows-room }
+    let there = count-bounds _ _ _ (w .other) in
+    (w .most, count-bounds _ _ _ (w .sheet) .1, there .1, record { there = there .0; few = f; own-room = omega arith; table-room = w .table-room })
 
 returns-2 : tie.Need-returns-2
 returns-2 c =
-    let a = c .before .before .before .before .before .before .before .before .before .before .before .before .before .before .args in
-    done (editOf (a .context) (a .count) (a .table .now) (a .node) (a .second-context) (a .second-count) (a .second .now)) (length (a .table .now)) (length (a .rows .now)) (a .order) (a .table .now) (a .rows .now) (sym (c .before .before .before .before .before .before .before .before .before .first-refusal .ensures) ∙ c .before .before .before .before .before .before .before .before .if1 .left) _ _ _ (c .before .before .before .before .replace-small .ensures)
-
-replace-medium-requires : tie.Need-replace-medium-requires
-replace-medium-requires c κs =
-    let a = c .before .before .before .before .before .before .before .before .before .before .args in
-    let w = allowed (editOf (a .context) (a .count) (a .table .now) (a .node) (a .second-context) (a .second-count) (a .second .now)) (length (a .table .now)) (length (a .rows .now)) (sym (c .before .before .before .before .before .first-refusal .ensures) ∙ c .before .before .before .before .if1 .left) in
-    let m = w .most in
-    let f = w .few in
-    let h = c .before .before .if3 .taken in
-    record { accepted = w .accepted; there = count-bounds _ _ _ (w .other) .0; few = f; own-room = omega arith; table-room = w .table-room; rows-room = w .rows-room }
-
-returns-3 : tie.Need-returns-3
-returns-3 c =
     let a = c .before .before .before .before .before .before .before .before .before .before .before .before .before .before .before .args in
-    done (editOf (a .context) (a .count) (a .table .now) (a .node) (a .second-context) (a .second-count) (a .second .now)) (length (a .table .now)) (length (a .rows .now)) (a .order) (a .table .now) (a .rows .now) (sym (c .before .before .before .before .before .before .before .before .before .before .first-refusal .ensures) ∙ c .before .before .before .before .before .before .before .before .before .if1 .left) _ _ _ (c .before .before .before .before .replace-medium .ensures)
-
-replace-large-requires : tie.Need-replace-large-requires
-replace-large-requires c κs =
-    let a = c .before .before .before .before .before .before .before .before .before .before .args in
-    let w = allowed (editOf (a .context) (a .count) (a .table .now) (a .node) (a .second-context) (a .second-count) (a .second .now)) (length (a .table .now)) (length (a .rows .now)) (sym (c .before .before .before .before .before .first-refusal .ensures) ∙ c .before .before .before .before .if1 .left) in
-    let m = w .most in
-    let f = w .few in
-    record { accepted = w .accepted; there = count-bounds _ _ _ (w .other) .0; few = f; own-room = omega arith; table-room = w .table-room; rows-room = w .rows-room }
-
-returns-4 : tie.Need-returns-4
-returns-4 c =
-    let a = c .before .before .before .before .before .before .before .before .before .before .before .before .before .before .before .args in
-    done (editOf (a .context) (a .count) (a .table .now) (a .node) (a .second-context) (a .second-count) (a .second .now)) (length (a .table .now)) (length (a .rows .now)) (a .order) (a .table .now) (a .rows .now) (sym (c .before .before .before .before .before .before .before .before .before .before .first-refusal .ensures) ∙ c .before .before .before .before .before .before .before .before .before .if1 .left) _ _ _ (c .before .before .before .before .replace-large .ensures)
+    done (editOf (a .context) (a .count) (a .table .now) (a .node) (a .second-context) (a .second-count) (a .second .now)) (length (a .table .now)) (length (a .rows .now)) (a .order) (a .table .now) (a .rows .now) (sym (c .before .before .before .before .before .before .before .before .before .before .first-refusal .ensures) ∙ c .before .before .before .before .before .before .before .before .before .if1 .left) (omega arith) _ _ _ (c .before .before .before .before .before .before .before .replace .ensures) (c .before .before .walk .ensures)
 
 pub edit-spec : {M : Type 1} → statement M
 edit-spec =
-    tie.close (tie.spec free (λ c. search needs) returns add-most
-    replace-small-requires (λ c. search needs) (λ c. search needs) returns-2
-    replace-medium-requires (λ c. search needs) (λ c. search needs) returns-3
-    replace-large-requires (λ c. search needs) (λ c. search needs) returns-4)
+    tie.close (tie.spec free (λ c. search needs) returns replace-requires (λ c. search needs) (λ c. search needs) (λ c. search needs) returns-2)
