@@ -32,7 +32,7 @@ def read():
     lines = (ROOT / 'crates.txt').read_text().splitlines()
     layers = [Layer(line) for line in lines if line.startswith('# layer ')]
     rows = [line.split(':') for line in lines if line and not line.startswith('#')]
-    leans = {name: rest.split() for name, rest in rows}
+    leans = {name.split()[0]: rest.split() for name, rest in rows}  # behind the name may stand `staticlib`
     return layers, {name: [other for other in others if other in leans] for name, others in leans.items()}
 
 

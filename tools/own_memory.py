@@ -52,7 +52,7 @@ def texts():
 def plain(text):
     """Code alone: no comments, no strings, no contracts."""
     text = re.sub(r'//[^\n]*', '', text)
-    text = re.sub(r'\{ (?:λ[^\n]*)?⌜[^\n]*⌝ \}', '', text)
+    text = re.sub(r'^ *(?:requires|ensures)\b[^\n]*', '', text, flags=re.M)
     return re.sub(r'b?"[^"\n]*"', '""', text)
 
 
@@ -100,6 +100,12 @@ class Function:
         return '::'.join(part for part in [self.crate, self.module, self.name] if part != 'lib')
 
 
+def brought_in(code):
+    """The paths that a file's `use` lines name, those of a group too."""
+    for before, group, alone in re.findall(r'^(?:pub )?use (?:([\w:]+)::\{([^}]*)\}|([\w:]+));', code, re.M):
+        yield from [alone] if alone else (f'{before}::{name.strip()}' for name in group.split(','))
+
+
 def functions(files):
     """Each function with those that it may call."""
     found, used = [], {}
@@ -107,9 +113,7 @@ def functions(files):
         crate, _, name = path.split('/')
         module = name.removesuffix('.rt')
         code = plain(text)
-        used[crate, module] = dict(
-            (match[1].split('::')[-1], match[1]) for match in re.finditer(r'^(?:pub )?use ([\w:]+);', code, re.M)
-        )
+        used[crate, module] = {path.split('::')[-1]: path for path in brought_in(code)}
         for match in re.finditer(r'\bfn (\w+)\(.*?\n\{\n(.*?)\n\}', code, re.S):
             found.append(Function(crate, module, match[1], match[2]))
     by_name = {}

@@ -1,5 +1,5 @@
 /* offset - (station - start): which operand needs a pair, and what is written.
- * From the root of the repository, after `rt staticlib answers`:
+ * From the root of the repository, after `bash tools/libraries`:
  *   cc -Irust/include rust/c/example.c target/staticlib/libanswers.a -o example
  */
 #include <stdio.h>

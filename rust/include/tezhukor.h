@@ -1,6 +1,6 @@
 /* Where a printed Rust expression needs parentheses: the functions of libanswers.a.
  *
- * Build it with `rt staticlib answers` and link target/staticlib/libanswers.a.
+ * Build it with `bash tools/libraries` and link target/staticlib/libanswers.a.
  *
  * Each function is total: no argument is wrong, and a refusal is a reply. A length is
  * a number of elements. Buffers of one call must not overlap; a pointer whose length

@@ -123,7 +123,7 @@ impl Crates {
                         let owner = place.split('/').next().unwrap_or("");
                         read.others.extend([format!("{owner}/{name}"), name]);
                     }
-                    _ if path.is_dir() => {
+                    _ if path.is_dir() && name != "out" => {
                         read.others.insert(place);
                         folders.push(path);
                     }

@@ -7,26 +7,35 @@ use std::os::unix::fs::PermissionsExt;
 use std::path::{Path, PathBuf};
 use std::process::{Command, Output};
 
-/// Prints what rt prints; for the library that FAIL names it fails.
+/// Prints what `rt lib` prints, and writes the archive; for the library that FAIL names it fails.
 const PROVER: &str = "#!/usr/bin/env bash
-echo 'library laws: modules loaded=8'
-echo 'rt: bools proved (unchanged since it was last proved)'
-echo 'rt: laws proved (4 s)'
-if [ \"$2\" = \"${FAIL:-}\" ]; then
+name=${PWD##*/}
+proved() {
+    echo \"fn $1::one: proved\"
+    echo \"crate $1: modules loaded=0 checked=8\"
+    echo 'logic=proved functions=1'
+}
+if [ \"$name\" = answers ]; then
+    proved bools
+    proved laws
+fi
+echo 'statements std: modules loaded=8 checked=0'
+if [ \"$name\" = \"${FAIL:-}\" ]; then
     echo 'it does not hold' >&2
-    echo \"rt: $2 NOT PROVED (exit 1, 5 s)\"
-    echo 'rt: program NOT PROVED: its dependency is not proved'
+    echo 'logic=not-proved'
     exit 3
 fi
-echo \"rt: target/staticlib/lib$2.a has the functions of $2 that are marked\"
+proved $name
+mkdir -p out
+echo $name > out/lib$name.a
 ";
 
 const CRATES: &str = "# NAME: what it depends on
 bools:
 spare: laws
-answers: laws
+answers staticlib: laws
 laws: bools
-answers_asked: answers laws io
+answers_asked staticlib: laws io
 program: spare
 ";
 
@@ -40,6 +49,8 @@ impl Folder {
         let tools = Path::new(env!("CARGO_MANIFEST_DIR")).join("../tools/libraries");
         folder.put("tools/libraries", &std::fs::read_to_string(tools).expect("the script"));
         folder.put("crates.txt", CRATES);
+        folder.put("crates/answers/src/lib.rt", "");
+        folder.put("crates/answers_asked/src/lib.rt", "");
         let prover = folder.put("bin/rt", PROVER);
         std::fs::set_permissions(prover, PermissionsExt::from_mode(0o755)).expect("it may run");
         folder
@@ -90,7 +101,9 @@ fn crates_are_counted() {
     ];
     assert_eq!(lines[1..], meant);
     let log = std::fs::read_to_string(folder.0.join("target/libraries.log")).expect("the log");
-    assert_eq!(log.matches("modules loaded").count(), 3);
+    assert_eq!(log.matches("modules loaded").count(), 6);
+    let library = folder.0.join("target/staticlib/libanswers_asked.a");
+    assert_eq!(std::fs::read_to_string(library).expect("a copy"), "answers_asked\n");
 }
 
 #[test]
@@ -99,7 +112,7 @@ fn the_end_of_the_log_is_told() {
     let output = folder.run("answers");
     assert_eq!(output.status.code(), Some(3));
     let lines = lines(&output);
-    let meant = ["it does not hold", "rt: answers NOT PROVED (exit 1, 5 s)"];
+    let meant = ["it does not hold", "logic=not-proved"];
     assert_eq!(lines[lines.len() - 2..], meant);
     assert!(lines.iter().any(|line| line.ends_with("target/libraries.log has:")));
     assert!(!lines.iter().any(|line| line.contains("answers_asked")), "{lines:?}");

@@ -37,17 +37,9 @@ fn number(text: &str) -> Option<usize> {
     text.trim_end_matches(';').replace('_', "").parse().ok()
 }
 
-/// A name as specs spell it: NODE_CELLS is nodeCells.
+/// A name as specs spell it: NODE_CELLS is node_cells.
 fn in_specs(name: &str) -> String {
-    let words = name.split('_').enumerate().map(|(at, word)| {
-        let small = word.to_lowercase();
-        if at == 0 {
-            small
-        } else {
-            word[..1].to_string() + &small[1..]
-        }
-    });
-    words.collect()
+    name.to_lowercase()
 }
 
 /// The name and the number that a line defines: `NAME = NUMBER` in specs, `const NAME:
@@ -62,10 +54,11 @@ fn defined(line: &str) -> Option<(&str, usize)> {
     }
 }
 
-/// All files below a folder with that ending.
+/// All files below a folder with that ending, but for what is built.
 fn files(folder: &Path, ending: &str) -> Vec<PathBuf> {
     let entries = std::fs::read_dir(folder).into_iter().flatten().flatten();
     let found = entries.flat_map(|entry| match entry.path() {
+        path if path.ends_with("out") => vec![],
         path if path.is_dir() => files(&path, ending),
         path if path.extension().is_some_and(|found| found == ending) => vec![path],
         _ => vec![],

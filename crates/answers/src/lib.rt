@@ -1,4 +1,6 @@
 // For callers in Rust and C: tree files, the rows of a tree, the tokens of plain trees, and their readings; open sheets; operators not chosen yet; how operators bind.
+#![tactic(auto)]
+
 pub mod files; // files.rt: tree files
 pub mod archive; // archive.rt: one file for one tree, and the order on files
 pub mod rows; // rows.rt: the rows of all nodes

@@ -1,4 +1,6 @@
 // For callers in Rust: what precedence.rs, classify.rs, fixup.rs and expr.rs say, by the number of a question; rows in either callee order.
+#![tactic(auto)]
+
 pub mod in_context; // in_context.rt: what fixup.rs says of a node in a context
 pub mod contexts; // contexts.rt: the contexts that fixup.rs makes
 pub mod handed; // handed.rt: what expr.rs hands down

@@ -1,5 +1,7 @@
 // Contexts, and what an operand gets from its owner, a cell at a time, by the number of a question.
 // A number that is no question's or no cell's is answered by 65535.
+#![tactic(auto)]
+
 ghost use Rattle.std.specs.Prelude.{◌≡◌};
 ghost use Rattle.tree.specs.Trees.{tree_at};
 ghost use Rattle.answers_cells.specs.CellQuestions.{cell_of, context_answered, handed_cell, handed_answered};

@@ -1,5 +1,7 @@
 // What precedence.rs, classify.rs and fixup.rs say of a node, by the number of a question.
 // A number that is no question's is answered by 65535.
+#![tactic(auto)]
+
 pub mod in_context; // in_context.rt: what fixup.rs says of a node in a context
 
 ghost use Rattle.std.specs.Prelude.{◌≡◌};

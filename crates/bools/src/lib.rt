@@ -1,4 +1,6 @@
 // Tests joined, and as numbers, by functions: the proof of a caller then has one fact for each.
+#![tactic(auto)]
+
 ghost use Rattle.std.specs.Prelude.{◌≡◌, not, ◌&&◌, ◌||◌, ◌≤◌};
 ghost use Rattle.bools.specs.Bits.{bit_of};
 

@@ -1,4 +1,6 @@
 // prettyplease's classify.rs, but for the brace at an end (crate classify_braces): questions about the ends of an expression, each a walk over node numbers.
+#![tactic(auto)]
+
 ghost use Rattle.std.specs.Prelude.{◌≡◌, true, false};
 ghost use Rattle.tree.specs.Trees.{tree_at};
 ghost use Rattle.tree.specs.Steps.{into, step_by};

@@ -1,4 +1,6 @@
 // prettyplease's classify.rs: whether an expression or a type ends in a brace, each a walk over node numbers.
+#![tactic(auto)]
+
 ghost use Rattle.std.specs.Prelude.{◌≡◌, false};
 ghost use Rattle.tree.specs.Trees.{tree_at};
 ghost use Rattle.tree.specs.Steps.{tree_of, step_by};

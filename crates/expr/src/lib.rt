@@ -1,4 +1,6 @@
 // prettyplease's expr.rs: for each operand its precedence, the context that its owner hands down, and the owner's grouping test.
+#![tactic(auto)]
+
 pub mod order; // order.rt: CalleeOrder
 
 ghost use Rattle.std.specs.Prelude.{◌≡◌, true, false, ◌&&◌, eqb};

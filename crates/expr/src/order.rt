@@ -2,7 +2,7 @@
 ghost use Rattle.std.specs.Prelude.{◌≡◌};
 ghost use Rattle.expr.specs.Orders.{order_numbered};
 
-#[derive(Drop)]
+#[derive(Clone, Copy)]
 pub enum CalleeOrder {
     // The crate's: a Field by its member alone, anything else by its precedence.
     Crates,

@@ -1,4 +1,6 @@
 // Rearranged files: the numbers of a tree file in columns, a form as its difference from the form before it and an operand as its distance from its owner.
+#![tactic(auto)]
+
 ghost use Rattle.std.specs.Prelude.{◌≡◌, false, ◌||◌, [], ◌∷◌, suc, ◌+◌, ◌*◌, ◌≤◌, ◌<◌, ltb, length, take};
 ghost use Rattle.laws.specs.Lists.{over};
 ghost use Rattle.laws.specs.Puts.{Put};

@@ -1,1 +1,2 @@
 // Tree files rearranged and put back: the statement stands in specs/Statement.antt, its proof in proofs/Promise.antt. This crate has no code of its own.
+#![tactic(auto)]

@@ -1,4 +1,6 @@
 // The seven-bit numbers of a tree file.
+#![tactic(auto)]
+
 ghost use Rattle.std.specs.Prelude.{◌≡◌, ◌<◌};
 ghost use Rattle.file_numbers.specs.Standing.{stands_at};
 

@@ -1,4 +1,6 @@
 // An order on tree files: contexts, then nodes in turn, number by number; a file that ends earlier comes first.
+#![tactic(auto)]
+
 ghost use Rattle.std.specs.Prelude.{◌≡◌, false};
 ghost use Rattle.file_loader.specs.Several.{is_broken, values_in};
 ghost use Rattle.file_order.specs.Orders.{key_of, checks_of, in_order, compared};

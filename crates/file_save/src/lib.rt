@@ -1,4 +1,6 @@
 // Trees as tree files: one file for one tree.
+#![tactic(auto)]
+
 ghost use Rattle.std.specs.Prelude.{◌≡◌, true, ◌∷◌, ◌+◌, ◌*◌, ◌≤◌, ◌<◌, ltb, length};
 ghost use Rattle.laws.specs.Puts.{Put};
 ghost use Rattle.tree.specs.Sizes.{node_cells};

@@ -6,7 +6,7 @@ ghost use Rattle.fixup.specs.Steps.{with_operators};
 use bools::{and_not, both, either};
 use precedence::Precedence;
 
-#[derive(Drop)]
+#[derive(Clone, Copy)]
 pub struct FixupContext {
     pub previous_operator: Precedence,
     pub next_operator: Precedence,

@@ -1,4 +1,6 @@
 // What an expression looks like from outside: the tests that fixup.rs makes of it.
+#![tactic(auto)]
+
 ghost use Rattle.std.specs.Prelude.{◌≡◌, not};
 ghost use Rattle.tree.specs.Trees.{tree_at};
 ghost use Rattle.tree.specs.Steps.{is_present, tree_of};

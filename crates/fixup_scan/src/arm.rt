@@ -12,7 +12,7 @@ use tree::table::{Operand, cell, form_at, operand_at};
 use tree::{columns, forms};
 use tree_shapes::first_at;
 
-#[derive(Drop)]
+#[derive(Clone, Copy)]
 pub enum Arm {
     // Expr::Assign without attributes
     Assign,

@@ -1,4 +1,6 @@
 // prettyplease's fixup.rs: the precedence and the context of an operand, together.
+#![tactic(auto)]
+
 ghost use Rattle.std.specs.Prelude.{◌≡◌};
 ghost use Rattle.tree.specs.Trees.{tree_at};
 ghost use Rattle.fixup_subexpression.specs.Subexpressions.{leftmost_with_operator, leftmost_with_dot, rightmost_operand};

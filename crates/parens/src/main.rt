@@ -1,14 +1,17 @@
 // Reads a tree file on standard input, and prints the count of its nodes and the row of each
 // expression, or the number of the refusal.
+#![tactic(auto)]
+
 ghost use Rattle.std.specs.Prelude.{◌≡◌, ◌+◌, ◌*◌, ◌≤◌, length, take};
-ghost use Rattle.io.specs.Counts.{IsPrefixLen};
 ghost use Rattle.tree.specs.Sizes.{row_cells, most_nodes};
 ghost use Rattle.tree_rules.specs.Refusals.{refusal};
+ghost use Rattle.text.specs.Counts.{IsPrefixLen};
 ghost use Rattle.text.specs.Growth.{Grown, Added};
 ghost use Rattle.parens.specs.Text.{node_text, lines_of, all_lines, accepted_text, printed};
 
 use file_loader::Loaded;
-use libc::{STDIN_FILENO, STDOUT_FILENO};
+use std::io;
+use text::input::read_full;
 use text::{put_no, put_ok, put_row};
 use tree::sizes;
 use tree::table::form_at;
@@ -88,10 +91,10 @@ fn report(file: &[u8], out: &mut [u8; TEXT]) -> usize
     }
 }
 
-fn main() {
+fn main(rt: HostRuntime) -> io::Result<()> {
     let mut file = [0u8; FILE];
-    let n = io::read_full(STDIN_FILENO, &mut file);
+    let n = read_full(&mut rt.stdin(), &mut file)?;
     let mut out = [0u8; TEXT];
     let end = report(&file[..n], &mut out);
-    io::write_all(STDOUT_FILENO, &out[..end]);
+    rt.write_all(&out[..end])
 }

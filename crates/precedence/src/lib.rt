@@ -1,4 +1,6 @@
 // prettyplease's precedence.rs: the precedences of expressions, loosest first.
+#![tactic(auto)]
+
 ghost use Rattle.std.specs.Prelude.{◌≡◌};
 ghost use Rattle.tree.specs.Table.{attributes_at};
 ghost use Rattle.tree.specs.Operands.{form_in};
@@ -12,7 +14,7 @@ use tree::table::{Operand, cell, form_at};
 use tree::{columns, forms};
 use tree_shapes::first_at;
 
-#[derive(Drop)]
+#[derive(Clone, Copy)]
 pub enum Precedence {
     // return, break, closures
     Jump,
@@ -49,7 +51,7 @@ pub enum Precedence {
 }
 
 // Which way an operator leans: a chain of its level is read from the left, from the right, or not at all.
-#[derive(Drop)]
+#[derive(Clone, Copy)]
 pub enum Lean {
     Left,
     Right,
@@ -57,14 +59,14 @@ pub enum Lean {
 }
 
 // How an operator binds: its level, and which way it leans.
-#[derive(Drop)]
+#[derive(Clone, Copy)]
 pub struct Binding {
     pub level: Precedence,
     pub lean: Lean,
 }
 
 // What a node says of its precedence: the precedence, or the number of a Group's content, which has it.
-#[derive(Drop)]
+#[derive(Clone, Copy)]
 enum Level {
     Of(Precedence),
     Content(u16),

@@ -1,15 +1,18 @@
 // Reads a token list on standard input, all numbers in seven-bit groups: the context, and then two for each token, its
 // code and its symbol. Prints how many nodes the list's reading has and the six numbers of each, or the number of the
 // refusal.
+#![tactic(auto)]
+
 ghost use Rattle.std.specs.Prelude.{◌+◌, ◌*◌, ◌≤◌, length, take};
-ghost use Rattle.io.specs.Counts.{IsPrefixLen};
 ghost use Rattle.tree.specs.Sizes.{node_cells, most_nodes, most_tokens};
+ghost use Rattle.text.specs.Counts.{IsPrefixLen};
 ghost use Rattle.text.specs.Growth.{Grown, Added};
 ghost use Rattle.reading.specs.Text.{numbers_in, tokens_in, nodes_text, table_text, Answered, Printed};
 ghost use Rattle.reading.specs.Gathering.{Gathered};
 
 use file_numbers::{Number, number_at};
-use libc::{STDIN_FILENO, STDOUT_FILENO};
+use std::io;
+use text::input::read_full;
 use text::{put_no, put_ok, put_row};
 use token_reader::Reply;
 use tree::sizes;
@@ -109,10 +112,10 @@ fn report(file: &[u8], out: &mut [u8; TEXT]) -> usize
     }
 }
 
-fn main() {
+fn main(rt: HostRuntime) -> io::Result<()> {
     let mut file = [0u8; FILE];
-    let n = io::read_full(STDIN_FILENO, &mut file);
+    let n = read_full(&mut rt.stdin(), &mut file)?;
     let mut out = [0u8; TEXT];
     let end = report(&file[..n], &mut out);
-    io::write_all(STDOUT_FILENO, &out[..end]);
+    rt.write_all(&out[..end])
 }

@@ -6,10 +6,12 @@ use crate::cells::{BYTES, TABLE};
 use crate::record::{FILE, Header, REPLIES, Sizes, Start};
 use crate::{archive, columns, lists, record, trees};
 use expr::order::CalleeOrder;
+use std::io;
+use std::io::Read;
 use tree::sizes;
 
 // What records hold.
-#[derive(Drop)]
+#[derive(Clone, Copy)]
 pub enum Kind {
     // Tree files, and their tables.
     Files,
@@ -79,21 +81,21 @@ fn agrees(kind: Kind, file: &[u8; FILE], h: Header, cells: &[u8; BYTES], s: Size
 }
 
 // Reads the rest of the record of a header, answers it anew, and compares.
-fn replay(fd: i32, h: Header, kind: Kind) -> Step {
+fn replay(reader: &mut impl Read, h: Header, kind: Kind) -> io::Result<Step> {
     let lent = record::wide(h.lent);
     let size = h.length;
     let reply = record::wide(h.reply);
     let written = bytes_of(kind, h.reply, record::wide(h.count));
     if lent > TABLE || size > FILE || reply >= REPLIES || written > BYTES {
-        return Step::Damaged;
+        return Ok(Step::Damaged);
     }
     let mut file = [0u8; FILE];
-    if !record::part(fd, &mut file, size) {
-        return Step::Damaged;
+    if !record::part(reader, &mut file, size)? {
+        return Ok(Step::Damaged);
     }
     let mut cells = [0u8; BYTES];
-    if !record::part(fd, &mut cells, written) {
-        return Step::Damaged;
+    if !record::part(reader, &mut cells, written)? {
+        return Ok(Step::Damaged);
     }
     let s = Sizes {
         file: size,
@@ -101,17 +103,17 @@ fn replay(fd: i32, h: Header, kind: Kind) -> Step {
         written: written,
     };
     if agrees(kind, &file, h, &cells, s) {
-        Step::Agrees(reply)
+        Ok(Step::Agrees(reply))
     } else {
-        Step::Differs(reply)
+        Ok(Step::Differs(reply))
     }
 }
 
 // Goes through the next record.
-pub(crate) fn next(fd: i32, kind: Kind) -> Step {
-    match record::begin(fd) {
-        Start::Record(h) => replay(fd, h, kind),
-        Start::End => Step::End,
-        Start::Short => Step::Damaged,
+pub(crate) fn next(reader: &mut impl Read, kind: Kind) -> io::Result<Step> {
+    match record::begin(reader)? {
+        Start::Record(h) => replay(reader, h, kind),
+        Start::End => Ok(Step::End),
+        Start::Short => Ok(Step::Damaged),
     }
 }

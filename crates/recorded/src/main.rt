@@ -3,6 +3,8 @@
 // the crate's callee order, with `callees` and those in ours, with `readings` and what `token_reader` reads, with `tokens`
 // and what `token_writer` writes, with `saves` and what `file_save` saves, with `orders` and what `file_order` says of two
 // files, and with `columns` and `restored` and what `file_columns` rearranges and puts back.
+#![tactic(auto)]
+
 mod archive;
 mod cells;
 mod columns;
@@ -14,6 +16,9 @@ mod trees;
 
 use judge::{Kind, Step};
 use record::REPLIES;
+use std::io::Read;
+use std::rt::Files;
+use std::{fs, io};
 use text::print;
 
 // The most records: data that has more counts as damaged.
@@ -30,20 +35,18 @@ fn bump(counts: &mut [u64; REPLIES], reply: usize) {
 }
 
 // Goes through all records and prints what came of them.
-fn run(fd: i32, kind: Kind) {
+fn run(rt: &impl Print, reader: &mut impl Read, kind: Kind) -> io::Result<()> {
     let mut met = [0u64; REPLIES];
     let mut agreed = [0u64; REPLIES];
     let mut files: u64 = 0;
     let mut different: u64 = 0;
     while files <= MOST {
-        match judge::next(fd, kind) {
+        match judge::next(reader, kind)? {
             Step::End => {
-                report::all(&met, &agreed, files, different);
-                return;
+                return report::all(rt, &met, &agreed, files, different);
             }
             Step::Damaged => {
-                print::damaged();
-                return;
+                return print::damaged(rt);
             }
             Step::Agrees(reply) => {
                 bump(&mut met, reply);
@@ -56,34 +59,35 @@ fn run(fd: i32, kind: Kind) {
         }
         files += 1;
     }
-    print::damaged();
+    print::damaged(rt)
 }
 
 // Opens a file of records and goes through them, or says why it cannot be opened.
-fn open(path: &[u8], kind: Kind) {
-    let fd = os::open_read(path);
-    if fd < 0 {
-        os::fail(path);
-        return;
+fn open(rt: &(impl Files + Print + Eprint + Alloc), path: &str, kind: Kind) -> io::Result<()> {
+    match fs::open(rt, path) {
+        Ok(mut file) => run(rt, &mut file, kind),
+        Err(why) => print::failed(rt, path, why),
     }
-    run(fd, kind);
-    libc::close(fd);
 }
 
 // The same below a line with the file's name.
-fn open_named(name: &[u8], kind: Kind) {
-    print::line(name);
-    open(name, kind);
+fn open_named(
+    rt: &(impl Files + Print + Eprint + Alloc),
+    name: &str,
+    kind: Kind,
+) -> io::Result<()> {
+    print::line(rt, name.as_bytes())?;
+    open(rt, name, kind)
 }
 
-fn main() {
-    open(b"files", Kind::Files);
-    open_named(b"rows", Kind::Rows);
-    open_named(b"callees", Kind::Callees);
-    open_named(b"readings", Kind::Readings);
-    open_named(b"tokens", Kind::Tokens);
-    open_named(b"saves", Kind::Saves);
-    open_named(b"orders", Kind::Orders);
-    open_named(b"columns", Kind::Columns);
-    open_named(b"restored", Kind::Restored);
+fn main(rt: HostRuntime) -> io::Result<()> {
+    open(&rt, "files", Kind::Files)?;
+    open_named(&rt, "rows", Kind::Rows)?;
+    open_named(&rt, "callees", Kind::Callees)?;
+    open_named(&rt, "readings", Kind::Readings)?;
+    open_named(&rt, "tokens", Kind::Tokens)?;
+    open_named(&rt, "saves", Kind::Saves)?;
+    open_named(&rt, "orders", Kind::Orders)?;
+    open_named(&rt, "columns", Kind::Columns)?;
+    open_named(&rt, "restored", Kind::Restored)
 }

@@ -1,6 +1,10 @@
 // The parts of a record: a header of 12 bytes, the bytes of what is read, and those of what is written.
 ghost use Rattle.std.specs.Prelude.{◌≤◌};
 
+use std::io;
+use std::io::Read;
+use text::input::read_full;
+
 // The bytes of the longest file.
 pub const FILE: usize = 100_000;
 
@@ -8,7 +12,7 @@ pub const FILE: usize = 100_000;
 pub const REPLIES: usize = 23;
 
 // What a header says, with its numbers as they stand there.
-#[derive(Drop)]
+#[derive(Clone, Copy)]
 pub struct Header {
     pub lent: u16,
     pub length: usize,
@@ -74,23 +78,23 @@ fn parsed(b: &[u8; 12]) -> Header {
 }
 
 // Reads a header, or tells that the data ends before it or in it.
-pub(crate) fn begin(fd: i32) -> Start {
+pub(crate) fn begin(reader: &mut impl Read) -> io::Result<Start> {
     let mut bytes = [0u8; 12];
-    let n = io::read_full(fd, &mut bytes);
+    let n = read_full(reader, &mut bytes)?;
     if n == 0 {
-        return Start::End;
+        return Ok(Start::End);
     }
     if n < 12 {
-        return Start::Short;
+        return Ok(Start::Short);
     }
-    Start::Record(parsed(&bytes))
+    Ok(Start::Record(parsed(&bytes)))
 }
 
 // Reads `n` bytes to the start of `buf`, and answers whether there is room and all of them came.
-pub(crate) fn part(fd: i32, buf: &mut [u8], n: usize) -> bool {
+pub(crate) fn part(reader: &mut impl Read, buf: &mut [u8], n: usize) -> io::Result<bool> {
     if n <= buf.len() {
-        io::read_full(fd, &mut buf[0..n]) == n
+        Ok(read_full(reader, &mut buf[0..n])? == n)
     } else {
-        false
+        Ok(false)
     }
 }

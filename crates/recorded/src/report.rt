@@ -1,31 +1,39 @@
 // What the program prints.
 use crate::record::REPLIES;
+use std::io;
 use text::print::{counted, line};
 
 // The line of one number of refusal.
-fn refused(reply: u64, agreed: u64) {
-    counted(b"refused ", reply);
-    counted(b": ", agreed);
-    line(b"");
+fn refused(rt: &impl Print, reply: u64, agreed: u64) -> io::Result<()> {
+    counted(rt, b"refused ", reply)?;
+    counted(rt, b": ", agreed)?;
+    line(rt, b"")
 }
 
 // The lines of the numbers of refusal that occurred.
-fn refusals(met: &[u64; REPLIES], agreed: &[u64; REPLIES]) {
+fn refusals(rt: &impl Print, met: &[u64; REPLIES], agreed: &[u64; REPLIES]) -> io::Result<()> {
     let mut i = 1;
     while i < REPLIES {
         if met[i] > 0 {
-            refused(i as u64, agreed[i]);
+            refused(rt, i as u64, agreed[i])?;
         }
         i += 1;
     }
+    Ok(())
 }
 
 // All lines, for `files` records of which `different` differ.
-pub(crate) fn all(met: &[u64; REPLIES], agreed: &[u64; REPLIES], files: u64, different: u64) {
-    counted(b"accepted ", agreed[0]);
-    line(b"");
-    refusals(met, agreed);
-    counted(b"files ", files);
-    counted(b", different ", different);
-    line(b"");
+pub(crate) fn all(
+    rt: &impl Print,
+    met: &[u64; REPLIES],
+    agreed: &[u64; REPLIES],
+    files: u64,
+    different: u64,
+) -> io::Result<()> {
+    counted(rt, b"accepted ", agreed[0])?;
+    line(rt, b"")?;
+    refusals(rt, met, agreed)?;
+    counted(rt, b"files ", files)?;
+    counted(rt, b", different ", different)?;
+    line(rt, b"")
 }

@@ -14,7 +14,6 @@ use Rattle.tree.specs.Forms.{expr_verbatim, an_expression, class_of}
 use Rattle.tree.specs.Trees.{Label, Tree, none, node}
 use Rattle.tree.specs.Walks.{at_root, answer, walk, follow}
 use Rattle.fixup_look.specs.Looks.{is_bare_jump, is_open_ahead, is_cast_to_path}
-use Rattle.precedence.specs.declared.Precedence.{Precedence}
 use Rattle.precedence.specs.declared.Precedence.TheVariants.{Assign, Let, Prefix, Unambiguous}
 use Rattle.precedence.specs.Precedences.{rank_of, same, prefix_attrs, of_lines, closed_by, precedence_of}
 use Rattle.fixup.specs.declared.context.FixupContext.{FixupContext}

@@ -1,4 +1,6 @@
 // What is decided of a node: its row, and whether it has an outer pair.
+#![tactic(auto)]
+
 pub mod hand; // hand.rt: what an owner hands down, in one number
 
 ghost use Rattle.std.specs.Prelude.{◌≡◌};

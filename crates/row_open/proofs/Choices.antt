@@ -4,23 +4,22 @@ use mathlib.Core.Bool.{Bool, true, false, not, ◌&&◌, ◌||◌, and-true, and
 use mathlib.Core.List.{List, [], ◌∷◌, ◌++◌, map}
 use Prim.Native.Nat.{ℕ, zero, suc, ◌+◌, ◌*◌, ◌-◌, ◌≤◌, ◌<◌}
 use native.Mathlib.Omega.{arith}
-use native.Mathlib.Decide.{dec_le, ℕ_discrete}
-use lib.Dec.{eqb, ltb, leb}
+use native.Mathlib.Decide.{dec_le}
+use lib.Dec.{eqb, ltb}
 use lib.ListN.{length, length-set}
-use borrow.Author.Tests.{ltb-false, eqb-true, eqb-false, le-leb, not-false}
+use borrow.Author.Tests.{ltb-false, eqb-true, eqb-false, not-false}
 use Rattle.laws.specs.Choice.{pick, is_one_of}
-use Rattle.laws.proofs.Choice.{pick_true, pick_false, true_not_false, or_false}
+use Rattle.laws.proofs.Choice.{true_not_false, or_false}
 use Rattle.tree.specs.Sizes.{node_cells}
 use Rattle.tree.specs.Forms.{expr_binary}
 use Rattle.tree.specs.Table.{form_at, form_column}
 use Rattle.tree.specs.Operands.{form_in}
 use Rattle.tree.proofs.Matches.{form_in_lem, form_none}
-use Rattle.expr.specs.declared.order.CalleeOrder.{CalleeOrder}
 use Rattle.row_open.specs.declared.Entry.{Entry}
 use Rattle.row_open.specs.Open.{last_binary, nodes_of, from, open_at, before, choices, with_operator, chosen, all_of, refusal21, refusal22}
 use Rattle.row_open.specs.Steps.{previous, is_new, news, new_at, Within}
 use Rattle.row_open.specs.Steps as steps
-use Rattle.row_open.proofs.Near.{Near, NearAt, put_column, near_put, near_class}
+use Rattle.row_open.proofs.Near.{Near, put_column, near_put, near_class}
 use Rattle.row_open.proofs.Classes.{previous_same, previous_most}
 use Rattle.row_open.proofs.Tried.{all_new}
 

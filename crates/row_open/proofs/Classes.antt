@@ -1,7 +1,7 @@
 -- The classes of operators: what is asked of an operator is the same in each. Assumes nothing.
-use mathlib.Core.Path.{◌≡◌, refl, sym, ap, ap₂, ◌∙◌}
+use mathlib.Core.Path.{◌≡◌, sym, ap, ap₂, ◌∙◌}
 use mathlib.Core.Bool.{Bool, true, false, ◌&&◌}
-use Prim.Native.Nat.{ℕ, suc, ◌-◌, ◌≤◌, ◌<◌}
+use Prim.Native.Nat.{ℕ, suc, ◌-◌, ◌≤◌}
 use native.Mathlib.Omega.{arith}
 use lib.Dec.{T, eqb, leb}
 use lib.ListN.{length}
@@ -11,7 +11,6 @@ use Rattle.laws.proofs.Choice.{true_not_false, true_of, of_true, and_true, alike
 use Rattle.laws.proofs.Each.{all, all_at}
 use Rattle.precedence.specs.declared.Precedence.{Precedence}
 use Rattle.precedence.specs.declared.Lean.{Lean}
-use Rattle.precedence.specs.declared.Binding.{Binding}
 use Rattle.precedence.specs.Precedences.{rank_of, lean_number, binding, operators, binop_binding, of_binop}
 use Rattle.precedence.proofs.Levels.{equal_leans}
 use Rattle.row_pack.specs.FromCells.{of_rank}

@@ -1,17 +1,15 @@
 -- Entries in a buffer, and what their checks say of each. Assumes nothing.
-use mathlib.Core.Path.{◌≡◌, refl, sym, ap, ◌∙◌}
-use mathlib.Core.Bool.{Bool, true, false, not, ◌||◌}
+use mathlib.Core.Path.{◌≡◌}
+use mathlib.Core.Bool.{true, false}
 use mathlib.Core.List.{List, [], ◌∷◌}
-use Prim.Native.Nat.{ℕ, zero, suc, ◌+◌, ◌*◌, ◌-◌, ◌≤◌, ◌<◌}
+use Prim.Native.Nat.{ℕ, zero, suc, ◌*◌, ◌-◌, ◌≤◌, ◌<◌}
 use native.Mathlib.Omega.{arith}
-use lib.Dec.{eqb, ltb}
-use lib.ListN.{length}
 use borrow.Author.Tests.{eq-eqb, ne_eqb}
 use Rattle.laws.specs.Choice.{is_one_of}
 use Rattle.laws.proofs.Choice.{or_here, or_next}
 use Rattle.row_open.specs.declared.Entry.{Entry}
 use Rattle.tree.specs.Sizes.{node_cells}
-use Rattle.row_open.specs.Open.{entry_at, entries_in, nodes_of, last_binary, refusal22}
+use Rattle.row_open.specs.Open.{entry_at, entries_in, nodes_of, last_binary}
 use Rattle.row_open.specs.Steps.{Within, Room}
 use Rattle.row_open.specs.Steps as steps
 

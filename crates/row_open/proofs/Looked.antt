@@ -1,11 +1,10 @@
 -- One walk in cleared rows: its pairs are those of the table's tree. Assumes nothing.
-use mathlib.Core.Path.{◌≡◌, refl, sym, ap, ◌∙◌}
-use mathlib.Core.Bool.{Bool}
+use mathlib.Core.Path.{◌≡◌, ap, ◌∙◌}
 use mathlib.Core.List.{List}
 use Prim.Native.Nat.{ℕ, ◌*◌, ◌-◌, ◌%◌, ◌≤◌, ◌<◌}
 use native.Mathlib.Omega.{arith}
 use lib.Dec.{eqb}
-use lib.ListN.{length, get_or, drop, replicate, length-replicate, get_or-append}
+use lib.ListN.{length, get_or, replicate, length-replicate, get_or-append}
 use Rattle.laws.specs.Lists.{over}
 use Rattle.laws.proofs.Lists.{length_over}
 use Rattle.tree.specs.Sizes.{row_cells}

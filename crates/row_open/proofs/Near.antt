@@ -1,9 +1,8 @@
 -- Tables that differ in operators of one class, and behind their nodes: their trees have the same pairs. Assumes nothing.
 use mathlib.Core.Path.{◌≡◌, refl, sym, ap, ◌∙◌}
-use mathlib.Core.Logic.{◌⊎◌, inl, inr, ◌≢◌}
-use mathlib.Core.Bool.{Bool}
+use mathlib.Core.Logic.{◌⊎◌, inl, inr}
 use mathlib.Core.List.{List}
-use Prim.Native.Nat.{ℕ, zero, suc, ◌+◌, ◌*◌, ◌-◌, ◌%◌, ◌≤◌, ◌<◌}
+use Prim.Native.Nat.{ℕ, zero, suc, ◌+◌, ◌*◌, ◌-◌, ◌≤◌, ◌<◌}
 use native.Mathlib.Omega.{arith}
 use native.Mathlib.Decide.{dec_le, ℕ_discrete}
 use lib.ListN.{length, get_or, set, replicate, length-set}
@@ -18,7 +17,6 @@ use Rattle.row.specs.declared.Row.{Row}
 use Rattle.row.specs.Rows as rows
 use Rattle.row.specs.Rows.{Rows}
 use Rattle.row_walk.specs.Walk.{row_stored, placed, tree_rows}
-use Rattle.row_walk.proofs.Placed.{length_placed}
 use Rattle.row_open.specs.Open.{with_operator, outer_in, has_outer}
 use Rattle.row_walk.proofs.Alike.{SameOperator, Alike, gone, kept, other, label, all_rows_like}
 
@@ -205,4 +203,4 @@ agree_stored i r g = agree_set _ _ (agree_set _ _ (agree_set _ _ (agree_set _ _ 
 pub agree_placed : (cells : List ℕ) (count i : ℕ) (r : Rows) {n : ℕ} {a b : List ℕ} → Agree n a b → Agree n (placed cells count i r a) (placed cells count i r b)
 unfolding placed
 agree_placed cells count i rows.absent g = g
-agree_placed cells count i (rows.present r a b) g = agree_placed cells count _ b (agree_placed cells count _ a (agree_stored i r g))
+agree_placed cells count i (rows.present r a b) g = agree_placed cells count (operand_at cells count i second_column) b (agree_placed cells count (operand_at cells count i first_column) a (agree_stored i r g))

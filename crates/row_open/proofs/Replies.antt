@@ -1,24 +1,23 @@
 -- The replies of `decide_open`, and what they leave in the answers. Assumes nothing.
-use mathlib.Core.Path.{◌≡◌, refl, sym, ap, ◌∙◌}
-use mathlib.Core.Bool.{Bool, true, false}
+use mathlib.Core.Path.{◌≡◌, sym, ap, ◌∙◌}
+use mathlib.Core.Bool.{false}
 use mathlib.Core.List.{List}
-use Prim.Native.Nat.{ℕ, ◌*◌, ◌≤◌, ◌<◌}
+use Prim.Native.Nat.{ℕ, ◌*◌, ◌≤◌}
 use native.Mathlib.Omega.{arith}
-use lib.Dec.{eqb, ltb}
+use lib.Dec.{ltb}
 use lib.ListN.{length, take, replicate, length-replicate}
 use lib.Seq.{length-take-le}
 use borrow.Author.Tests.{eq-eqb, ne_eqb, ltb-false}
-use Rattle.laws.specs.Choice.{pick}
 use Rattle.laws.specs.Lists.{over}
 use Rattle.laws.proofs.Choice.{pick_true, pick_false, or_false}
 use Rattle.laws.proofs.Lists.{length_over}
 use Rattle.tree.specs.Sizes.{node_cells}
-use Rattle.tree_rules.specs.Refusals.{refusal, refusal_then, Accepted}
+use Rattle.tree_rules.specs.Refusals.{refusal, Accepted}
 use Rattle.tree_rules.proofs.First.{passed, table_refused, table_passed}
 use Rattle.tree_rules.proofs.Accepted.{count_bounds}
 use Rattle.expr.specs.declared.order.CalleeOrder.{CalleeOrder}
 use Rattle.row_walk.proofs.Room.{entries_bound}
-use Rattle.row_open.specs.Open.{entry_cells, entries_in, open_refusal12, refusal20, refusal21, refusal22, entry_refusal, draft_of, open_refusal, answers_of, answers_after}
+use Rattle.row_open.specs.Open.{entry_cells, entries_in, open_refusal12, refusal21, refusal22, entry_refusal, draft_of, open_refusal, answers_of, answers_after}
 use Rattle.row_open.specs.Steps.{unasked, Within, Room, Taken}
 use Rattle.row_open.proofs.Choices.{Good, checked, good_within}
 

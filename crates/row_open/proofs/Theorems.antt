@@ -3,10 +3,10 @@ use mathlib.Core.Path.{◌≡◌, refl, sym, ap, ap₂, ◌∙◌}
 use mathlib.Core.Bool.{Bool, true, false, not, ◌&&◌, and-true, and-false}
 use mathlib.Core.List.{List, [], ◌∷◌, map}
 use mathlib.Core.Logic.{◌⊎◌, inl, inr, ◌≢◌}
-use Prim.Native.Nat.{ℕ, suc, ◌+◌, ◌*◌, ◌-◌, ◌%◌, ◌≤◌, ◌<◌}
+use Prim.Native.Nat.{ℕ, suc, ◌+◌, ◌*◌, ◌-◌, ◌%◌, ◌≤◌}
 use native.Mathlib.Omega.{arith}
 use lib.Dec.{eqb}
-use lib.ListN.{length, set, replicate, length-replicate}
+use lib.ListN.{length, replicate, length-replicate}
 use lib.Seq.{set_comm}
 use Rattle.laws.specs.Choice.{pick}
 use Rattle.laws.proofs.Choice.{true_not_false}
@@ -17,14 +17,13 @@ use Rattle.tree_rules.specs.Refusals.{Accepted}
 use Rattle.tree_rules.proofs.Accepted.{count_bounds}
 use Rattle.expr.specs.declared.order.CalleeOrder.{CalleeOrder}
 use Rattle.row.specs.declared.Row.{Row}
-use Rattle.row_walk.specs.Walk.{tree_rows, walked_after}
-use Rattle.row_walk.specs.Paths.{number_at, row_in}
+use Rattle.row_walk.specs.Walk.{tree_rows}
+use Rattle.row_walk.specs.Paths.{number_at}
 use Rattle.row_walk.proofs.Replies.{walked}
-use Rattle.row_walk.proofs.Paths.{Reached, reached, renumbered}
+use Rattle.row_walk.proofs.Paths.{reached, renumbered}
 use Rattle.row_open.specs.declared.Entry.{Entry}
-use Rattle.row_open.specs.declared.Answer.{Answer}
 use Rattle.row_open.specs.declared.Answer.TheVariants.{Never, Always, Depends}
-use Rattle.row_open.specs.Open.{from, open_at, with_operator, all_of, outer_in, has_outer, answer_at}
+use Rattle.row_open.specs.Open.{from, open_at, with_operator, all_of, outer_in, has_outer}
 use Rattle.row_open.specs.Statement.{NoEntries, OneChoice, Wider, WiderDepends, Reordered, AnyOrder, ClassRows}
 use Rattle.row_open.specs.Statement as statement
 use Rattle.row_open.proofs.Near.{near_class, rows_near}

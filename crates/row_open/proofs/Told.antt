@@ -1,23 +1,22 @@
 -- The answers of all nodes, from the cells after all that is tried. Assumes nothing.
 use mathlib.Core.Path.{◌≡◌, refl, sym, ap, ap₂, ◌∙◌}
 use mathlib.Core.Bool.{Bool, true, false, not, ◌&&◌}
-use mathlib.Core.List.{List, ◌++◌, map}
+use mathlib.Core.List.{List, ◌++◌}
 use Prim.Native.Nat.{ℕ, zero, suc, ◌+◌, ◌*◌, ◌-◌, ◌≤◌, ◌<◌}
 use native.Mathlib.Omega.{arith}
 use native.Mathlib.Decide.{dec_le}
-use lib.ListN.{length, get_or, set, take, drop, replicate, length-set, length-replicate, get_or-replicate, get_or-append}
-use lib.Seq.{get_or-set_same, get_or-set_other, get_or-append-add, get_or-drop, get_or-take, length-take-le, ext_get_or}
+use lib.ListN.{length, get_or, take, drop, replicate, length-set, length-replicate, get_or-replicate}
+use lib.Seq.{get_or-set_same, get_or-set_other, get_or-append-add, get_or-drop, length-take-le, ext_get_or}
 use Rattle.laws.specs.Choice.{pick}
 use Rattle.laws.specs.Lists.{over}
 use Rattle.laws.proofs.Choice.{true_not_false}
 use Rattle.laws.proofs.Lists.{length_over}
 use Rattle.tree.specs.Sizes.{node_cells}
-use Rattle.tree.specs.Table.{form_at}
 use Rattle.expr.specs.declared.order.CalleeOrder.{CalleeOrder}
 use Rattle.row_open.specs.declared.Answer.{Answer}
 use Rattle.row_open.specs.declared.Answer.TheVariants.{Never, Always, Depends}
 use Rattle.row_open.specs.declared.Entry.{Entry}
-use Rattle.row_open.specs.Open.{choices, chosen, answer_number, all_of, answer_by, has_outer, answer_at, told}
+use Rattle.row_open.specs.Open.{choices, chosen, answer_number, answer_by, has_outer, answer_at, told}
 use Rattle.row_open.specs.Steps.{unasked, varied}
 use Rattle.row_open.proofs.Near.{Near, has_near}
 use Rattle.row_open.proofs.Tried.{all_new, length_varied, tried, varied_at, varied_past, held, has, has_not, tried_held}

@@ -1,5 +1,5 @@
 -- Document 02, Paper 12: what is promised of answers over all choices.
-use Rattle.std.specs.Prelude.{Bool, true, false, List, [], ◌∷◌, ◌⊎◌, ◌≢◌, ◌≡◌, ℕ, ◌*◌, ◌≤◌, length}
+use Rattle.std.specs.Prelude.{List, [], ◌∷◌, ◌⊎◌, ◌≢◌, ◌≡◌, ℕ, ◌*◌, ◌≤◌, length}
 use Rattle.laws.specs.Choice.{pick}
 use Rattle.tree.specs.Sizes.{row_cells}
 use Rattle.tree.specs.Forms.{expr_binary}
@@ -11,7 +11,6 @@ use Rattle.expr.specs.declared.order.CalleeOrder.{CalleeOrder}
 use Rattle.expr.specs.Expr.{can_begin_expr, can_begin_generics}
 use Rattle.row_walk.specs.Walk.{tree_rows, walked_after}
 use Rattle.row_open.specs.declared.Entry.{Entry}
-use Rattle.row_open.specs.declared.Answer.{Answer}
 use Rattle.row_open.specs.declared.Answer.TheVariants.{Never, Always, Depends}
 use Rattle.row_open.specs.Open.{last_binary, with_operator, outer_in, answer_at}
 

@@ -1,4 +1,6 @@
 // The pairs of a tree some of whose operators are not chosen yet: over all choices, which stand always, never, or as is chosen.
+#![tactic(auto)]
+
 ghost use Rattle.std.specs.Prelude.{◌≡◌, ◌+◌, ◌*◌, ◌-◌, ◌≤◌, ◌<◌, length, take, replicate};
 ghost use Rattle.laws.specs.Choice.{is_one_of};
 ghost use Rattle.laws.specs.Lists.{over};

@@ -1,4 +1,6 @@
 // A context in three cells: the ranks of its two precedences, and its ten flags as bits of one number.
+#![tactic(auto)]
+
 ghost use Rattle.std.specs.Prelude.{◌≡◌};
 ghost use Rattle.row_pack.specs.Cells.{flags_of};
 ghost use Rattle.row_pack.specs.FromCells.{of_rank, context_of};

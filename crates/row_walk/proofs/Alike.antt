@@ -1,12 +1,12 @@
 -- Rows do not look at symbols, and of a Binary's operator only at how it binds, and at whether it can begin an expression or generics. Assumes nothing.
 use mathlib.Core.Path.{◌≡◌, refl, sym, ap, ◌∙◌, fun_ext}
-use mathlib.Core.Bool.{Bool, true, false}
+use mathlib.Core.Bool.{true, false}
 use mathlib.Core.List.{List}
 use Prim.Native.Nat.{ℕ}
 use Rattle.laws.specs.Choice.{pick, Line, lookup}
 use Rattle.tree.specs.Forms.{expr_binary}
 use Rattle.tree.specs.Trees.{Label, Tree, none, node}
-use Rattle.tree.specs.Walks.{Ask, answer, follow, is_there, at_root, walk}
+use Rattle.tree.specs.Walks.{Ask, answer, is_there, at_root, walk}
 use Rattle.precedence.specs.declared.Precedence.{Precedence}
 use Rattle.precedence.specs.declared.Binding.{Binding}
 use Rattle.precedence.specs.declared.Precedence.TheVariants.{Jump, Unambiguous}
@@ -27,7 +27,7 @@ use Rattle.expr.specs.declared.order.CalleeOrder.{CalleeOrder}
 use Rattle.expr.specs.declared.order.CalleeOrder.TheVariants.{Crates, Ours}
 use Rattle.expr.specs.Handed.{neither}
 use Rattle.expr.specs.Expr.{can_begin_expr, can_begin_generics, callee_lines, named_field, call_needs_group, binary_left, binary_right, first_lines, hands_first, second_lines, hands_second}
-use Rattle.row.specs.Rows.{outer_pair, inner_lines, inner_pair, expression_row, is_expression, row_of, own_context, Rows, rows_of}
+use Rattle.row.specs.Rows.{outer_pair, inner_lines, inner_pair, expression_row, is_expression, row_of, own_context, rows_of}
 use Rattle.row_walk.specs.Walk.{context_numbered, root_handed}
 
 -- ---- trees alike

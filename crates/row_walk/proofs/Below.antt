@@ -5,11 +5,10 @@ use mathlib.Core.Logic.{◌⊎◌, inl, inr}
 use Prim.Native.Nat.{ℕ, zero, suc, ◌≤◌, ◌<◌}
 use native.Mathlib.Omega.{arith}
 use Rattle.tree.specs.Table.{cell_at, first_column, second_column}
-use Rattle.tree.specs.Trees.{operand_of, operand_at}
+use Rattle.tree.specs.Trees.{operand_at}
 use Rattle.tree_rules.specs.Refusals.{Accepted}
 use Rattle.tree.proofs.Unfold.{Standing, absent, present, standing, operand_range, operand_zero}
-use Rattle.tree_rules.proofs.Accepted.{first_operand, second_operand, one_owner}
-use Rattle.tree_rules.proofs.Owned.{OwnedOnce}
+use Rattle.tree_rules.proofs.Accepted.{one_owner}
 use Rattle.row_walk.specs.Paths.{Branch, first, second, number_at}
 
 module _ (cells : List ℕ) (count : ℕ) where

@@ -11,15 +11,14 @@ use lib.Seq.{get_or-set_same, get_or-set_other}
 use Rattle.laws.proofs.Choice.{true_not_false}
 use Rattle.tree.specs.Sizes.{row_cells}
 use Rattle.tree.specs.Table.{cell_at, first_column, second_column}
-use Rattle.tree.specs.Trees.{Label, Tree, none, node, label_at, operand_at, tree_at}
+use Rattle.tree.specs.Trees.{Label, Tree, none, node, operand_at, tree_at}
 use Rattle.tree.specs.Walks.{is_there}
 use Rattle.tree_rules.specs.Refusals.{Accepted}
 use Rattle.tree.proofs.Unfold.{tree_zero, tree_past, unfolds}
 use Rattle.tree_rules.proofs.Accepted.{count_bounds, first_operand, second_operand, one_owner, owner_smaller}
-use Rattle.tree_rules.proofs.Owned.{OwnedOnce}
 use Rattle.expr.specs.declared.Handed.{Handed}
 use Rattle.expr.specs.declared.order.CalleeOrder.{CalleeOrder}
-use Rattle.expr.specs.Expr.{hands_first, hands_second}
+use Rattle.expr.specs.Expr.{hands_first}
 use Rattle.row.specs.declared.Row.{Row}
 use Rattle.row.specs.Rows.{row_of, own_context, rows_of}
 use Rattle.row_walk.specs.Walk.{root_handed, row_stored, placed}

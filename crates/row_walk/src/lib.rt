@@ -1,4 +1,6 @@
 // The rows of all nodes of an accepted tree.
+#![tactic(auto)]
+
 mod handing; // handing.rt: what an owner hands to an operand
 
 ghost use Rattle.std.specs.Prelude.{◌≡◌, not, ◌*◌, ◌≤◌, length};

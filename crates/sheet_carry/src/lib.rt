@@ -1,4 +1,6 @@
 // An open sheet carried from the crate's callee order to ours.
+#![tactic(auto)]
+
 ghost use Rattle.std.specs.Prelude.{◌≡◌, ◌*◌, ◌≤◌, length};
 ghost use Rattle.tree.specs.Sizes.{row_cells};
 ghost use Rattle.tree_rules.specs.Refusals.{Accepted};

@@ -1,4 +1,6 @@
 // An open sheet's edit: the expression at a named node is replaced by another accepted tree. And a look before the edit.
+#![tactic(auto)]
+
 ghost use Rattle.std.specs.Prelude.{◌≡◌, not, ◌&&◌, ◌+◌, ◌*◌, ◌≤◌, min, ltb, length, take};
 ghost use Rattle.laws.specs.Each.{some};
 ghost use Rattle.laws.specs.Lists.{over};

@@ -6,7 +6,7 @@ use crate::{digest, stems};
 use expr::order::CalleeOrder;
 
 // The forms of a block, by the numbers of their stems, from the top down: one, two or three of them.
-#[derive(Drop)]
+#[derive(Clone, Copy)]
 pub struct Forms {
     pub length: usize,
     pub first: usize,

@@ -2,6 +2,8 @@
 // of a block's rows with the one in the file `digests1`, `digests2` or `digests3`, which is of the crate's own rows. The
 // file `stems` has what spines are put together from. Without an argument each so many-th block is gone through, with one
 // all are.
+#![tactic(auto)]
+
 mod block;
 mod digest;
 mod report;
@@ -10,7 +12,11 @@ mod stems;
 ghost use Rattle.std.specs.Prelude.{◌<◌, ◌≤◌};
 
 use block::Forms;
+use std::env::FillError;
+use std::rt::{Env, Files};
+use std::{fs, io};
 use stems::{BYTES, ENDS, FORMS, KINDS, NEXTS};
+use text::input::read_full;
 use text::print;
 
 // The bytes of a digest.
@@ -76,33 +82,31 @@ fn differs(stems: &[u8; BYTES], forms: Forms, digest: u64) -> u64
 // Goes through the blocks of so many forms out of `size` from `from` on, whose digests are in a file, and prints what came
 // of them.
 fn run(
-    name: &[u8],
+    rt: &(impl Files + Print + Eprint + Alloc),
+    name: &str,
     stems: &[u8; BYTES],
     length: usize,
     from: usize,
     size: usize,
     blocks: usize,
     step: usize,
-)
+) -> io::Result<()>
     requires le_step { 1 ≤ step }
     requires le_size { 1 ≤ size }
     requires from_bound { from ≤ 500 }
     requires size_bound { size ≤ 500 }
 {
-    let fd = os::open_read(name);
-    if fd < 0 {
-        os::fail(name);
-        return;
-    }
+    let mut file = match fs::open(rt, name) {
+        Ok(file) => file,
+        Err(why) => return print::failed(rt, name, why),
+    };
     let mut done: u64 = 0;
     let mut different: u64 = 0;
     let mut block = 0;
     while block < blocks {
         let mut bytes = [0u8; DIGEST];
-        if io::read_full(fd, &mut bytes) != DIGEST {
-            print::damaged();
-            libc::close(fd);
-            return;
+        if read_full(&mut file, &mut bytes)? != DIGEST {
+            return print::damaged(rt);
         }
         if block % step == 0 {
             different += differs(stems, forms_of(length, block, from, size), number(&bytes));
@@ -110,56 +114,65 @@ fn run(
         }
         block += 1;
     }
-    report::all(length as u64, done, different);
-    libc::close(fd);
+    report::all(rt, length as u64, done, different)
 }
 
 // Goes through the blocks of one, two and three forms. Of one form there are few, and all are gone through.
-fn run_all(stems: &[u8; BYTES], step: usize)
+fn run_all(
+    rt: &(impl Files + Print + Eprint + Alloc),
+    stems: &[u8; BYTES],
+    step: usize,
+) -> io::Result<()>
     requires { 1 ≤ step }
 {
-    run(b"digests1", stems, 1, NEXTS + ENDS, FORMS, FORMS, 1);
+    run(rt, "digests1", stems, 1, NEXTS + ENDS, FORMS, FORMS, 1)?;
     run(
-        b"digests2",
+        rt,
+        "digests2",
         stems,
         2,
         NEXTS + ENDS,
         FORMS,
         FORMS * FORMS,
         step,
-    );
+    )?;
     run(
-        b"digests3",
+        rt,
+        "digests3",
         stems,
         3,
         NEXTS + ENDS + FORMS,
         KINDS,
         KINDS * KINDS * KINDS,
         step,
-    );
+    )
 }
 
 // Reads the stems, and answers whether they are there.
-fn read_stems(stems: &mut [u8; BYTES]) -> bool {
-    let fd = os::open_read(b"stems");
-    if fd < 0 {
-        os::fail(b"stems");
-        return false;
-    }
-    let n = io::read_full(fd, stems);
-    libc::close(fd);
-    n == BYTES
+fn read_stems(rt: &(impl Files + Eprint + Alloc), stems: &mut [u8; BYTES]) -> io::Result<bool> {
+    let mut file = match fs::open(rt, "stems") {
+        Ok(file) => file,
+        Err(why) => {
+            print::failed(rt, "stems", why)?;
+            return Ok(false);
+        }
+    };
+    Ok(read_full(&mut file, stems)? == BYTES)
 }
 
-fn main() {
+// Whether the program was started with an argument, of whatever bytes.
+fn has_argument(rt: &impl Env) -> bool {
+    !matches!(rt.arg(1, &mut []), Err(FillError::NotPresent))
+}
+
+fn main(rt: HostRuntime) -> io::Result<()> {
     let mut stems = [0u8; BYTES];
-    if !read_stems(&mut stems) {
-        print::damaged();
-        return;
+    if !read_stems(&rt, &mut stems)? {
+        return print::damaged(&rt);
     }
-    if os::arg_count() > 1 {
-        run_all(&stems, 1);
+    if has_argument(&rt) {
+        run_all(&rt, &stems, 1)
     } else {
-        run_all(&stems, STEP);
+        run_all(&rt, &stems, STEP)
     }
 }

@@ -1,5 +1,8 @@
 // A text that grows at the end of what stands in a lent buffer. Each function adds to it, and answers where it
 // then ends; bytes for which there is no room are left out.
+#![tactic(auto)]
+
+pub mod input; // input.rt: what is read at once into a lent buffer
 pub mod print; // print.rt: what is written on standard output at once
 
 ghost use Rattle.std.specs.Prelude.{[], ◌∷◌, ◌≡◌, ◌+◌, ◌-◌, ◌<◌, take, drop};

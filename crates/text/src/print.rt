@@ -1,20 +1,26 @@
-// What is written on standard output at once, by programs whose reports no contract describes.
-use io::{print_decimal, write_all};
-use libc::STDOUT_FILENO;
+// What is written at once, by programs whose reports no contract describes.
+use std::io;
 
 // Words, and a number behind them.
-pub fn counted(words: &[u8], n: u64) {
-    write_all(STDOUT_FILENO, words);
-    print_decimal(STDOUT_FILENO, n);
+pub fn counted(rt: &impl Print, words: &[u8], n: u64) -> io::Result<()> {
+    rt.write_all(words)?;
+    rt.print(n)
 }
 
 // Words, and a line's end.
-pub fn line(words: &[u8]) {
-    write_all(STDOUT_FILENO, words);
-    write_all(STDOUT_FILENO, b"\n");
+pub fn line(rt: &impl Print, words: &[u8]) -> io::Result<()> {
+    rt.write_all(words)?;
+    rt.write_all(b"\n")
+}
+
+// On standard error, what could not be opened and why, in C's words: without the number that `io::Error` adds to them.
+pub fn failed(rt: &(impl Eprint + Alloc), what: &str, why: io::Error) -> io::Result<()> {
+    let text = format!(in rt.alloc(); "{why}")?;
+    let words = text.as_str().split(" (os error ").next().unwrap_or("");
+    eprintln!(rt; "{what}: {words}")
 }
 
 // The line for data that is cut off, or holds what no record does.
-pub fn damaged() {
-    line(b"damaged data");
+pub fn damaged(rt: &impl Print) -> io::Result<()> {
+    line(rt, b"damaged data")
 }

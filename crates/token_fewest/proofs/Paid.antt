@@ -4,10 +4,9 @@ use mathlib.Core.Bool.{Bool, true, false, ◌&&◌}
 use Prim.Native.Nat.{ℕ, suc, ◌≤◌}
 use native.Mathlib.Omega.{arith}
 use borrow.Author.Tests.{le-ltb}
-use Rattle.laws.specs.Choice.{pick}
 use Rattle.laws.proofs.Choice.{pick_false, true_not_false}
 use Rattle.token_grammar.specs.Levels.{casts, prefixes, postfixes, kind, level, before, after}
-use Rattle.token_grammar.specs.Types.{Sort, one, list, items, type_ends_in_name}
+use Rattle.token_grammar.specs.Types.{Sort, one, list, items}
 use Rattle.token_grammar.specs.Expressions.{by_name, by_number, awaited, Expr, atom, paren, prefix, binary, cast, member, try, index, call, method, no_arguments, arguments, last_argument, more_arguments, kind_of, ends_in_type_name, ends_in_dot_name}
 use Rattle.token_grammar.specs.Grammar.{Context, NONE, AtLeast, opens_arguments, CallMayFollow, Fits}
 use Rattle.token_grammar.specs.Bare.{bare}

@@ -7,7 +7,7 @@ use native.Mathlib.Omega.{arith}
 use lib.Dec.{eqb}
 use borrow.Author.Tests.{ne_eqb}
 use Rattle.bools.specs.Bits.{bit_of}
-use Rattle.token_grammar.specs.Tokens.{Operator, number, Token, gt, lt, operator, as_token, name_token, dot, left_paren, right_paren, left_bracket, right_bracket, comma_token, question, code, cells_of}
+use Rattle.token_grammar.specs.Tokens.{Operator, number, Token, gt, operator, as_token, name_token, dot, left_paren, right_paren, left_bracket, right_bracket, comma_token, question, code, cells_of}
 use Rattle.token_grammar.specs.Types.{Sort, one, TypePrefix, const_ptr, mut_ptr, shared_ref, mut_ref, TypeSign, infer, never, Ty, named, applied, pointing, sign, no_types, types, last_type, more_types, type_prefix_token, type_sign_token, write_type}
 use Rattle.token_grammar.specs.Expressions.{Atom, path, literal, structure, Prefix, neg, deref, invert, ref, ref_mut, Member, by_name, by_number, awaited, Expr, atom, paren, prefix, binary, cast, member, try, index, call, method, no_arguments, arguments, last_argument, more_arguments, atom_token, prefix_token, member_token, write}
 use Rattle.token_grammar.specs.Grammar.{NONE, Fits}

@@ -1,5 +1,5 @@
 -- The tables of the code give what the grammar says of the token that a code stands for. Assumes nothing.
-use mathlib.Core.Path.{◌≡◌, refl, sym, ap, ◌∙◌}
+use mathlib.Core.Path.{◌≡◌, sym, ap, ◌∙◌}
 use mathlib.Core.Bool.{Bool, true, false}
 use Prim.Native.Nat.{ℕ, ◌≤◌, ◌<◌}
 use native.Mathlib.Omega.{arith}
@@ -15,7 +15,7 @@ use Rattle.token_grammar.specs.Tokens.{Token, await, all_operators}
 use Rattle.token_grammar.specs.Codes.{spelled, token_of, sign_of}
 use Rattle.token_grammar.specs.Levels.{kind}
 use Rattle.token_grammar.specs.Grammar.{opens_arguments}
-use Rattle.token_grammar.specs.Next.{Next, next_of, level_at}
+use Rattle.token_grammar.specs.Next.{next_of, level_at}
 use Rattle.token_follow.specs.Follow.{before_at, barred_at}
 use Rattle.token_follow.specs.Tables.{level_lines, past_lines, level_past, level_of, before_of, barred_lines, barred}
 

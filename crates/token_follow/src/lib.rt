@@ -1,4 +1,6 @@
 // What may follow an expression, by the code of the next token.
+#![tactic(auto)]
+
 ghost use Rattle.std.specs.Prelude.{◌≡◌};
 ghost use Rattle.token_grammar.specs.Codes.{sign_of};
 ghost use Rattle.token_grammar.specs.Next.{next_of, level_at};

@@ -229,6 +229,13 @@ Reads one c e =
 Reads list c l = (f : ℕ) (r : List Token) → room l ≤ f → arguments_by f (write l r) ≡ ok l r
 Reads items c l = (f : ℕ) (r : List Token) → room l ≤ f → some_arguments_by f (write l r) ≡ ok l r
 
+-- the same of one fuel
+abbrev ListBy : Expr list → ℕ → Type 0
+ListBy l f = (r : List Token) → room l ≤ f → arguments_by f (write l r) ≡ ok l r
+
+abbrev ItemsBy : Expr items → ℕ → Type 0
+ItemsBy l f = (r : List Token) → room l ≤ f → some_arguments_by f (write l r) ≡ ok l r
+
 -- A whole operand is read where what follows is not taken at the operand's place.
 pub reads_whole : (c : Context) (e : Expr one) → Reads one c e → (n f : ℕ) (r : List Token) → suc (cost e + room e) ≤ f → n ≤ level (kind_of e) →
     Follows e (next r) → level_at (next r) < n → expr_by f c n (write e r) ≡ ok e r
@@ -274,20 +281,20 @@ reads s c (method y a ls) k = λ n f r h l q.
     reads one c a k.1 n (suc f) (dot ∷ name_token y ∷ left_paren ∷ write ls r) (omega arith) (omega (arith, k.0)) k.0
     ∙ on_step_lem f c n a (dot ∷ name_token y ∷ left_paren ∷ write ls r) (goes_on_lem n a dots l k.0)
     ∙ rw (reads list c ls k.2 f r (omega arith))
-reads s c no_arguments k = λ f. elim f [ zero ↦ λ r h. absurd (omega arith) | suc g ↦ λ r h. refl ]
-reads s c (arguments l) k = λ f. elim f [
+reads s c no_arguments k = λ f. elim f as (ListBy no_arguments) [ zero ↦ λ r h. absurd (omega arith) | suc g ↦ λ r h. refl ]
+reads s c (arguments l) k = λ f. elim f as (ListBy (arguments l)) [
   | zero ↦ λ r h. absurd (omega arith)
   | suc g ↦ λ r h. by_items g (write l r) (items_first right_paren refl refl l r) ∙ rw (reads items c l k g r (omega arith))
 ]
-reads s c (last_argument true a) k = λ f. elim f [
+reads s c (last_argument true a) k = λ f. elim f as (ItemsBy (last_argument true a)) [
   | zero ↦ λ r h. absurd (omega arith)
   | suc g ↦ λ r h. by_item g a _ _ (closes true) (reads_whole NONE a (reads one NONE a k) loosest g (comma_token ∷ right_paren ∷ r) (omega arith) (low a) tt (omega arith)) refl
 ]
-reads s c (last_argument false a) k = λ f. elim f [
+reads s c (last_argument false a) k = λ f. elim f as (ItemsBy (last_argument false a)) [
   | zero ↦ λ r h. absurd (omega arith)
   | suc g ↦ λ r h. by_item g a _ _ (closes false) (reads_whole NONE a (reads one NONE a k) loosest g (right_paren ∷ r) (omega arith) (low a) tt (omega arith)) refl
 ]
-reads s c (more_arguments a l) k = λ f. elim f [
+reads s c (more_arguments a l) k = λ f. elim f as (ItemsBy (more_arguments a l)) [
   | zero ↦ λ r h. absurd (omega arith)
   | suc g ↦ λ r h.
       by_item g a _ _ another (reads_whole NONE a (reads one NONE a k.0) loosest g (comma_token ∷ write l r) (omega arith) (low a) tt (omega arith)) (item_more right_paren (write l r) refl (items_first right_paren refl refl l r))

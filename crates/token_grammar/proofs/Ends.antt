@@ -1,12 +1,12 @@
 -- The ends that the two special rules ask about are what they are called: the last tokens of what is written. Assumes nothing.
 use mathlib.Core.Path.{◌≡◌, refl, sym, ap, ◌∙◌}
-use mathlib.Core.Bool.{true, false}
+use mathlib.Core.Bool.{true}
 use mathlib.Core.List.{List, [], ◌∷◌, ◌++◌}
 use Prim.Native.Nat.{ℕ}
 use Rattle.laws.proofs.Choice.{true_not_false}
 use Rattle.token_grammar.specs.Tokens.{Token, operator, as_token, name_token, dot}
 use Rattle.token_grammar.specs.Types.{one, Ty, named, applied, pointing, sign, type_prefix_token, write_type, type_ends_in_name}
-use Rattle.token_grammar.specs.Expressions.{Member, by_name, by_number, awaited, Expr, atom, paren, prefix, binary, cast, member, try, index, call, method, prefix_token, write, ends_in_type_name, ends_in_dot_name}
+use Rattle.token_grammar.specs.Expressions.{by_name, by_number, awaited, Expr, atom, paren, prefix, binary, cast, member, try, index, call, method, prefix_token, write, ends_in_type_name, ends_in_dot_name}
 use Rattle.token_grammar.proofs.Appended.{write_append}
 
 -- what is written ends in the tokens `last`, whatever follows

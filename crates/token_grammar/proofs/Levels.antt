@@ -6,7 +6,7 @@ use Prim.Native.Nat.{ℕ, ◌≤◌, ◌<◌}
 use native.Mathlib.Omega.{arith}
 use lib.Dec.{T, eqb, leb, ltb, eqb→eq, leb→le, ltb→lt}
 use lib.ListN.{get_or}
-use borrow.Author.Tests.{eqb-true, le-leb}
+use borrow.Author.Tests.{le-leb}
 use Rattle.laws.specs.Choice.{pick, lookup}
 use Rattle.precedence.specs.declared.Precedence.TheVariants.{Cast, Prefix, Unambiguous}
 use Rattle.precedence.specs.declared.Precedence.TheVariants.{Assign as AssignPrecedence}

@@ -8,7 +8,6 @@ use lib.Dec.{eqb}
 use borrow.Author.Tests.{eqb-true, eqb-false, eq-eqb, ne_eqb}
 use Rattle.laws.specs.Choice.{pick}
 use Rattle.laws.proofs.Choice.{pick_true, pick_false}
-use Rattle.tree.specs.Sizes.{list_end}
 use Rattle.token_grammar.specs.Tokens.{Token, comma_token, code}
 use Rattle.token_grammar.specs.Codes.{code_at, are_tokens}
 use Rattle.token_grammar.specs.Parser.{tail, is_first, AfterItem, closes, another, no_item, after_item, behind}

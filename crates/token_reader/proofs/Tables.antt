@@ -1,5 +1,5 @@
 -- The reader's tables give what the parser asks of the token that a code stands for. Assumes nothing.
-use mathlib.Core.Path.{◌≡◌, refl, sym, ap, ap₂, ◌∙◌}
+use mathlib.Core.Path.{◌≡◌, refl, sym, ap, ◌∙◌}
 use mathlib.Core.Bool.{Bool, true, false, not, ◌&&◌, ◌||◌}
 use mathlib.Core.List.{List, [], ◌∷◌}
 use Prim.Native.Nat.{ℕ, ◌+◌, ◌≤◌, ◌<◌}
@@ -7,17 +7,16 @@ use native.Mathlib.Omega.{arith}
 use lib.Dec.{T, eqb, leb, ltb, eqb→eq, leb→le}
 use borrow.Author.Tests.{le-leb, ne_eqb, le-ltb}
 use Rattle.laws.specs.Choice.{pick, lookup, is_one_of}
-use Rattle.laws.proofs.Choice.{of_true, and_true, alike, alike_same}
+use Rattle.laws.proofs.Choice.{of_true, and_true}
 use Rattle.laws.proofs.Each.{all_at}
 use Rattle.tree.specs.Sizes.{list_end}
 use Rattle.tree.specs.Forms.{expr_assign, expr_binary}
 use Rattle.token_grammar.specs.Tokens.{assign, number, operator, as_token, dot, left_paren, left_bracket, question, code, operator_of, carries}
 use Rattle.token_grammar.specs.Codes.{token_of, sign_of}
-use Rattle.token_grammar.specs.Levels.{casts, postfixes, kind, level, before, after}
+use Rattle.token_grammar.specs.Levels.{kind, level, after}
 use Rattle.token_grammar.specs.Bounds.{past_operators, highest}
 use Rattle.token_grammar.specs.Types.{one}
 use Rattle.token_grammar.specs.Expressions.{Expr, kind_of, ends_in_type_name, ends_in_dot_name}
-use Rattle.token_grammar.specs.Grammar.{opens_arguments}
 use Rattle.token_grammar.specs.Next.{Next, stops, operates, casts_to, dots, calls, indexes, tries, next_of, level_at}
 use Rattle.token_grammar.specs.Parser.{follows, goes_on}
 use Rattle.token_grammar.proofs.Tokens.{number_operator, code_same, sign_symbol, code_token}

@@ -1,4 +1,6 @@
 // The reading of a token list, as a node table.
+#![tactic(auto)]
+
 mod expressions; // expressions.rt: expressions and their lists
 mod node; // node.rt: the reader's own table
 mod numbering; // numbering.rt: its nodes numbered anew

@@ -27,7 +27,7 @@ pub struct Piece {
 }
 
 // Where the reader of types stands.
-#[derive(Drop)]
+#[derive(Clone, Copy)]
 pub struct Typing {
     // A place, as a piece has it.
     pub at: usize,
@@ -40,7 +40,7 @@ pub struct Typing {
 }
 
 // An expression, likewise.
-#[derive(Drop)]
+#[derive(Clone, Copy)]
 pub struct Parsed {
     pub at: usize,
     pub free: u16,
@@ -53,7 +53,7 @@ pub struct Parsed {
 }
 
 // Where the reader of expressions stands.
-#[derive(Drop)]
+#[derive(Clone, Copy)]
 pub struct Reading {
     // What was read of the expression, or where one starts.
     pub left: Parsed,

@@ -23,7 +23,6 @@ use Rattle.expr.specs.declared.order.CalleeOrder.TheVariants.{Ours}
 use Rattle.expr.specs.Expr.{can_begin_expr, can_begin_generics, left_needs_group, right_needs_group, binary_left, binary_right, call_needs_group, first_lines, hands_first, second_lines, hands_second}
 use Rattle.row.specs.Rows.{outer_pair}
 use Rattle.token_grammar.specs.Tokens.{Operator, number}
-use Rattle.token_grammar.specs.Tokens as token
 use Rattle.token_grammar.specs.Levels.{kind, before, after, casts, prefixes, postfixes}
 use Rattle.token_grammar.specs.Types.{one, list, Ty}
 use Rattle.token_grammar.specs.Expressions.{Prefix, neg, deref, invert, ref, ref_mut, Member, by_name, by_number, awaited, Expr, paren, prefix, binary, cast, member, try, index, call, method, ends_in_dot_name}

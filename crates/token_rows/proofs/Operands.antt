@@ -18,7 +18,7 @@ use Rattle.fixup_scan.specs.Arms.{not_consume}
 use Rattle.token_grammar.specs.Tokens.{number}
 use Rattle.token_grammar.specs.Levels.{kind, level}
 use Rattle.token_grammar.specs.Types.{one}
-use Rattle.token_grammar.specs.Expressions.{Prefix, Expr, atom, paren, prefix, binary, cast, member, try, index, call, method, kind_of}
+use Rattle.token_grammar.specs.Expressions.{Expr, atom, paren, prefix, binary, cast, member, try, index, call, method, kind_of}
 use Rattle.token_grammar.specs.Grammar.{Context}
 use Rattle.token_grammar.proofs.Added.{strength}
 use Rattle.token_grammar.proofs.Levels.{binop_level}

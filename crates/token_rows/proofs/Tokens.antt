@@ -7,7 +7,6 @@ use Rattle.laws.specs.Choice.{pick, lookup, is_one_of}
 use Rattle.laws.proofs.Choice.{pick_true, pick_false, true_not_false}
 use Rattle.tree.specs.Forms.{link, class_of}
 use Rattle.tree.specs.Trees.{Label, Tree, none, node}
-use Rattle.precedence.specs.declared.Precedence.TheVariants as rank
 use Rattle.fixup.specs.declared.context.FixupContext.{FixupContext}
 use Rattle.fixup.specs.Contexts.{none_context}
 use Rattle.expr.specs.declared.Handed.{Handed}
@@ -16,7 +15,6 @@ use Rattle.expr.specs.declared.order.CalleeOrder.TheVariants.{Ours}
 use Rattle.expr.specs.Expr.{hands_first, hands_second}
 use Rattle.row.specs.Rows.{is_expression, outer_pair, inner_pair, pair_by, expression_row, row_of, own_context}
 use Rattle.token_grammar.specs.Tokens.{Operator, Token, operator, lt, gt, as_token, name_token, dot, left_paren, right_paren, left_bracket, right_bracket, comma_token, question}
-use Rattle.token_grammar.specs.Tokens as token
 use Rattle.token_grammar.specs.Types.{Sort, one, list, items, TypePrefix, const_ptr, mut_ptr, shared_ref, mut_ref, TypeSign, infer, never, Ty, named, applied, pointing, sign, no_types, types, last_type, more_types, type_prefix_token, type_sign_token, write_type}
 use Rattle.token_grammar.specs.Expressions.{Atom, path, literal, structure, Prefix, neg, deref, invert, ref, ref_mut, Member, by_name, by_number, awaited, Expr, atom, paren, prefix, binary, cast, member, try, index, call, method, no_arguments, arguments, last_argument, more_arguments, atom_token, prefix_token, member_token, write}
 use Rattle.token_grammar.specs.Grammar.{Context}

@@ -19,7 +19,6 @@ use Rattle.tree_rules.proofs.Accepted.{count_bounds, levels_bound}
 use Rattle.expr.specs.Handed.{neither}
 use Rattle.row_walk.specs.Paths.{Branch, number_at, tree_by}
 use Rattle.row_walk.proofs.Paths.{tree_at_lem, there_at, one_path, reached}
-use Rattle.row_walk.proofs.Replies as replies
 use Rattle.token_grammar.specs.Tokens.{Token, cells_of}
 use Rattle.token_grammar.specs.Codes.{are_tokens}
 use Rattle.token_grammar.specs.Types.{one}

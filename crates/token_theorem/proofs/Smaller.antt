@@ -1,14 +1,14 @@
 -- A tree without its own parentheses has no more nodes and no longer paths. Assumes nothing.
-use mathlib.Core.Path.{◌≡◌, refl}
-use mathlib.Core.Bool.{Bool, true, false, ◌||◌}
-use Prim.Native.Nat.{ℕ, ◌+◌, ◌≤◌, max}
+use mathlib.Core.Path.{◌≡◌}
+use mathlib.Core.Bool.{Bool, true, false}
+use Prim.Native.Nat.{◌≤◌}
 use native.Mathlib.Omega.{arith}
-use lib.Dec.{eqb, ltb}
+use lib.Dec.{eqb}
 use borrow.Author.Tests.{le-ltb}
 use Rattle.laws.specs.Choice.{pick}
 use Rattle.tree.specs.Sizes.{most_nodes, most_levels}
 use Rattle.tree.specs.Forms.{expr_paren}
-use Rattle.tree.specs.Trees.{Label, Tree, none, node, own_level, levels}
+use Rattle.tree.specs.Trees.{Tree, none, node, levels}
 use Rattle.tree_numbering.specs.Numbered.{size, too_large}
 use Rattle.token_plain.specs.Trees.{without_parens}
 

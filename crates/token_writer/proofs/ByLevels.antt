@@ -19,7 +19,6 @@ use Rattle.expr.specs.declared.order.CalleeOrder.TheVariants.{Ours}
 use Rattle.expr.specs.Expr.{hands_first, hands_second}
 use Rattle.row.specs.Rows.{is_expression, own_context}
 use Rattle.token_grammar.specs.Tokens.{Operator, Token}
-use Rattle.token_grammar.specs.Tokens as token
 use Rattle.token_grammar.specs.Levels.{kind, level, leans_left, leans_right, lowest, before, after, casts, prefixes, postfixes}
 use Rattle.token_grammar.specs.Types.{Sort, one, list, items, const_ptr, mut_ptr, shared_ref, mut_ref, infer, never, Ty, named, applied, pointing, sign, no_types, types, last_type, more_types, type_ends_in_name}
 use Rattle.token_grammar.specs.Expressions.{path, literal, structure, Prefix, neg, deref, invert, ref, ref_mut, Member, by_name, by_number, awaited, Expr, atom, paren, prefix, binary, cast, member, try, index, call, method, no_arguments, arguments, last_argument, more_arguments, ends_in_dot_name, is_struct}

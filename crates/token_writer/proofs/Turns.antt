@@ -28,7 +28,7 @@ use Rattle.token_writer.proofs.Bounds.{in_table}
 use Rattle.token_writer.proofs.ByLevels.{left_low, right_low}
 use Rattle.token_writer.proofs.Spelling.{one_if_lem}
 use Rattle.token_writer.proofs.Tasks.{own_sign, own_code, enter_some, enter_cells, enter_pairs, enter_work_lem, cells_of_sign, sign_pairs, sign_work, pile_push, pile_laid, pile_three, some_work}
-use Rattle.token_writer.proofs.Tokens.{one_of, cells_none, pairs_none, own, paired, first_cells, second_cells, cells_parts, pairs_parts, work_parts}
+use Rattle.token_writer.proofs.Tokens.{one_of, cells_none, pairs_none, paired, first_cells, second_cells, cells_parts, pairs_parts, work_parts}
 
 -- ---- what is handed down is a place
 

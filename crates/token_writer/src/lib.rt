@@ -1,4 +1,6 @@
 // The tokens of a plain tree, with the pairs that its rows have.
+#![tactic(auto)]
+
 mod levels; // levels.rt: which nodes get pairs
 mod plainness; // plainness.rt: whether a table is plain
 mod signs; // signs.rt: a node's own tokens

@@ -1,14 +1,17 @@
 // Reads a tree file on standard input, and prints how many tokens its tree has, their codes and their symbols, or the
 // number of the refusal.
+#![tactic(auto)]
+
 ghost use Rattle.std.specs.Prelude.{◌≡◌, ◌+◌, ◌*◌, ◌≤◌, length, take, drop};
-ghost use Rattle.io.specs.Counts.{IsPrefixLen};
 ghost use Rattle.tree.specs.Sizes.{token_cells, most_tokens};
 ghost use Rattle.text.specs.Numbers.{spaced};
+ghost use Rattle.text.specs.Counts.{IsPrefixLen};
 ghost use Rattle.text.specs.Growth.{Grown, Added};
 ghost use Rattle.tokens.specs.Text.{parted, evens, listed, table_text, printed};
 
 use file_loader::Loaded;
-use libc::{STDIN_FILENO, STDOUT_FILENO};
+use std::io;
+use text::input::read_full;
 use text::{put_byte, put_no, put_number, put_ok};
 use token_writer::Written;
 use tree::sizes;
@@ -93,10 +96,10 @@ fn report(file: &[u8], out: &mut [u8; TEXT]) -> usize
     }
 }
 
-fn main() {
+fn main(rt: HostRuntime) -> io::Result<()> {
     let mut file = [0u8; FILE];
-    let n = io::read_full(STDIN_FILENO, &mut file);
+    let n = read_full(&mut rt.stdin(), &mut file)?;
     let mut out = [0u8; TEXT];
     let end = report(&file[..n], &mut out);
-    io::write_all(STDOUT_FILENO, &out[..end]);
+    rt.write_all(&out[..end])
 }

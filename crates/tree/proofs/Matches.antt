@@ -1,15 +1,15 @@
 -- What a `match` on a node's form knows of the node, for questions that a table over the forms answers. Assumes nothing.
 use mathlib.Core.Path.{◌≡◌, refl, sym, ap, ◌∙◌}
-use mathlib.Core.Bool.{Bool, true, false, ◌&&◌}
+use mathlib.Core.Bool.{false}
 use mathlib.Core.List.{List, [], ◌∷◌}
 use Prim.Native.Nat.{ℕ, zero, suc, ◌≤◌, ◌<◌}
 use native.Mathlib.Omega.{arith}
 use native.Mathlib.Decide.{dec_le}
-use lib.Dec.{T, leb}
+use lib.Dec.{T}
 use mir.Val.{has_key}
 use types.Run.{OneOf}
 use borrow.Author.Tests.{le-leb, lt-leb}
-use Rattle.laws.specs.Choice.{pick, Line, line, lookup}
+use Rattle.laws.specs.Choice.{Line, line, lookup}
 use Rattle.laws.proofs.Choice.{pick_true, pick_false, true_not_false, true_of, of_true, and_true}
 use Rattle.laws.proofs.Keys.{among, disjoint, apart, numbers_at, given_at, apart_before, apart_from, arms, arm, Missed, rest}
 use Rattle.tree.specs.declared.table.Operand.{Operand}

@@ -1,16 +1,16 @@
 -- A tree unfolds by one node, on every table. Assumes nothing.
-use mathlib.Core.Path.{◌≡◌, refl, sym, ap, ap₂, ◌∙◌}
-use mathlib.Core.Bool.{Bool, true, false, ◌&&◌}
+use mathlib.Core.Path.{◌≡◌, refl, sym, ap₂}
+use mathlib.Core.Bool.{Bool, true, false}
 use mathlib.Core.List.{List}
-use Prim.Native.Nat.{ℕ, zero, suc, ◌+◌, ◌-◌, ◌≤◌, ◌<◌, max}
+use Prim.Native.Nat.{ℕ, zero, suc, ◌+◌, ◌-◌, ◌≤◌, ◌<◌}
 use native.Mathlib.Omega.{arith}
 use native.Mathlib.Decide.{dec_le}
-use lib.Dec.{eqb, ltb, leb}
+use lib.Dec.{eqb}
 use borrow.Author.Tests.{lt-ltb, le-ltb, le-leb, lt-leb}
 use Rattle.laws.specs.Choice.{pick}
 use Rattle.tree.specs.Forms.{class_of, a_link}
 use Rattle.tree.specs.Table.{first_column, second_column}
-use Rattle.tree.specs.Trees.{Label, Tree, none, node, label_at, operand_of, operand_at, tree_to, tree_at, own_level, levels}
+use Rattle.tree.specs.Trees.{none, node, label_at, operand_of, operand_at, tree_to, tree_at, own_level, levels}
 
 -- ---- operands
 

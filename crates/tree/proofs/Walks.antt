@@ -1,18 +1,16 @@
 -- Walks down one side of a tree, over node numbers. Assumes nothing.
-use mathlib.Core.Path.{◌≡◌, refl, sym, ap, ◌∙◌}
-use mathlib.Core.Bool.{Bool, true, false, ◌&&◌}
+use mathlib.Core.Path.{◌≡◌, refl, sym, ◌∙◌}
 use mathlib.Core.List.{List}
 use Prim.Native.Nat.{ℕ, zero, suc, ◌≤◌, ◌<◌}
 use native.Mathlib.Omega.{arith}
 use native.Mathlib.Decide.{dec_le}
-use lib.Dec.{leb}
 use borrow.Author.Tests.{le-leb, lt-leb}
 use Rattle.laws.specs.Choice.{Line}
 use Rattle.laws.proofs.Choice.{pick_true, pick_false}
 use Rattle.tree.specs.declared.table.Operand.{Operand}
 use Rattle.tree.specs.declared.table.Operand.TheVariants.{Absent, Present}
 use Rattle.tree.specs.Table.{first_column, second_column}
-use Rattle.tree.specs.Trees.{Label, Tree, none, node, operand_of, operand_at, tree_at}
+use Rattle.tree.specs.Trees.{Label, Tree, none, operand_of, operand_at, tree_at}
 use Rattle.tree.specs.Operands.{presence}
 use Rattle.tree.specs.Walks.{Ask, answer, first, second, follow, is_there, walk}
 use Rattle.tree.specs.Steps.{is_present, tree_of, Step, ends, goes, into, step_by, asked_at, step_at}

@@ -1,4 +1,6 @@
 // Node tables: their cells and operands.
+#![tactic(auto)]
+
 pub mod columns; // columns.rt: where a number stands among a node's six, by name
 pub mod forms; // forms.rt: the forms' numbers by name
 pub mod offsets; // offsets.rt: the same places as distances from a node's first cell

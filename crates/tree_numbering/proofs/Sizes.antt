@@ -66,8 +66,8 @@ module _ (g : ℕ → ℕ) where
       go (yes p) r = let s = r p in rw (ne_eqb o (suc m) (λ q. omega arith)) (omega arith)
       go (no p) r =
           let z : o ≡ suc m = omega arith in
-          let s = at_past (suc m) m (omega arith) in
-          rw (z, eq-eqb (suc m) (suc m) refl) (omega arith)
+          let s : sum (at o) m ≡ 0 = at_past o m (omega arith) in
+          rw (s, z, eq-eqb (suc m) (suc m) refl) (omega arith)
 
   by_owners : g 0 ≡ 0 → (cells : List ℕ) (count n : ℕ) → ((i : ℕ) → 1 ≤ i → i ≤ n → (first_at cells i ≤ count) × (second_at cells i ≤ count))
       → sum (λ i. g (first_at cells i) + g (second_at cells i)) n ≡ sum (λ j. owners cells n j * g j) count

@@ -1,4 +1,6 @@
 // Trees numbered anew.
+#![tactic(auto)]
+
 pub mod accepted; // accepted.rt: the trees of accepted tables
 pub mod edited; // edited.rt: trees with a node replaced
 

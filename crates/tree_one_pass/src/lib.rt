@@ -1,4 +1,6 @@
 // The refusals 3, 4 and 6 to 11 of a context, a count and the nodes of a source: nothing is refused in most, which one pass over the nodes finds out; the same pass finds 11.
+#![tactic(auto)]
+
 mod marks; // marks.rt: what the pass knows of a node
 mod rows; // rows.rt: what the pass knows of a form
 

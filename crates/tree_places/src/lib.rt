@@ -1,4 +1,6 @@
 // What may stand at the two places of a node, and whether its operands fit them.
+#![tactic(auto)]
+
 mod place; // place.rt: the places of each form, and whether an operand does not fit one
 
 ghost use Rattle.std.specs.Prelude.{◌≡◌};

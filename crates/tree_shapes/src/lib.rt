@@ -1,4 +1,6 @@
 // The shape of a node: per place of its form, an operand present or absent.
+#![tactic(auto)]
+
 ghost use Rattle.std.specs.Prelude.{◌≡◌};
 ghost use Rattle.tree_shapes.specs.Shapes.{shape_at, first_in_shape, second_in_shape};
 

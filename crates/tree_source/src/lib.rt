@@ -1,6 +1,8 @@
 // Where the numbers of nodes stand: in a node table, or still in a tree file. A source is a file and cells. Without a file,
 // that is with one of no bytes, the cells are the table. With a file they are places in it, where each node but the first
 // begins; the first begins behind the header.
+#![tactic(auto)]
+
 ghost use Rattle.std.specs.Prelude.{◌≡◌, ◌||◌, ◌∷◌, ◌+◌, ◌*◌, ◌-◌, ◌≤◌, ◌<◌, eqb, ltb, length, get_or};
 ghost use Rattle.tree.specs.Sizes.{node_cells};
 ghost use Rattle.tree.specs.Table.{form_at};
@@ -101,7 +103,7 @@ fn place_of(file: &[u8], places: &[u16], node: u16) -> usize
 // ---- nodes
 
 // The six numbers of a node.
-#[derive(Drop)]
+#[derive(Clone, Copy)]
 pub struct Node {
     pub form: u16,
     pub attributes: u16,

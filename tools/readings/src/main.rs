@@ -36,7 +36,7 @@ const USAGE: &str = "usage:
                                  the Rust crate spells them, and what rustc reads there
   readings changes [CHANGE ..]   each rule changed, or these: how many trees and lists tell
   readings record                writes crates/recorded/data/readings and tokens
-OURS: absent, programs (target/bin/tokens and target/bin/reading), or with the feature library
+OURS: absent, programs (crates/tokens/out/tokens and crates/reading/out/reading), or with the feature library
       library (the static library of answers)
 CHANGE: a rule that is changed, by its name in rust/model/src/rules.rs";
 

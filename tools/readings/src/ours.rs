@@ -1,8 +1,8 @@
 //! Our writer and our reader: the one file that knows how they are asked.
 //!
-//! As programs, `target/bin/tokens` takes a tree file on standard input and prints
+//! As programs, `crates/tokens/out/tokens` takes a tree file on standard input and prints
 //! `ok` and the count, then a line with the codes and a line with the symbols, and
-//! `target/bin/reading` takes the context and code and symbol of each token as the numbers
+//! `crates/reading/out/reading` takes the context and code and symbol of each token as the numbers
 //! of a tree file and prints `ok` and the count, then for each node its number and its six numbers;
 //! both print `no` and the number on a refusal.
 //! As functions they come from the static library of `answers`, with the feature
@@ -126,7 +126,8 @@ impl Ours {
 
 /// What a program prints for a file on its standard input.
 fn run(program: &str, file: &[u8]) -> String {
-    let path = PathBuf::from(env!("CARGO_MANIFEST_DIR")).join("../../target/bin").join(program);
+    let crates = PathBuf::from(env!("CARGO_MANIFEST_DIR")).join("../../crates");
+    let path = crates.join(program).join("out").join(program);
     let mut child = Command::new(&path)
         .stdin(Stdio::piped())
         .stdout(Stdio::piped())

@@ -10,7 +10,7 @@ mod record;
 use std::process::ExitCode;
 
 const USAGE: &str = "usage:
-  scale parens FILES [SEED]   target/bin/parens on so many files, beside the crate's own rows
+  scale parens FILES [SEED]   crates/parens/out/parens on so many files, beside the crate's own rows
   scale nests [STEP]          the same on nests of 128 levels, each so many-th (1 if not given)
   scale record                writes rows and callees of crates/recorded/data";
 

@@ -95,7 +95,7 @@ fn run(program: &PathBuf, file: &[u8]) -> (Vec<u8>, Duration) {
         .stdin(Stdio::piped())
         .stdout(Stdio::piped())
         .spawn()
-        .expect("target/bin/parens runs");
+        .expect("crates/parens/out/parens runs");
     let written = child.stdin.take().expect("its input").write_all(file);
     // Of a file that is too long the program reads no more than it needs.
     assert!(written.is_ok() || written.is_err_and(|error| error.kind() == ErrorKind::BrokenPipe));
@@ -107,7 +107,7 @@ fn run(program: &PathBuf, file: &[u8]) -> (Vec<u8>, Duration) {
 }
 
 fn program() -> PathBuf {
-    PathBuf::from(env!("CARGO_MANIFEST_DIR")).join("../../target/bin/parens")
+    PathBuf::from(env!("CARGO_MANIFEST_DIR")).join("../../crates/parens/out/parens")
 }
 
 /// Runs the program on nests of 128 levels, of the two and of the three forms by turns

@@ -1,0 +1,15 @@
+-- `classify::trailing_unparameterized_path` meets its contract: each step goes to a later node with the same answer. Assumes nothing.
+use mathlib.Core.Path.{refl}
+use mathlib.Core.Bool.{false}
+use native.Mathlib.Omega.{arith}
+use borrow.Author.Rules.{rules}
+use Rattle.laws.proofs.Calls.{free}
+use Rattle.classify.specs.Classify.{path_lines, trailing_path}
+use Rattle.classify.proofs.Steps.{SameAnswer, ahead, loop_less, loop_again, loop_ends}
+use Rattle.classify.proofs.trailing_unparameterized_path.Given as goal
+
+abbrev pub invariant-loop-answer : goal.invariant-loop-answer
+invariant-loop-answer l = (SameAnswer trailing_path) l.table l.count l.node l.initial.at l.at
+
+abbrev pub decreases-loop-answer : goal.decreases-loop-answer
+decreases-loop-answer l = ahead l.table l.count l.node l.initial.at l.at

@@ -1,0 +1,28 @@
+-- `fixup_look::is_open_ended` meets its contract. Assumes nothing.
+use mathlib.Core.Path.{sym, ap, ◌∙◌}
+use mathlib.Core.Bool.{not}
+use mathlib.Core.List.{[], ◌∷◌}
+use Rattle.tree.specs.declared.table.Operand.{Operand}
+use Rattle.tree_shapes.specs.Shapes.{shape_lines, first_in_shape, second_in_shape}
+use Rattle.tree.specs.Steps.{is_present}
+use Rattle.tree.proofs.Walks.{there}
+use Rattle.tree.proofs.Matches.{root_arm, root_rest}
+use Rattle.tree_shapes.proofs.Shapes.{shape_is}
+use Rattle.fixup_look.specs.Looks.{is_open_ended}
+use Rattle.fixup_look.proofs.is_open_ended.Goals as goal
+
+pub returns-in-7 : goal.returns-in-7
+unfolding is_open_ended shape_lines first_in_shape second_in_shape
+returns-in-7 c = c.is_absent.ensures ∙ ap (λ (p : Operand). not (is_present p)) (c.first_at.ensures ∙ ap first_in_shape (shape_is _ _ _ _ c.form_at.ensures (7 ∷ []) c.in-7.is 2 tt tt)) ∙ ap not (sym (there c.args.table.now c.args.count c.args.node _)) ∙ root_arm _ _ _ _ _ _ c.form_at.ensures tt 0 tt c.in-7.is
+
+pub returns-in-26 : goal.returns-in-26
+unfolding is_open_ended shape_lines first_in_shape second_in_shape
+returns-in-26 c = root_arm _ _ _ _ _ _ c.form_at.ensures tt 1 tt c.in-26.is
+
+pub returns-in-27 : goal.returns-in-27
+unfolding is_open_ended shape_lines first_in_shape second_in_shape
+returns-in-27 c = c.is_absent-in-27.ensures ∙ ap (λ (p : Operand). not (is_present p)) (c.second_at.ensures ∙ ap second_in_shape (shape_is _ _ _ _ c.form_at.ensures (27 ∷ []) c.in-27.is 0 tt tt)) ∙ ap not (sym (there c.args.table.now c.args.count c.args.node _)) ∙ root_arm _ _ _ _ _ _ c.form_at.ensures tt 2 tt c.in-27.is
+
+pub returns-in_default : goal.returns-in_default
+unfolding is_open_ended shape_lines first_in_shape second_in_shape
+returns-in_default c = root_rest _ _ _ _ _ _ c.form_at.ensures c.in_default.in_default-own.rest

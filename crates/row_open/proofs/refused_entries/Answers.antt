@@ -1,0 +1,63 @@
+-- `row_open::refused_entries` meets its contract. Assumes nothing.
+use mathlib.Core.Path.{◌≡◌, refl, sym, ◌∙◌}
+use mathlib.Core.Bool.{Bool, true, false}
+use mathlib.Core.List.{List}
+use Prim.Native.Nat.{ℕ, ◌*◌, ◌≤◌, ◌<◌}
+use native.Mathlib.Omega.{arith}
+use borrow.Author.Tests.{lt-ltb, le-ltb}
+use lib.ListN.{length}
+use Rattle.laws.specs.Choice.{pick}
+use Rattle.laws.proofs.Choice.{pick_true, pick_false, or_here, or_next}
+use Rattle.tree_rules.specs.Refusals.{first_of}
+use Rattle.row_open.specs.Open.{entry_cells, most_entries, entries_in, open_refusal12, refusal20, refusal21, refusal22, entry_refusal}
+use Rattle.row_open.proofs.refused_entries.Goals as goal
+
+module _ (count : ℕ) (cells : List ℕ) (entered : ℕ) (numbers : List ℕ) (answers : ℕ) where
+  short_answers : answers < count → entry_refusal count cells entered numbers answers ≡ 12
+  unfolding entry_refusal first_of open_refusal12
+  short_answers h = pick_true _ _ (or_here _ (lt-ltb _ _ h))
+
+  short_entries : count ≤ answers → length numbers < entry_cells * entered → entry_refusal count cells entered numbers answers ≡ 12
+  unfolding entry_refusal first_of open_refusal12
+  short_entries h k = pick_true _ _ (or_next _ (le-ltb _ _ h) ∙ lt-ltb _ _ k)
+
+  module _ (h : count ≤ answers) (k : entry_cells * entered ≤ length numbers) where
+    too_many : most_entries < entered → entry_refusal count cells entered numbers answers ≡ 20
+    unfolding entry_refusal first_of open_refusal12 refusal20
+    too_many m = pick_false _ _ (or_next _ (le-ltb _ _ h) ∙ le-ltb _ _ k) ∙ pick_true _ _ (lt-ltb _ _ m)
+
+    module _ (m : entered ≤ most_entries) where
+      by_node : entry_refusal count cells entered numbers answers ≡ pick (refusal21 cells count (entries_in entered numbers)) 21 (pick (refusal22 (entries_in entered numbers)) 22 0)
+      unfolding entry_refusal first_of open_refusal12 refusal20
+      by_node = pick_false _ _ (or_next _ (le-ltb _ _ h) ∙ le-ltb _ _ k) ∙ pick_false _ _ (le-ltb _ _ m)
+
+      wrong_node : refusal21 cells count (entries_in entered numbers) ≡ true → entry_refusal count cells entered numbers answers ≡ 21
+      wrong_node e = by_node ∙ pick_true _ _ e
+
+      by_ends : refusal21 cells count (entries_in entered numbers) ≡ false → (b : Bool) → b ≡ refusal22 (entries_in entered numbers) → entry_refusal count cells entered numbers answers ≡ pick b 22 0
+      by_ends e b f = by_node ∙ pick_false _ _ e ∙ rw f
+
+pub returns-then-answers-count : goal.returns-then-answers-count
+returns-then-answers-count c = sym (short_answers _ _ _ _ _ c.if-answers-count.true)
+
+pub returns-then-entries-entered : goal.returns-then-entries-entered
+returns-then-entries-entered c = sym (short_entries _ _ _ _ _ c.if-answers-count.false c.if-entries-entered.true)
+
+pub returns-then-entered-gt-MOST_ENTRIES : goal.returns-then-entered-gt-MOST_ENTRIES
+returns-then-entered-gt-MOST_ENTRIES c = sym (too_many _ _ _ _ _ c.if-answers-count.false c.if-entries-entered.false c.if-entered-gt-MOST_ENTRIES.true)
+
+pub has_wrong_node-requires : goal.has_wrong_node-requires
+has_wrong_node-requires c = c.if-entries-entered.false
+
+-- Then4 stands behind has-wrong-node and the three tests, Then5 and Else5 behind has-wrong-ends and Else4 as well
+pub returns-then-has_wrong_node : goal.returns-then-has_wrong_node
+returns-then-has_wrong_node c = sym (wrong_node _ _ _ _ _ c.if-answers-count.false c.if-entries-entered.false c.if-entered-gt-MOST_ENTRIES.false (sym c.has_wrong_node.ensures ∙ c.if-has_wrong_node.true))
+
+pub has_wrong_ends-requires : goal.has_wrong_ends-requires
+has_wrong_ends-requires c = omega arith
+
+pub returns-then-has_wrong_ends : goal.returns-then-has_wrong_ends
+returns-then-has_wrong_ends c = sym (by_ends _ _ _ _ _ c.if-answers-count.false c.if-entries-entered.false c.if-entered-gt-MOST_ENTRIES.false (sym c.has_wrong_node.ensures ∙ c.if-has_wrong_node.false) true (sym (sym c.has_wrong_ends.ensures ∙ c.if-has_wrong_ends.true)) ∙ pick_true 22 0 refl)
+
+pub returns : goal.returns
+returns c = sym (by_ends _ _ _ _ _ c.if-answers-count.false c.if-entries-entered.false c.if-entered-gt-MOST_ENTRIES.false (sym c.has_wrong_node.ensures ∙ c.if-has_wrong_node.false) false (sym (sym c.has_wrong_ends.ensures ∙ c.if-has_wrong_ends.false)) ∙ pick_false 22 0 refl)

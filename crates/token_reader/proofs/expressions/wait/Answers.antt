@@ -1,0 +1,5 @@
+-- `token_reader::expressions::wait` meets its contract. Assumes nothing.
+use Rattle.token_reader.proofs.expressions.wait.Goals as goal
+
+pub returns : goal.returns
+returns c = (rw c.bit.ensures.0 at c.lay.ensures, rw c.start.ensures)

@@ -1,0 +1,17 @@
+-- `tree_numbering::accepted::copy` meets its contract. The loop's invariant: the nodes up to the one that it has come to are stored, and their operands have their numbers. Assumes nothing.
+use mathlib.Core.Path.{◌≡◌, refl, sym, ap, ◌∙◌}
+use Prim.Native.Nat.{suc, ◌-◌, ◌≤◌}
+use native.Mathlib.Omega.{arith}
+use borrow.Author.Rules.{rules}
+use lib.ListN.{length}
+use lib.Seq.{length-sets}
+use Rattle.tree.specs.Table.{cell_at}
+use Rattle.tree_numbering.proofs.Spans.{first_read, second_read, cells_read, first_span, span_most}
+use Rattle.tree_numbering.proofs.InOrder.{Copying, copy_none, copy_more, copy_stopped, copy_whole}
+use Rattle.tree_numbering.proofs.accepted.copy.Given as goal
+
+abbrev pub invariant-loop-done : goal.invariant-loop-done
+invariant-loop-done l = (l.done ≤ l.count) × (length l.out ≡ length l.initial.out) × Copying l.count l.table l.done l.initial.out l.out
+
+abbrev pub decreases-loop-done : goal.decreases-loop-done
+decreases-loop-done l = l.count - l.done

@@ -1,0 +1,24 @@
+-- `tree_rules::refusal::check` meets its contract. Assumes nothing.
+use mathlib.Core.Path.{sym, ◌∙◌}
+use borrow.Author.Tests.{lt-ltb, le-ltb}
+use Rattle.laws.proofs.Calls.{free}
+use Rattle.tree_rules.specs.Refusals.{refusal3, refusal}
+use Rattle.tree_rules.proofs.Count.{count_fits}
+use Rattle.tree_rules.proofs.First.{stop, skip}
+use Rattle.tree_rules.proofs.refusal.check.Goals as goal
+
+pub returns-then-context-gt3 : goal.returns-then-context-gt3
+unfolding refusal refusal3
+returns-then-context-gt3 c = sym (stop _ _ (lt-ltb _ _ c.if-context-gt3.true))
+
+pub returns-then-has_bad_count : goal.returns-then-has_bad_count
+unfolding refusal refusal3
+returns-then-has_bad_count c = sym (skip _ _ (le-ltb _ _ c.if-context-gt3.false) ∙ stop _ _ (sym c.has_bad_count.ensures ∙ c.if-has_bad_count.true))
+
+pub find_refusal-requires : goal.find_refusal-requires
+unfolding refusal refusal3
+find_refusal-requires c = let f = count_fits _ _ (sym c.has_bad_count.ensures ∙ c.if-has_bad_count.false) in (f.0, f.1)
+
+pub returns : goal.returns
+unfolding refusal refusal3
+returns c = c.find_refusal.ensures ∙ sym (skip _ _ (le-ltb _ _ c.if-context-gt3.false) ∙ skip _ _ (sym c.has_bad_count.ensures ∙ c.if-has_bad_count.false))

@@ -1,0 +1,19 @@
+-- `tree_rules::refusal::is_too_deep` meets its contract. Assumes nothing.
+use mathlib.Core.Path.{◌≡◌, refl, ap}
+use Prim.Native.Nat.{◌-◌, ◌≤◌}
+use native.Mathlib.Omega.{arith}
+use borrow.Author.Rules.{rules}
+use lib.Dec.{ltb}
+use lib.ListN.{length, length-set}
+use Rattle.tree.specs.Sizes.{most_levels}
+use Rattle.tree_source.specs.Source.{cells_of}
+use Rattle.tree_rules.specs.Refusals.{refusal11}
+use Rattle.tree_rules.specs.Passes.{Levelled}
+use Rattle.tree_rules.proofs.Depth.{levelled_more}
+use Rattle.tree_rules.proofs.refusal.is_too_deep.Given as goal
+
+abbrev pub invariant-loop-node : goal.invariant-loop-node
+invariant-loop-node l = (l.node ≤ l.count) × (length l.below ≡ length l.initial.below) × Levelled (cells_of l.file l.held) l.count l.node l.below
+
+abbrev pub decreases-loop-node : goal.decreases-loop-node
+decreases-loop-node l = l.node
