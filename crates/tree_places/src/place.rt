@@ -9,7 +9,7 @@ use tree_labels::form::class_of;
 use tree_source::{form_at, node_at};
 
 // What may stand at a place; a class is a number, as in `class_of`.
-#[derive(Drop)]
+#[derive(Clone, Copy)]
 pub enum Place {
     // No operand.
     Nothing,
