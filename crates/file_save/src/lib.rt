@@ -61,6 +61,7 @@ fn left_after(numbers: &[u16], room: usize) -> Room
 }
 
 // How many numbers take more than one byte; none takes more than three.
+#[tactic(auto, using(crate::proofs::Putting::bytes_next, file_bytes::proofs::Numbers::some_bytes, crate::proofs::Small::bytes_one))]
 fn longer(numbers: &[u16]) -> usize
     ensures { length (all_bytes numbers.now) ≤ length numbers.now + 2 * result }
 {
