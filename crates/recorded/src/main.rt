@@ -63,7 +63,7 @@ fn run(rt: &impl Print, reader: &mut impl Read, kind: Kind) -> io::Result<()> {
 }
 
 // Opens a file of records and goes through them, or says why it cannot be opened.
-fn open(rt: &(impl Files + Print + Eprint + Alloc), path: &str, kind: Kind) -> io::Result<()> {
+fn open(rt: &(impl Files + Print + Eprint), path: &str, kind: Kind) -> io::Result<()> {
     match fs::open(rt, path) {
         Ok(mut file) => run(rt, &mut file, kind),
         Err(why) => print::failed(rt, path, why),
@@ -72,7 +72,7 @@ fn open(rt: &(impl Files + Print + Eprint + Alloc), path: &str, kind: Kind) -> i
 
 // The same below a line with the file's name.
 fn open_named(
-    rt: &(impl Files + Print + Eprint + Alloc),
+    rt: &(impl Files + Print + Eprint),
     name: &str,
     kind: Kind,
 ) -> io::Result<()> {

@@ -82,7 +82,7 @@ fn differs(stems: &[u8; BYTES], forms: Forms, digest: u64) -> u64
 // Goes through the blocks of so many forms out of `size` from `from` on, whose digests are in a file, and prints what came
 // of them.
 fn run(
-    rt: &(impl Files + Print + Eprint + Alloc),
+    rt: &(impl Files + Print + Eprint),
     name: &str,
     stems: &[u8; BYTES],
     length: usize,
@@ -119,7 +119,7 @@ fn run(
 
 // Goes through the blocks of one, two and three forms. Of one form there are few, and all are gone through.
 fn run_all(
-    rt: &(impl Files + Print + Eprint + Alloc),
+    rt: &(impl Files + Print + Eprint),
     stems: &[u8; BYTES],
     step: usize,
 ) -> io::Result<()>
@@ -149,7 +149,7 @@ fn run_all(
 }
 
 // Reads the stems, and answers whether they are there.
-fn read_stems(rt: &(impl Files + Eprint + Alloc), stems: &mut [u8; BYTES]) -> io::Result<bool> {
+fn read_stems(rt: &(impl Files + Eprint), stems: &mut [u8; BYTES]) -> io::Result<bool> {
     let mut file = match fs::open(rt, "stems") {
         Ok(file) => file,
         Err(why) => {

@@ -1,4 +1,5 @@
 // What is written at once, by programs whose reports no contract describes.
+use std::fmt::InlineText;
 use std::io;
 
 // Words, and a number behind them.
@@ -13,9 +14,12 @@ pub fn line(rt: &impl Print, words: &[u8]) -> io::Result<()> {
     rt.write_all(b"\n")
 }
 
+// The most bytes of an error's text: std's words are at most 256, and its number behind them.
+const WORDS: usize = 288;
+
 // On standard error, what could not be opened and why, in C's words: without the number that `io::Error` adds to them.
-pub fn failed(rt: &(impl Eprint + Alloc), what: &str, why: io::Error) -> io::Result<()> {
-    let text = format!(in rt.alloc(); "{why}")?;
+pub fn failed(rt: &impl Eprint, what: &str, why: io::Error) -> io::Result<()> {
+    let text = InlineText::<WORDS>::of(why);
     let words = text.as_str().split(" (os error ").next().unwrap_or("");
     eprintln!(rt; "{what}: {words}")
 }
