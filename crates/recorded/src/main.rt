@@ -71,11 +71,7 @@ fn open(rt: &(impl Files + Print + Eprint), path: &str, kind: Kind) -> io::Resul
 }
 
 // The same below a line with the file's name.
-fn open_named(
-    rt: &(impl Files + Print + Eprint),
-    name: &str,
-    kind: Kind,
-) -> io::Result<()> {
+fn open_named(rt: &(impl Files + Print + Eprint), name: &str, kind: Kind) -> io::Result<()> {
     print::line(rt, name.as_bytes())?;
     open(rt, name, kind)
 }

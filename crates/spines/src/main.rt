@@ -118,11 +118,7 @@ fn run(
 }
 
 // Goes through the blocks of one, two and three forms. Of one form there are few, and all are gone through.
-fn run_all(
-    rt: &(impl Files + Print + Eprint),
-    stems: &[u8; BYTES],
-    step: usize,
-) -> io::Result<()>
+fn run_all(rt: &(impl Files + Print + Eprint), stems: &[u8; BYTES], step: usize) -> io::Result<()>
     requires { 1 ≤ step }
 {
     run(rt, "digests1", stems, 1, NEXTS + ENDS, FORMS, FORMS, 1)?;

@@ -1,4 +1,5 @@
 -- `classify::group_label` meets its contract. Assumes nothing.
+use native.Mathlib.Omega.{arith}
 use borrow.Author.Tests.{eq-eqb, ne_eqb}
 use Rattle.laws.specs.Choice.{pick}
 use Rattle.laws.proofs.Calls.{free}
@@ -10,4 +11,4 @@ returns-then-attributes-ne0 c = rw (ne_eqb _ _ c.if-attributes-ne0.true)
 
 pub returns : goal.returns
 unfolding pick
-returns c = rw (eq-eqb _ _ c.if-attributes-ne0.false) c.go_on.ensures
+returns c = rw (eq-eqb c.args.attributes 0 (omega arith)) c.go_on.ensures

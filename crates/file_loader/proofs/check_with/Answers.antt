@@ -27,4 +27,4 @@ returns-then-end-file c =
 pub returns : goal.returns
 returns c =
     let r = laid_cells c.args.file.now c.args.context c.args.count c.args.at c.requires.0 _ _ _ c.in-End.is c.lay_out.ensures.laid_out in
-    c.check_source.ensures ∙ sym (checked c.args.file.now c.args.context c.args.count c.args.at c.requires.0.begun _ _ r c.requires.0.ok c.requires.0.low c.requires.0.high c.if-end-file.false)
+    c.check_source.ensures ∙ sym (checked c.args.file.now c.args.context c.args.count c.args.at c.requires.0.begun _ _ r c.requires.0.ok c.requires.0.low c.requires.0.high (omega arith))

@@ -1,4 +1,5 @@
 -- `file_loader::skip_at` meets its contract. Assumes nothing.
+use native.Mathlib.Omega.{arith}
 use Rattle.laws.proofs.Calls.{free}
 use Rattle.tree_source.proofs.Near.{place_near, near_one, near_zero_second, near_two, near_zero_third, near_high_third, near_three}
 use borrow.Author.Rules.{rules}
@@ -20,4 +21,4 @@ pub returns-then-high-gt3 : goal.returns-then-high-gt3
 returns-then-high-gt3 c = place_near _ _ _ _ (near_high_third _ _ c.requires _ c.wide-low.ensures.0 c.if-low-lt128.false c.wide-low.ensures.1 _ c.wide-middle.ensures.0 c.if-middle-lt128.false c.wide-middle.ensures.1 _ c.wide-high.ensures.0 c.if-high-gt3.true)
 
 pub returns : goal.returns
-returns c = place_near _ _ _ _ (near_three _ _ c.requires _ c.wide-low.ensures.0 c.if-low-lt128.false c.wide-low.ensures.1 _ c.wide-middle.ensures.0 c.if-middle-lt128.false c.wide-middle.ensures.1 _ c.wide-high.ensures.0 c.if-high-eq0.false c.if-high-gt3.false)
+returns c = place_near _ _ _ _ (near_three _ _ c.requires _ c.wide-low.ensures.0 c.if-low-lt128.false c.wide-low.ensures.1 _ c.wide-middle.ensures.0 c.if-middle-lt128.false c.wide-middle.ensures.1 _ c.wide-high.ensures.0 c.if-high-eq0.false (omega arith))

@@ -49,7 +49,7 @@ pub loop-left-smaller : goal.loop-left-smaller
 loop-left-smaller c = omega arith
 
 pub loop-left-preserved : goal.loop-left-preserved
-loop-left-preserved c = (omega arith, sym (next c.args.entries.now c.loop-left.left c.loop-left-test.true _ c.entry_at-entry.ensures c.if-entry.false c.if-entry-gt-LAST_BINARY.false) ∙ c.loop-left.invariant.1)
+loop-left-preserved c = (omega arith, sym (next c.args.entries.now c.loop-left.left c.loop-left-test.true _ c.entry_at-entry.ensures c.if-entry.false (omega arith)) ∙ c.loop-left.invariant.1)
 
 pub returns : goal.returns
 unfolding refusal22

@@ -51,13 +51,13 @@ has_wrong_node-requires c = c.if-entries-entered.false
 
 -- Then4 stands behind has-wrong-node and the three tests, Then5 and Else5 behind has-wrong-ends and Else4 as well
 pub returns-then-has_wrong_node : goal.returns-then-has_wrong_node
-returns-then-has_wrong_node c = sym (wrong_node _ _ _ _ _ c.if-answers-count.false c.if-entries-entered.false c.if-entered-gt-MOST_ENTRIES.false (sym c.has_wrong_node.ensures ∙ c.if-has_wrong_node.true))
+returns-then-has_wrong_node c = sym (wrong_node _ _ _ _ _ c.if-answers-count.false c.if-entries-entered.false (omega arith) (sym c.has_wrong_node.ensures ∙ c.if-has_wrong_node.true))
 
 pub has_wrong_ends-requires : goal.has_wrong_ends-requires
 has_wrong_ends-requires c = omega arith
 
 pub returns-then-has_wrong_ends : goal.returns-then-has_wrong_ends
-returns-then-has_wrong_ends c = sym (by_ends _ _ _ _ _ c.if-answers-count.false c.if-entries-entered.false c.if-entered-gt-MOST_ENTRIES.false (sym c.has_wrong_node.ensures ∙ c.if-has_wrong_node.false) true (sym (sym c.has_wrong_ends.ensures ∙ c.if-has_wrong_ends.true)) ∙ pick_true 22 0 refl)
+returns-then-has_wrong_ends c = sym (by_ends _ _ _ _ _ c.if-answers-count.false c.if-entries-entered.false (omega arith) (sym c.has_wrong_node.ensures ∙ c.if-has_wrong_node.false) true (sym (sym c.has_wrong_ends.ensures ∙ c.if-has_wrong_ends.true)) ∙ pick_true 22 0 refl)
 
 pub returns : goal.returns
-returns c = sym (by_ends _ _ _ _ _ c.if-answers-count.false c.if-entries-entered.false c.if-entered-gt-MOST_ENTRIES.false (sym c.has_wrong_node.ensures ∙ c.if-has_wrong_node.false) false (sym (sym c.has_wrong_ends.ensures ∙ c.if-has_wrong_ends.false)) ∙ pick_false 22 0 refl)
+returns c = sym (by_ends _ _ _ _ _ c.if-answers-count.false c.if-entries-entered.false (omega arith) (sym c.has_wrong_node.ensures ∙ c.if-has_wrong_node.false) false (sym (sym c.has_wrong_ends.ensures ∙ c.if-has_wrong_ends.false)) ∙ pick_false 22 0 refl)

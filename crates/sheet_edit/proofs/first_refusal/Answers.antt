@@ -69,7 +69,7 @@ returns-then-breaks_output c =
     let p = passed in
     sizes ((edit_of c.args.context c.args.count c.args.table.now c.args.place c.args.other c.args.nodes c.args.second.now)) c.args.cells c.args.rows p.0 p.1 p.2 _ c.room_after.ensures in
     let few : (size (result ((edit_of c.args.context c.args.count c.args.table.now c.args.place c.args.other c.args.nodes c.args.second.now))) ≤ most_nodes) =
-    let r = sized in let z = c.if-result-gt-MOST_NODES.false in omega arith in
+    let r = sized in omega arith in
     let p = passed in
     bad_output _ _ _ p.0 p.1 p.2 (few) _ c.breaks_output.ensures c.if-breaks_output.true
 
@@ -93,7 +93,7 @@ returns-then-is_deep c =
     let p = passed in
     sizes ((edit_of c.args.context c.args.count c.args.table.now c.args.place c.args.other c.args.nodes c.args.second.now)) c.args.cells c.args.rows p.0 p.1 p.2 _ c.room_after.ensures in
     let few : (size (result ((edit_of c.args.context c.args.count c.args.table.now c.args.place c.args.other c.args.nodes c.args.second.now))) ≤ most_nodes) =
-    let r = sized in let z = c.if-result-gt-MOST_NODES.false in omega arith in
+    let r = sized in omega arith in
     let p = passed in
     let h = ltb-true _ _ (sym c.is_deep.ensures ∙ c.if-is_deep.true) in
     too_deep _ _ _ p.0 p.1 p.2 (few) _ c.breaks_output.ensures c.if-breaks_output.false h
@@ -109,7 +109,7 @@ returns-then-cells-result c =
     let p = passed in
     sizes ((edit_of c.args.context c.args.count c.args.table.now c.args.place c.args.other c.args.nodes c.args.second.now)) c.args.cells c.args.rows p.0 p.1 p.2 _ c.room_after.ensures in
     let few : (size (result ((edit_of c.args.context c.args.count c.args.table.now c.args.place c.args.other c.args.nodes c.args.second.now))) ≤ most_nodes) =
-    let r = sized in let z = c.if-result-gt-MOST_NODES.false in omega arith in
+    let r = sized in omega arith in
     let flat : (levels (result ((edit_of c.args.context c.args.count c.args.table.now c.args.place c.args.other c.args.nodes c.args.second.now))) ≤ most_levels) =
     ltb-false _ _ (sym c.is_deep.ensures ∙ c.if-is_deep.false) in
     let p = passed in
@@ -128,7 +128,7 @@ returns-then-rows-result c =
     let p = passed in
     sizes ((edit_of c.args.context c.args.count c.args.table.now c.args.place c.args.other c.args.nodes c.args.second.now)) c.args.cells c.args.rows p.0 p.1 p.2 _ c.room_after.ensures in
     let few : (size (result ((edit_of c.args.context c.args.count c.args.table.now c.args.place c.args.other c.args.nodes c.args.second.now))) ≤ most_nodes) =
-    let r = sized in let z = c.if-result-gt-MOST_NODES.false in omega arith in
+    let r = sized in omega arith in
     let flat : (levels (result ((edit_of c.args.context c.args.count c.args.table.now c.args.place c.args.other c.args.nodes c.args.second.now))) ≤ most_levels) =
     ltb-false _ _ (sym c.is_deep.ensures ∙ c.if-is_deep.false) in
     let p = passed in
@@ -148,7 +148,7 @@ returns c =
     let p = passed in
     sizes ((edit_of c.args.context c.args.count c.args.table.now c.args.place c.args.other c.args.nodes c.args.second.now)) c.args.cells c.args.rows p.0 p.1 p.2 _ c.room_after.ensures in
     let few : (size (result ((edit_of c.args.context c.args.count c.args.table.now c.args.place c.args.other c.args.nodes c.args.second.now))) ≤ most_nodes) =
-    let r = sized in let z = c.if-result-gt-MOST_NODES.false in omega arith in
+    let r = sized in omega arith in
     let flat : (levels (result ((edit_of c.args.context c.args.count c.args.table.now c.args.place c.args.other c.args.nodes c.args.second.now))) ≤ most_levels) =
     ltb-false _ _ (sym c.is_deep.ensures ∙ c.if-is_deep.false) in
     let p = passed in

@@ -12,5 +12,5 @@ returns-then-n-lt10 t c = rw (decimal_one _ c.if-n-lt10.true, ← c.digit.ensure
 
 pub returns : goal.returns
 returns t c =
-    let more = decimal_more _ c.if-n-lt10.false in
+    let more = decimal_more c.args.n (omega arith) in
     rw (more, ← c.digit-2.ensures) (grown_more c.put_number-next.ensures c.put_byte-2.ensures)

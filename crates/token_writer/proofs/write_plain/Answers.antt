@@ -8,7 +8,7 @@ use Rattle.token_writer.specs.declared.Written.TheVariants.{Tokens}
 use Rattle.token_writer.proofs.write_plain.Goals as goal
 
 pub write_tree-requires : goal.write_tree-requires
-write_tree-requires c = rw c.root_place-here.ensures.0 (rw c.root_place-here.ensures.0 at c.root_place-here.ensures.1, omega (arith, c.requires.0, c.if-count-le-FEW_NODES.true), c.requires.3, c.requires.2, c.requires.5)
+write_tree-requires c = rw c.root_place-here.ensures.0 (rw c.root_place-here.ensures.0 at c.root_place-here.ensures.1, omega (arith, c.requires.0), c.requires.3, c.requires.2, c.requires.5)
 
 pub told-requires : goal.told-requires
 told-requires c =

@@ -1,4 +1,5 @@
 -- `tree_rules::refusal::check` meets its contract. Assumes nothing.
+use native.Mathlib.Omega.{arith}
 use mathlib.Core.Path.{sym, ◌∙◌}
 use borrow.Author.Tests.{lt-ltb, le-ltb}
 use Rattle.laws.proofs.Calls.{free}
@@ -13,7 +14,7 @@ returns-then-context-gt3 c = sym (stop _ _ (lt-ltb _ _ c.if-context-gt3.true))
 
 pub returns-then-has_bad_count : goal.returns-then-has_bad_count
 unfolding refusal refusal3
-returns-then-has_bad_count c = sym (skip _ _ (le-ltb _ _ c.if-context-gt3.false) ∙ stop _ _ (sym c.has_bad_count.ensures ∙ c.if-has_bad_count.true))
+returns-then-has_bad_count c = sym (skip _ _ (le-ltb 3 c.args.context (omega arith)) ∙ stop _ _ (sym c.has_bad_count.ensures ∙ c.if-has_bad_count.true))
 
 pub find_refusal-requires : goal.find_refusal-requires
 unfolding refusal refusal3
@@ -21,4 +22,4 @@ find_refusal-requires c = let f = count_fits _ _ (sym c.has_bad_count.ensures �
 
 pub returns : goal.returns
 unfolding refusal refusal3
-returns c = c.find_refusal.ensures ∙ sym (skip _ _ (le-ltb _ _ c.if-context-gt3.false) ∙ skip _ _ (sym c.has_bad_count.ensures ∙ c.if-has_bad_count.false))
+returns c = c.find_refusal.ensures ∙ sym (skip _ _ (le-ltb 3 c.args.context (omega arith)) ∙ skip _ _ (sym c.has_bad_count.ensures ∙ c.if-has_bad_count.false))
