@@ -42,7 +42,6 @@ overflow_sub-left c = omega arith
 pub entry_at-entry-requires : goal.entry_at-entry-requires
 entry_at-entry-requires c = omega arith
 
--- Then1 stands behind form-at, entry_at and the loop's test; Then2 and Else2 behind is-entered and Else1 as well
 pub returns-then-form_at-ne-EXPR_BINARY : goal.returns-then-form_at-ne-EXPR_BINARY
 returns-then-form_at-ne-EXPR_BINARY c = sym (sym c.loop-left.invariant.1 ∙ wrong c.args.table.now c.args.count c.args.entries.now c.loop-left.left c.loop-left-test.true _ c.entry_at-entry.ensures _ c.form_at.ensures c.if-form_at-ne-EXPR_BINARY.true)
 

@@ -13,7 +13,6 @@ overflow_sub-left c = omega arith
 pub entry_at-entry-requires : goal.entry_at-entry-requires
 entry_at-entry-requires c = omega arith
 
--- Then1 and Else1 stand behind struct-known, entry_at and the loop's test
 pub returns-then-entry-node : goal.returns-then-entry-node
 returns-then-entry-node c = sym (sym c.loop-left.invariant.1 ∙ entered_here c.args.entries.now c.loop-left.left c.args.node c.loop-left-test.true _ c.entry_at-entry.ensures c.if-entry-node.true)
 

@@ -49,7 +49,6 @@ returns-then-entered-gt-MOST_ENTRIES c = sym (too_many _ _ _ _ _ c.if-answers-co
 pub has_wrong_node-requires : goal.has_wrong_node-requires
 has_wrong_node-requires c = c.if-entries-entered.false
 
--- Then4 stands behind has-wrong-node and the three tests, Then5 and Else5 behind has-wrong-ends and Else4 as well
 pub returns-then-has_wrong_node : goal.returns-then-has_wrong_node
 returns-then-has_wrong_node c = sym (wrong_node _ _ _ _ _ c.if-answers-count.false c.if-entries-entered.false (omega arith) (sym c.has_wrong_node.ensures ∙ c.if-has_wrong_node.true))
 
