@@ -6,7 +6,8 @@
 
 Starts from ROOTS and follows the calls of the Rattle code through src/ of each crate.
 A function holds the arrays that it declares while those that it calls run, so what
-counts is the way from a root on which they add up to the most. Fails above MOST
+counts is the way from a root on which they add up to the most. A function with a
+const parameter counts once for each constant that a call names. Fails above MOST
 16-bit cells (document 02, Paper 8: "at most two 16-bit cells a node"), if a root is
 missing, or if an array's length is no number that is known here.
 """
@@ -24,15 +25,20 @@ MOST = 8192
 
 BITS = {'u8': 8, 'u16': 16, 'u32': 32, 'u64': 64, 'usize': 64, 'bool': 8}
 
-# What the texts are changed to, one at a time: a copy of all numbers, a place for node 1 too, and an array that is held
-# while the rules are looked for.
+# What the texts are changed to, one at a time: a copy of all numbers, a place for node 1 too, more places than that for
+# few nodes, and an array that is held while the rules are looked for.
 EDITS = [
     (
         'file_loader/src/lib.rt',
-        '[0u16; sizes::MOST_NODES as usize - 1]',
-        '[0u16; sizes::NODE_CELLS * (sizes::MOST_NODES as usize)]',
+        'const MOST_PLACES: usize = sizes::MOST_NODES as usize - 1;',
+        'const MOST_PLACES: usize = sizes::NODE_CELLS * (sizes::MOST_NODES as usize);',
     ),
-    ('file_loader/src/lib.rt', '[0u16; sizes::MOST_NODES as usize - 1]', '[0u16; sizes::MOST_NODES as usize]'),
+    (
+        'file_loader/src/lib.rt',
+        'const MOST_PLACES: usize = sizes::MOST_NODES as usize - 1;',
+        'const MOST_PLACES: usize = sizes::MOST_NODES as usize;',
+    ),
+    ('file_loader/src/lib.rt', 'check_by::<FEW_PLACES>(', 'check_by::<8193>('),
     ('file_order/src/lib.rt', '    file_loader::check(', '    let kept = [0u64; 1];\n    file_loader::check('),
 ]
 
@@ -62,7 +68,7 @@ def constants(files):
     for path, text in files.items():
         crate, _, name = path.split('/')
         for match in re.finditer(r'const (\w+): \w+ = ([^;]+);', plain(text)):
-            found[crate, name.removesuffix('.rt'), match[1]] = match[2].replace('_', '')
+            found[crate, name.removesuffix('.rt'), match[1]] = match[2]
     return found
 
 
@@ -70,14 +76,14 @@ def length(words, crate, known):
     """The value of an array's length."""
 
     def value(match):
-        module, name = match[1], match[2]
+        module, name = match[1] or 'lib', match[2]
         for at in [(crate, module, name), ('tree', module, name)]:
             if at in known:
-                return known[at]
+                return str(length(known[at], crate, known))
         raise Wrong(f'{crate}: {module}::{name} is not known')
 
     words = re.sub(r'\bas usize\b', '', words)
-    words = re.sub(r'(\w+)::([A-Z_]+)', value, words)
+    words = re.sub(r'(?:(\w+)::)?\b([A-Z][A-Z_]+)\b', value, words)
     words = re.sub(r'(\d)_(?=\d)', r'\1', words)
     if not re.fullmatch(r'[\d\s()+*-]+', words):
         raise Wrong(f'{crate}: the length `{words.strip()}` is no number that is known')
@@ -85,9 +91,20 @@ def length(words, crate, known):
 
 
 class Function:
-    def __init__(self, crate, module, name, body):
-        self.crate, self.module, self.name, self.body = crate, module, name, body
-        self.calls = []
+    def __init__(self, crate, module, name, body, parameter=None):
+        self.crate, self.module, self.name, self.body, self.parameter = crate, module, name, body, parameter
+        self.calls, self.cases = [], {}
+
+    def by(self, words):
+        """The function with what a call gives for its const parameter: it calls what the other does."""
+        if not self.parameter:
+            raise Wrong(f'{self} has no const parameter')
+        if words not in self.cases:
+            body = re.sub(rf'\b{self.parameter}\b', f'({words})', self.body)
+            case = Function(self.crate, self.module, f'{self.name}::<{words}>', body)
+            case.calls = self.calls
+            self.cases[words] = case
+        return self.cases[words]
 
     def cells(self, known):
         """The 16-bit cells of the arrays that it declares."""
@@ -114,21 +131,21 @@ def functions(files):
         module = name.removesuffix('.rt')
         code = plain(text)
         used[crate, module] = {path.split('::')[-1]: path for path in brought_in(code)}
-        for match in re.finditer(r'\bfn (\w+)\(.*?\n\{\n(.*?)\n\}', code, re.S):
-            found.append(Function(crate, module, match[1], match[2]))
+        for match in re.finditer(r'\bfn (\w+)(?:<const (\w+): usize>)?\(.*?\n\{\n(.*?)\n\}', code, re.S):
+            found.append(Function(crate, module, match[1], match[3], match[2]))
     by_name = {}
     for function in found:
         by_name.setdefault(function.name, []).append(function)
     crates = {function.crate for function in found}
     for function in found:
-        for words in re.findall(r'([\w:]+)\(', function.body):
+        for words, given in re.findall(r'([\w:]+?)(?:::<([^<>()]+)>)?\(', function.body):
             parts = words.split('::')
             full = used[function.crate, function.module].get(parts[0], parts[0]).split('::') + parts[1:]
             for other in by_name.get(parts[-1], []):
                 crate = full[0] if full[0] in crates else function.crate
                 if other is not function and other.crate == crate:
                     if len(full) > 1 or other.module == function.module:
-                        function.calls.append(other)
+                        function.calls.append(other.by(given) if given else other)
     return {str(function): function for function in found}
 
 

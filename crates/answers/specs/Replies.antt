@@ -1,7 +1,7 @@
 -- An answer as one number: the refusal times 65,536, or the value; of two values the first times 8,192, which is above every count.
 -- The writer's in 64 bits: the refusal times 2^32, or the pairs times 65,536 and the tokens.
-use Rattle.std.specs.Prelude.{◌≡◌, List, [], ◌∷◌, ℕ, ◌+◌, ◌*◌}
-use Rattle.token_reader.specs.declared.Reply.{Reply}
+use Rattle.std.specs.Prelude.{◌≡◌, List, [], ◌∷◌, ℕ, ◌+◌, ◌*◌, Result}
+use Rattle.tree.specs.declared.refusal.Refusal.{Refusal}
 use Rattle.token_reader.specs.Reading.{Answers, reply_in_numbers}
 
 -- values one behind the other, after what stands before them; `base` is above each
@@ -21,6 +21,6 @@ wide_number (reply ∷ values) = 65536 * 65536 * reply + joined 65536 0 values
 
 -- the number of a reply that the reader gives, with what it leaves in the table
 pub record ReadNumber (context : ℕ) (codes table : List ℕ) (number : ℕ) (after : List ℕ) : Type 0 where
-  pub reply : Reply
+  pub reply : Result ℕ Refusal
   pub answers : Answers context codes table reply after
   pub is : number ≡ one_number (reply_in_numbers reply)

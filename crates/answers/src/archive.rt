@@ -5,16 +5,16 @@ ghost use Rattle.file_order.specs.Orders.{compared, order_in_numbers, compared_i
 ghost use Rattle.file_columns.specs.Rearranged.{to_columns, to_columns_after, from_columns, from_columns_after};
 ghost use Rattle.answers.specs.Replies.{one_number};
 
-use file_order::{Compared, Order};
-use file_save::Saved;
+use std::cmp::Ordering;
+use tree::refusal::Refusal;
 
 // The refusal times 65,536, or the number of bytes.
-fn saved_number(answer: Saved) -> u32
+fn saved_number(answer: Result<u16, Refusal>) -> u32
     ensures { result ≡ one_number (saved_in_numbers answer) }
 {
     match answer {
-        Saved::Refused(refusal) => 65536 * (refusal as u32),
-        Saved::Bytes(stored) => stored as u32,
+        Err(refusal) => 65536 * u32::from(refusal.number()),
+        Ok(stored) => u32::from(stored),
     }
 }
 
@@ -45,23 +45,23 @@ pub extern "C" fn tezhukor_from_columns(columns: &[u8], file: &mut [u8]) -> u32
     saved_number(file_columns::from_columns(columns, file))
 }
 
-fn order_number(order: Order) -> u32
+fn order_number(order: Ordering) -> u32
     ensures { result ≡ order_in_numbers order }
 {
     match order {
-        Order::Before => 0,
-        Order::Equal => 1,
-        Order::After => 2,
+        Ordering::Less => 0,
+        Ordering::Equal => 1,
+        Ordering::Greater => 2,
     }
 }
 
 // The refusal times 65,536, or 0 before, 1 equal, 2 after.
-fn compared_number(answer: Compared) -> u32
+fn compared_number(answer: Result<Ordering, Refusal>) -> u32
     ensures { result ≡ one_number (compared_in_numbers answer) }
 {
     match answer {
-        Compared::Refused(number) => 65536 * (number as u32),
-        Compared::Ordered(order) => order_number(order),
+        Err(why) => 65536 * u32::from(why.number()),
+        Ok(order) => order_number(order),
     }
 }
 

@@ -5,14 +5,14 @@ ghost use Rattle.sheet_carry.specs.Carries.{carry_reply, carried_rows, carried_i
 ghost use Rattle.answers.specs.Replies.{one_number};
 
 use expr::order::CalleeOrder;
-use sheet_carry::Carried;
+use tree::refusal::Refusal;
 
-fn carried_number(answer: Carried) -> u32
+fn carried_number(answer: Result<(), Refusal>) -> u32
     ensures { result ≡ one_number (carried_in_numbers answer) }
 {
     match answer {
-        Carried::Refused(refusal) => 65536 * (refusal as u32),
-        Carried::Done => 1,
+        Err(refusal) => 65536 * u32::from(refusal.number()),
+        Ok(()) => 1,
     }
 }
 
@@ -28,6 +28,6 @@ pub extern "C" fn tezhukor_carry(
     ensures reply { result ≡ one_number (carried_in_numbers (carry_reply context count table.now (length rows.old))) }
     ensures rows { rows.new ≡ carried_rows context count (order_numbered order) table.now rows.old }
 {
-    let held = CalleeOrder::numbered(order);
+    let held = CalleeOrder::from(order);
     carried_number(sheet_carry::carry(context, count, held, table, rows))
 }

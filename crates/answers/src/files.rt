@@ -5,14 +5,15 @@ ghost use Rattle.file_columns.specs.Rearranged.{columns_loaded, columns_table};
 ghost use Rattle.answers.specs.Replies.{one_number};
 
 use file_loader::Loaded;
+use tree::refusal::Refusal;
 
 // The refusal times 65,536, or the context times 8,192 and the count.
-fn number(answer: Loaded) -> u32
+fn number(answer: Result<Loaded, Refusal>) -> u32
     ensures { result ≡ one_number (loaded_in_numbers answer) }
 {
     match answer {
-        Loaded::Refused(refusal) => 65536 * (refusal as u32),
-        Loaded::Accepted(context, count) => 8192 * (context as u32) + (count as u32),
+        Err(refusal) => 65536 * u32::from(refusal.number()),
+        Ok(loaded) => 8192 * u32::from(loaded.context) + u32::from(loaded.count),
     }
 }
 

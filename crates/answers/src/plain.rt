@@ -5,15 +5,15 @@ ghost use Rattle.token_writer.specs.Writes.{answered, tokens_after, written_in_n
 ghost use Rattle.token_reader.specs.Reading.{reply_in_numbers};
 ghost use Rattle.answers.specs.Replies.{one_number, wide_number, ReadNumber};
 
-use token_reader::Reply;
 use token_writer::Written;
+use tree::refusal::Refusal;
 
-fn written_number(answer: Written) -> u64
+fn written_number(answer: Result<Written, Refusal>) -> u64
     ensures { result ≡ wide_number (written_in_numbers answer) }
 {
     match answer {
-        Written::Refused(refusal) => 65536 * 65536 * (refusal as u64),
-        Written::Tokens(pairs, stored) => 65536 * (pairs as u64) + (stored as u64),
+        Err(refusal) => 65536 * 65536 * u64::from(refusal.number()),
+        Ok(written) => 65536 * u64::from(written.pairs) + u64::from(written.tokens),
     }
 }
 
@@ -26,12 +26,12 @@ pub extern "C" fn tezhukor_write(context: u16, count: u16, table: &[u16], tokens
     written_number(token_writer::write(context, count, table, tokens))
 }
 
-fn reply_number(answer: Reply) -> u32
+fn reply_number(answer: Result<u16, Refusal>) -> u32
     ensures { result ≡ one_number (reply_in_numbers answer) }
 {
     match answer {
-        Reply::Refused(refusal) => 65536 * (refusal as u32),
-        Reply::Nodes(stored) => stored as u32,
+        Err(refusal) => 65536 * u32::from(refusal.number()),
+        Ok(stored) => u32::from(stored),
     }
 }
 

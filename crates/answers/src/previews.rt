@@ -27,7 +27,7 @@ pub extern "C" fn tezhukor_preview(
     ensures table { result_table.new ≡ preview_table (edit_of context count table.now node second_context second_count second.now) (length rows.now) result_table.old (length result_rows.old) }
     ensures rows { result_rows.new ≡ preview_rows (order_numbered order) (edit_of context count table.now node second_context second_count second.now) (length rows.now) result_table.old result_rows.old }
 {
-    let held = CalleeOrder::numbered(order);
+    let held = CalleeOrder::from(order);
     edited_number(sheet_edit::preview(
         context,
         count,

@@ -5,14 +5,14 @@ ghost use Rattle.sheet_edit.specs.Edits.{edit_of, edit_reply, table_after, edite
 ghost use Rattle.answers.specs.Replies.{one_number};
 
 use expr::order::CalleeOrder;
-use sheet_edit::Edited;
+use tree::refusal::Refusal;
 
-pub(crate) fn edited_number(answer: Edited) -> u32
+pub(crate) fn edited_number(answer: Result<u16, Refusal>) -> u32
     ensures { result ≡ one_number (edited_in_numbers answer) }
 {
     match answer {
-        Edited::Refused(refusal) => 65536 * (refusal as u32),
-        Edited::Nodes(nodes) => nodes as u32,
+        Err(refusal) => 65536 * u32::from(refusal.number()),
+        Ok(nodes) => u32::from(nodes),
     }
 }
 
@@ -33,7 +33,7 @@ pub extern "C" fn tezhukor_edit(
     ensures table { table.new ≡ table_after (edit_of context count table.old node second_context second_count second.now) (length rows.old) }
     ensures rows { rows.new ≡ edited_rows (order_numbered order) (edit_of context count table.old node second_context second_count second.now) rows.old }
 {
-    let held = CalleeOrder::numbered(order);
+    let held = CalleeOrder::from(order);
     edited_number(sheet_edit::edit(
         context,
         count,

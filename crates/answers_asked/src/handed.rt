@@ -6,6 +6,7 @@ ghost use Rattle.answers_cells.specs.CellQuestions.{handed_answered};
 
 use answers_cells::handed_answer;
 use row_pack::context_of;
+use tree::table::Table;
 
 // answers_cells::handed_answer, with the owner's own context, NONE where it has an outer pair, as three cells.
 #[unsafe(no_mangle)]
@@ -21,6 +22,10 @@ pub extern "C" fn tezhukor_handed(
 ) -> u16
     ensures { result ≡ handed_answered question cell (context_of previous next flags) (tree_at table.now count node) }
 {
+    let table = &Table {
+        cells: table,
+        count,
+    };
     let fixup = context_of(previous, next, flags);
-    handed_answer(question, cell, fixup, table, count, node)
+    handed_answer(question, cell, fixup, table, node)
 }

@@ -1,5 +1,5 @@
 // What precedence.rs, classify.rs and fixup.rs say of a node, by the number of a question.
-// A number that is no question's is answered by 65535.
+// A number that is no question's is answered by 65535. Questions stay numbers: callers in C ask by them.
 #![tactic(auto)]
 
 pub mod in_context; // in_context.rt: what fixup.rs says of a node in a context
@@ -8,21 +8,22 @@ ghost use Rattle.std.specs.Prelude.{◌≡◌};
 ghost use Rattle.tree.specs.Trees.{tree_at};
 ghost use Rattle.answers_questions.specs.Questions.{answered};
 
-use bools::bit;
 use precedence::Precedence;
+use tree::table::Table;
 
 // Questions about a node alone: 0 to 6.
-pub fn answer(question: u16, table: &[u16], count: u16, node: u16) -> u16
-    ensures { result ≡ answered question (tree_at table.now count node) }
+#[tactic(auto, unfolding(crate::specs::Questions::answered, crate::specs::Questions::questions, laws::specs::Choice::lookup, laws::specs::Choice::pick))]
+pub fn answer(question: u16, table: &Table, node: u16) -> u16
+    ensures { result ≡ answered question (tree_at table.now.cells.now table.now.count node) }
 {
     match question {
-        0 => Precedence::of(table, count, node).rank(),
-        1 => bit(classify::requires_semi_to_be_stmt(table, count, node)),
-        2 => bit(classify::requires_comma_to_be_match_arm(table, count, node)),
-        3 => bit(classify::expr_leading_label(table, count, node)),
-        4 => bit(classify_braces::expr_trailing_brace(table, count, node)),
-        5 => bit(classify::trailing_unparameterized_path(table, count, node)),
-        6 => bit(classify_braces::type_trailing_brace(table, count, node)),
+        0 => Precedence::of(table, node).rank(),
+        1 => u16::from(classify::requires_semi_to_be_stmt(table, node)),
+        2 => u16::from(classify::requires_comma_to_be_match_arm(table, node)),
+        3 => u16::from(classify::expr_leading_label(table, node)),
+        4 => u16::from(classify_braces::expr_trailing_brace(table, node)),
+        5 => u16::from(classify::trailing_unparameterized_path(table, node)),
+        6 => u16::from(classify_braces::type_trailing_brace(table, node)),
         _ => 65535,
     }
 }

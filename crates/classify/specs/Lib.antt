@@ -1,2 +1,1 @@
 pub mod Classify
-pub mod Steps

@@ -4,7 +4,6 @@ use Rattle.laws.specs.Choice.{pick, Line, line}
 use Rattle.tree.specs.Forms.{expr_assign, expr_binary, expr_block, expr_break, expr_cast, expr_closure, expr_const, expr_for_loop, expr_group, expr_if, expr_let, expr_loop, expr_macro, expr_match, expr_range, expr_raw_addr, expr_reference, expr_return, expr_struct, expr_try_block, expr_unary, expr_unsafe, expr_verbatim, expr_while, expr_yield, type_fn_ptr, type_impl_trait, type_macro, type_path, type_ptr, type_reference, type_trait_object, type_verbatim}
 use Rattle.tree.specs.Trees.{Label, Tree}
 use Rattle.tree.specs.Walks.{Ask, answer, first, second, walk}
-use Rattle.tree.specs.Steps.{Step, step_at}
 
 -- no other definition names this form
 abbrev expr_async : ℕ
@@ -49,11 +48,3 @@ brace_lines l a b =
 
 unfoldable pub trailing_brace : Tree → Bool
 trailing_brace t = walk brace_lines (λ l. false) false t
-
--- ---- the steps of the two walks over node numbers
-
-abbrev pub type_brace_step : List ℕ → ℕ → ℕ → Step Bool
-type_brace_step cells count i = step_at type_brace_lines (λ l. false) false cells count i
-
-abbrev pub brace_step : List ℕ → ℕ → ℕ → Step Bool
-brace_step cells count i = step_at brace_lines (λ l. false) false cells count i

@@ -2,7 +2,7 @@
 ghost use Rattle.std.specs.Prelude.{◌≡◌};
 ghost use Rattle.expr.specs.Orders.{order_numbered};
 
-#[derive(Clone, Copy)]
+#[derive(Clone, Copy, Debug, PartialEq, Eq)]
 pub enum CalleeOrder {
     // The crate's: a Field by its member alone, anything else by its precedence.
     Crates,
@@ -10,12 +10,13 @@ pub enum CalleeOrder {
     Ours,
 }
 
-impl CalleeOrder {
+impl From<u16> for CalleeOrder {
+    ghost from_gives = { λ number order. order ≡ order_numbered number };
+
     // 0 the crate's, every other number ours.
-    pub fn numbered(order: u16) -> CalleeOrder
-        ensures { result ≡ order_numbered order }
-    {
-        if order == 0 {
+    #[tactic(auto, unfolding(crate::specs::Orders::order_numbered, laws::specs::Choice::pick))]
+    fn from(number: u16) -> CalleeOrder {
+        if number == 0 {
             return CalleeOrder::Crates;
         }
         CalleeOrder::Ours

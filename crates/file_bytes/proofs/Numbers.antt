@@ -2,14 +2,14 @@
 use mathlib.Core.Path.{◌≡◌, refl, sym, ◌∙◌}
 use mathlib.Core.Bool.{false}
 use mathlib.Core.List.{List, [], ◌∷◌, ◌++◌}
-use Prim.Native.Nat.{ℕ, ◌+◌, ◌-◌, ◌/◌, ◌%◌, ◌≤◌, ◌<◌}
+use Prim.Native.Nat.{ℕ, ◌+◌, ◌/◌, ◌%◌, ◌≤◌, ◌<◌}
 use native.Mathlib.Omega.{arith}
 use native.Mathlib.Decide.{dec_le, ℕ_discrete}
 use lib.ListN.{length, get_or, drop}
 use lib.Seq.{drop-cons}
 use borrow.Author.Tests.{lt-ltb, le-ltb}
 use Rattle.laws.proofs.Choice.{pick_true, pick_false, true_not_false}
-use Rattle.file_numbers.specs.declared.Number.TheVariants.{Malformed, Value}
+use Rattle.std.specs.Prelude.{None, Some}
 use Rattle.file_numbers.specs.Numbers.{value_of, rest_of, malformed}
 use Rattle.file_numbers.specs.Standing.{stands_at}
 use Rattle.file_numbers.proofs.Groups.{nothing_left, one_byte, cut_after_one, zero_second, two_bytes, cut_after_two, zero_third, high_third, three_bytes}
@@ -67,7 +67,7 @@ pub record Read (n : ℕ) (bytes rest : List ℕ) : Type 0 where
 pub reads_back : (n : ℕ) (rest : List ℕ) → n ≤ 65535 → Read n (bytes_of n ++ rest) rest
 reads_back n rest most = go (dec_le 128 n) (dec_le 16384 n)
   where
-    by : (bytes : List ℕ) (v next : ℕ) → Value v next ≡ stands_at bytes 0 → v ≡ n → drop next bytes ≡ rest → Read n bytes rest
+    by : (bytes : List ℕ) (v next : ℕ) → Some (v, next) ≡ stands_at bytes 0 → v ≡ n → drop next bytes ≡ rest → Read n bytes rest
     by bytes v next e p q = let s = number_good bytes 0 v next e in record { formed = s.formed; value = s.value ∙ p; after = s.rest ∙ q }
 
     go : Dec (128 ≤ n) → Dec (16384 ≤ n) → Read n (bytes_of n ++ rest) rest
@@ -96,11 +96,11 @@ threes : (n : ℕ) (bytes : List ℕ) → 16384 ≤ n → 3 ≤ length bytes →
 threes n bytes h l e f g = rw (three_of n h) (drop-cons bytes 0 0 (omega arith) ∙ rw (e, drop-cons bytes 1 0 (omega arith), f, drop-cons bytes 2 0 (omega arith), g))
 
 module _ (bytes : List ℕ) (small : AllBelow 256 bytes) (formed : malformed bytes ≡ false) where
-  not_bad : {A : Type 0} → Malformed ≡ stands_at bytes 0 → A
+  not_bad : {A : Type 0} → None ≡ stands_at bytes 0 → A
   not_bad e = true_not_false (sym (number_bad bytes 0 e) ∙ formed)
 
   -- a value that is read, and the bytes that it is
-  found : (v next : ℕ) → Value v next ≡ stands_at bytes 0 → bytes ≡ bytes_of v ++ drop next bytes → bytes ≡ bytes_of (value_of bytes) ++ rest_of bytes
+  found : (v next : ℕ) → Some (v, next) ≡ stands_at bytes 0 → bytes ≡ bytes_of v ++ drop next bytes → bytes ≡ bytes_of (value_of bytes) ++ rest_of bytes
   found v next e p = let s = number_good bytes 0 v next e in rw (s.value, s.rest) p
 
   pub only_bytes : bytes ≡ bytes_of (value_of bytes) ++ rest_of bytes

@@ -1,28 +1,31 @@
 -- The refusal of a rearranged file, and what is answered and stored. Assumes nothing.
-use mathlib.Core.Path.{◌≡◌, refl, sym, ◌∙◌}
+use mathlib.Core.Path.{◌≡◌, refl, sym, ◌∙◌, ap}
 use mathlib.Core.Bool.{Bool, true, false}
 use mathlib.Core.List.{List, [], ◌∷◌, ◌++◌}
-use Prim.Native.Nat.{ℕ, ◌+◌, ◌*◌, ◌≤◌}
+use Prim.Native.Nat.{ℕ, ◌*◌, ◌≤◌}
 use native.Mathlib.Omega.{arith}
-use lib.Dec.{eqb}
 use lib.ListN.{length, take}
 use lib.Seq.{take_at, length-take-le}
-use borrow.Author.Tests.{eq-eqb, ne_eqb, eqb-true, eqb-false}
+use borrow.Author.Tests.{eq-eqb, ne_eqb}
 use Rattle.laws.specs.Choice.{pick}
 use Rattle.laws.specs.Lists.{over}
-use Rattle.laws.proofs.Choice.{pick_true, pick_false, true_not_false}
+use Rattle.laws.proofs.Choice.{pick_true, pick_false}
 use Rattle.laws.proofs.Lists.{length_over}
 use Rattle.tree.specs.Sizes.{node_cells, most_nodes}
 use Rattle.tree_rules.specs.Refusals.{Refusal, refuse, first_of, node_refusals, refusal, Accepted as Table}
 use Rattle.tree_rules.proofs.First.{stop, skip, passed}
 use Rattle.tree_rules.proofs.Count.{count_fits, fits_count}
 use Rattle.file_loader.specs.declared.Loaded.{Loaded}
-use Rattle.file_loader.specs.declared.Loaded.TheVariants.{Refused as NotLoaded, Accepted}
+use Rattle.std.specs.Prelude.{Ok, Err}
+use Rattle.tree.specs.declared.refusal.Refusal.{Refusal as Refused}
+use Rattle.tree.specs.Replies.{number_of, replied}
+use Rattle.file_loader.proofs.Replied.{refused_by, done_by, said_ok, said_err}
 use Rattle.file_loader.specs.Files.{context_in, count_in, cells_in, number_refusals, numbers_refusal, numbers_loaded, numbers_table}
 use Rattle.file_loader.proofs.Files.{first_in, nodes_refusal, Passes, passes, body_length}
 use Rattle.file_columns.specs.Columns.{restored, refusal19}
 use Rattle.file_columns.specs.Rearranged.{restored_in, columns_refusal, columns_loaded}
-use Rattle.file_columns.specs.Steps.{RestoredIn, Arrays}
+use Rattle.tree.specs.declared.refusal.Refusal.TheVariants.{Columns}
+use Rattle.file_columns.specs.Steps.{Arrays}
 use Rattle.file_columns.proofs.Restoring.{restored_length}
 
 -- ---- the numbers of a file, then others
@@ -53,31 +56,17 @@ module _ (file : List ℕ) (lent : ℕ) (others : List Refusal) where
 
 -- ---- what was answered, by the refusal behind it
 
-module _ (R context count : ℕ) where
-  pub was_accepted : (k n : ℕ) → Accepted k n ≡ pick (eqb R 0) (Accepted context count) (NotLoaded R) → (R ≡ 0) × (k ≡ context) × (n ≡ count)
-  unfolding pick
-  was_accepted k n e = go (eqb R 0) refl e
-    where
-      go : (b : Bool) → eqb R 0 ≡ b → Accepted k n ≡ pick b (Accepted context count) (NotLoaded R) → (R ≡ 0) × (k ≡ context) × (n ≡ count)
-      go true p q = (eqb-true _ 0 p, cc, cc)
-      go false p q = absurd (let z : ◌≡◌ {A = ℕ} 0 1 = cc in omega arith)
-
-  pub was_refused : (n : ℕ) → NotLoaded n ≡ pick (eqb R 0) (Accepted context count) (NotLoaded R) → (R ≡ n) × (n ≡ 0 → ⊥)
-  unfolding pick
-  was_refused n e = go (eqb R 0) refl e
-    where
-      go : (b : Bool) → eqb R 0 ≡ b → NotLoaded n ≡ pick b (Accepted context count) (NotLoaded R) → (R ≡ n) × (n ≡ 0 → ⊥)
-      go true p q = absurd (let z : ◌≡◌ {A = ℕ} 0 1 = cc in omega arith)
-      go false p q = let m : n ≡ R = cc in (sym m, λ z. eqb-false _ 0 p (sym m ∙ z))
+pub was_accepted : (R context count k n : ℕ) → Ok (record { context = k; count = n }) ≡ replied {A = Loaded} R (record { context = context; count = count }) → (R ≡ 0) × (k ≡ context) × (n ≡ count)
+was_accepted R context count k n e = let s = said_ok {A = Loaded} R _ _ e in (s.0, ap (λ l. l.context) s.1, ap (λ l. l.count) s.1)
 
 module _ (file : List ℕ) (lent : ℕ) where
-  numbers_were : (context count : ℕ) → Accepted context count ≡ numbers_loaded file lent → (numbers_refusal file lent ≡ 0) × (context ≡ context_in file) × (count ≡ count_in file)
+  numbers_were : (context count : ℕ) → Ok (record { context = context; count = count }) ≡ numbers_loaded file lent → (numbers_refusal file lent ≡ 0) × (context ≡ context_in file) × (count ≡ count_in file)
   unfolding numbers_loaded
   numbers_were context count e = was_accepted _ _ _ context count e
 
-  numbers_were_not : (n : ℕ) → NotLoaded n ≡ numbers_loaded file lent → (numbers_refusal file lent ≡ n) × (n ≡ 0 → ⊥)
+  numbers_were_not : (e : Refused) → Err e ≡ numbers_loaded file lent → (Err e ≡ replied {A = ℕ} (numbers_refusal file lent) 0) × (numbers_refusal file lent ≡ 0 → ⊥)
   unfolding numbers_loaded
-  numbers_were_not n e = was_refused _ _ _ n e
+  numbers_were_not e h = said_err ℕ _ _ 0 e h
 
   numbers_over : (table : List ℕ) → lent ≡ length table → numbers_refusal file lent ≡ 0 → numbers_table file table ≡ over (cells_in file) table
   unfolding numbers_table
@@ -90,13 +79,13 @@ module _ (file : List ℕ) (lent : ℕ) where
 -- ---- what is answered of a rearranged file
 
 module _ (columns : List ℕ) (lent : ℕ) where
-  pub columns_refused : (n : ℕ) → columns_refusal columns lent ≡ n → (n ≡ 0 → ⊥) → NotLoaded n ≡ columns_loaded columns lent
+  pub columns_refused : {B : Type 0} (b : B) (e : Refused) → Err e ≡ replied (columns_refusal columns lent) b → Err e ≡ columns_loaded columns lent
   unfolding columns_loaded
-  columns_refused n e h = rw e (sym (pick_false _ _ (ne_eqb n 0 h)))
+  columns_refused b e h = (said_err Loaded (columns_refusal columns lent) b (record { context = context_in columns; count = count_in columns }) e h).0
 
-  pub columns_accepted : columns_refusal columns lent ≡ 0 → Accepted (context_in columns) (count_in columns) ≡ columns_loaded columns lent
+  pub columns_accepted : columns_refusal columns lent ≡ 0 → Ok (record { context = context_in columns; count = count_in columns }) ≡ columns_loaded columns lent
   unfolding columns_loaded
-  columns_accepted e = sym (pick_true _ _ (eq-eqb _ 0 e))
+  columns_accepted e = done_by _ _ e
 
   -- its numbers are refused
   pub bad_numbers : (n : ℕ) → numbers_refusal columns lent ≡ n → (n ≡ 0 → ⊥) → columns_refusal columns lent ≡ n
@@ -137,9 +126,9 @@ module _ (columns : List ℕ) (lent : ℕ) where
 
 -- ---- the arrays, once the numbers are read
 
-module _ (columns held after : List ℕ) (x : Loaded) (context count : ℕ) (told : x ≡ Accepted context count) (is : x ≡ numbers_loaded columns (length held)) (are : after ≡ numbers_table columns held) where
+module _ (columns held after : List ℕ) (context count : ℕ) (is : Ok (record { context = context; count = count }) ≡ numbers_loaded columns (length held)) (are : after ≡ numbers_table columns held) where
   were : (numbers_refusal columns (length held) ≡ 0) × (context ≡ context_in columns) × (count ≡ count_in columns)
-  were = numbers_were columns (length held) context count (sym told ∙ is)
+  were = numbers_were columns (length held) context count is
 
   pub fine : numbers_refusal columns (length held) ≡ 0
   fine = were.0
@@ -194,53 +183,48 @@ module _ (columns held after : List ℕ) (x : Loaded) (context count : ℕ) (tol
 -- ---- what is answered, and left in the arrays
 
 -- the numbers are refused
-pub answer_numbers : (columns held cells after : List ℕ) (x : Loaded) (n : ℕ) → x ≡ NotLoaded n → x ≡ numbers_loaded columns (length held) → after ≡ numbers_table columns held
-    → (x ≡ columns_loaded columns (length held)) × Arrays columns held cells after cells
-answer_numbers columns held cells after x n told is are =
-    let w = numbers_were_not columns (length held) n (sym told ∙ is) in
-    let b = bad_numbers columns (length held) n w.0 w.1 in
-    let a = are ∙ numbers_not_over columns (length held) held refl (λ z. w.1 (sym w.0 ∙ z)) in (
-      told ∙ columns_refused columns (length held) n b w.1,
+pub answer_numbers : (columns held cells after : List ℕ) (e : Refused) → Err e ≡ numbers_loaded columns (length held) → after ≡ numbers_table columns held
+    → (Err e ≡ columns_loaded columns (length held)) × Arrays columns held cells after cells
+answer_numbers columns held cells after e is are =
+    let w = numbers_were_not columns (length held) e is in
+    let b = bad_numbers columns (length held) _ refl w.1 in
+    let a = are ∙ numbers_not_over columns (length held) held refl w.1 in (
+      columns_refused columns (length held) {B = ℕ} 0 e (rw b w.0),
       record { same = rw a; too = refl; are_held = λ z. absurd (w.1 (sym b ∙ z)); are_cells = λ z. absurd (w.1 (sym b ∙ z)) },
     )
 
-module _ (columns held cells after last : List ℕ) (x : Loaded) (context count : ℕ) (told : x ≡ Accepted context count) (is : x ≡ numbers_loaded columns (length held)) (are : after ≡ numbers_table columns held)
-    (r : Bool) (laid : RestoredIn count (take (node_cells * count) after) cells last r) where
+module _ (columns held cells after last : List ℕ) (context count : ℕ) (is : Ok (record { context = context; count = count }) ≡ numbers_loaded columns (length held)) (are : after ≡ numbers_table columns held) where
   -- a number is outside
-  pub answer_outside : r ≡ false → (NotLoaded 19 ≡ columns_loaded columns (length held)) × Arrays columns held cells after last
-  answer_outside e =
-      let l = rw e at laid in
-      let b = is_outside columns held after x context count told is are l.0 in (
-        columns_refused columns (length held) 19 b (λ z. omega arith),
-        record { same = held_room columns held after x context count told is are; too = l.1; are_held = λ z. absurd (let y = sym b ∙ z in omega arith); are_cells = λ z. absurd (let y = sym b ∙ z in omega arith) },
+  pub answer_outside : (e : Refused) → (e ≡ Columns) × (refusal19 count (take (node_cells * count) after) ≡ true) × (length last ≡ length cells) → (Err e ≡ columns_loaded columns (length held)) × Arrays columns held cells after last
+  answer_outside e l =
+      let b = is_outside columns held after context count is are l.1 in (
+        columns_refused columns (length held) {B = ℕ} 0 e (refused_by _ e 0 (b ∙ sym (ap number_of l.0))),
+        record { same = held_room columns held after context count is are; too = l.2; are_held = λ z. absurd (let y = sym b ∙ z in omega arith); are_cells = λ z. absurd (let y = sym b ∙ z in omega arith) },
       )
 
-  module _ (room : length held ≤ length cells) (e : r ≡ true) where
-    all_laid : (refusal19 count (take (node_cells * count) after) ≡ false) × (last ≡ over (restored count (take (node_cells * count) after)) cells)
-    all_laid = rw e at laid
-
+  module _ (room : length held ≤ length cells) (all_laid : (refusal19 count (take (node_cells * count) after) ≡ false) × (last ≡ over (restored count (take (node_cells * count) after)) cells)) where
     pub last_room : length last ≡ length cells
-    last_room = cells_room columns held after x context count told is are cells last all_laid.0 all_laid.1 room
+    last_room = cells_room columns held after context count is are cells last all_laid.0 all_laid.1 room
 
     arrays : Arrays columns held cells after last
     arrays =
         record {
-          same = held_room columns held after x context count told is are;
+          same = held_room columns held after context count is are;
           too = last_room;
-          are_held = λ z. over_held columns held after x context count told is are;
-          are_cells = λ z. over_cells columns held after x context count told is are cells last all_laid.0 all_laid.1;
+          are_held = λ z. over_held columns held after context count is are;
+          are_cells = λ z. over_cells columns held after context count is are cells last all_laid.0 all_laid.1;
         }
 
     of_nodes : columns_refusal columns (length held) ≡ refusal context count (take (node_cells * count) last)
-    of_nodes = refusal_is columns held after x context count told is are cells last all_laid.0 all_laid.1
+    of_nodes = refusal_is columns held after context count is are cells last all_laid.0 all_laid.1
 
     -- the nodes are refused, or they are not
-    pub answer_nodes : (n : ℕ) → n ≡ refusal context count (take (node_cells * count) last) → (n ≡ 0 → ⊥) → (NotLoaded n ≡ columns_loaded columns (length held)) × Arrays columns held cells after last
-    answer_nodes n b h = (columns_refused columns (length held) n (of_nodes ∙ sym b) h, arrays)
+    pub answer_nodes : {B : Type 0} (b : B) (e : Refused) → Err e ≡ replied (refusal context count (take (node_cells * count) last)) b → (Err e ≡ columns_loaded columns (length held)) × Arrays columns held cells after last
+    answer_nodes b e h = (columns_refused columns (length held) b e (rw of_nodes h), arrays)
 
-    pub answer_accepted : (n : ℕ) → n ≡ refusal context count (take (node_cells * count) last) → n ≡ 0 → (Accepted context count ≡ columns_loaded columns (length held)) × Arrays columns held cells after last
-    answer_accepted n b h = (
-      rw (same_context columns held after x context count told is are, same_count columns held after x context count told is are) (columns_accepted columns (length held) (of_nodes ∙ sym b ∙ h)),
+    pub answer_accepted : refusal context count (take (node_cells * count) last) ≡ 0 → (Ok (record { context = context; count = count }) ≡ columns_loaded columns (length held)) × Arrays columns held cells after last
+    answer_accepted h = (
+      rw (same_context columns held after context count is are, same_count columns held after context count is are) (columns_accepted columns (length held) (of_nodes ∙ h)),
       arrays,
     )
 
@@ -260,7 +244,3 @@ accepted_columns columns lent e =
 
 pub part_enough : (n : ℕ) (held : List ℕ) → n ≤ length held → n ≤ length (take n held)
 part_enough n held h = let l = length-take-le n held h in omega arith
-
-pub is_restored : (count : ℕ) (held before after : List ℕ) → refusal19 count held ≡ false → (r : Bool) → RestoredIn count held before after r → after ≡ over (restored count held) before
-is_restored count held before after e true l = l.1
-is_restored count held before after e false l = true_not_false (sym l.0 ∙ e)

@@ -1,25 +1,26 @@
 // Rearranged files: the numbers of a tree file in columns, a form as its difference from the form before it and an operand as its distance from its owner.
 #![tactic(auto)]
 
-ghost use Rattle.std.specs.Prelude.{◌≡◌, false, ◌||◌, [], ◌∷◌, suc, ◌+◌, ◌*◌, ◌≤◌, ◌<◌, ltb, length, take};
+ghost use Rattle.std.specs.Prelude.{◌≡◌, false, ◌||◌, [], ◌∷◌, suc, ◌+◌, ◌*◌, ◌≤◌, ◌<◌, ◌^◌, ltb, length, take};
 ghost use Rattle.laws.specs.Lists.{over};
 ghost use Rattle.laws.specs.Puts.{Put};
 ghost use Rattle.tree.specs.Sizes.{node_cells, most_nodes};
 ghost use Rattle.tree.specs.Table.{attributes_column, detail_column, first_column, second_column, symbol_column};
-ghost use Rattle.tree_rules.specs.Refusals.{refusal4, Accepted};
-ghost use Rattle.file_loader.specs.declared.Loaded.TheVariants.{Accepted as Loads};
+ghost use Rattle.tree.specs.Replies.{replied};
+ghost use Rattle.tree_rules.specs.Refusals.{refusal, refusal4, Accepted};
 ghost use Rattle.file_loader.specs.Files.{count_in};
 ghost use Rattle.file_bytes.specs.Bytes.{all_bytes};
 ghost use Rattle.file_save.specs.Saves.{stored, stored_after};
-ghost use Rattle.file_columns.specs.Columns.{held_difference, held_operand, held_at, held_column, arranged, columns_of, column_at, rise, fall, restored_operand, operand_in, restored, most_restored, refusal19};
+ghost use Rattle.file_columns.specs.Columns.{held_difference, held_operand, held_at, held_column, arranged, columns_of, column_at, rise, fall, restored_operand, operand_in, most_restored};
 ghost use Rattle.file_columns.specs.Rearranged.{to_columns, to_columns_after, from_columns, from_columns_after, columns_loaded, columns_table};
 ghost use Rattle.file_columns.specs.Steps.{FewForms, Room, RestoredIn, Arrays};
 
-use file_loader::Loaded;
-use file_numbers::{Number, number_at};
-use file_save::Saved;
+use file_loader::{Header, Loaded};
+use file_save::{FEW_CELLS, MOST_CELLS, SOME_CELLS};
+use tree::refusal::Refusal;
 use tree::table::cell;
 use tree::{offsets, sizes};
+use tree_one_pass::check;
 
 // ---- from nodes to columns
 
@@ -69,11 +70,9 @@ fn put_column(cells: &[u16], count: u16, column: u16, held: &mut [u16], from: us
     ensures { Put held.old from (held_column count cells.now column) held.new result }
 {
     let mut at = from;
-    let mut node: u16 = 0;
-    while node < count {
+    for node in 0..count {
         held[at] = held_at(cells, node + 1, column);
         at += 1;
-        node += 1;
     }
     at
 }
@@ -174,26 +173,21 @@ fn put_node(held: &[u16], count: u16, index: u16, form: u16, cells: &mut [u16])
     cells[at + offsets::SYMBOL] = column_at(held, count, offsets::SYMBOL, index);
 }
 
-// The nodes over the start of the array; false where a form or an operand is outside.
-fn restore(held: &[u16], count: u16, cells: &mut [u16]) -> bool
+// The nodes over the start of the array, where no form or operand is outside.
+fn restore(held: &[u16], count: u16, cells: &mut [u16]) -> Result<(), Refusal>
     requires { (count ≤ most_nodes) × (node_cells * count ≤ length held.now) × (node_cells * count ≤ length cells.old) }
     ensures { RestoredIn count held.now cells.old cells.new result }
 {
     let mut form: u16 = 0;
-    let mut done: u16 = 0;
-    while done < count {
+    for done in 0..count {
         let difference = column_at(held, count, offsets::FORM, done);
-        if leaves(form, difference) {
-            return false;
-        }
-        if has_far_operand(held, count, done) {
-            return false;
+        if leaves(form, difference) || has_far_operand(held, count, done) {
+            return Err(Refusal::Columns);
         }
         form = moved(form, difference);
         put_node(held, count, done, form, cells);
-        done += 1;
     }
-    true
+    Ok(())
 }
 
 // ---- files
@@ -202,13 +196,10 @@ fn restore(held: &[u16], count: u16, cells: &mut [u16]) -> bool
 fn count_in(file: &[u8]) -> u16
     ensures { result ≡ count_in file.now }
 {
-    let Number::Value(_, second) = number_at(file, 0) else {
-        return 0;
-    };
-    let Number::Value(count, _) = number_at(file, second) else {
-        return 0;
-    };
-    count
+    match Header::read(file) {
+        Some(header) => header.count,
+        None => 0,
+    }
 }
 
 // An accepted table's columns into a buffer, by an array for their numbers.
@@ -218,7 +209,7 @@ fn store_columns(
     cells: &[u16],
     held: &mut [u16],
     columns: &mut [u8],
-) -> Saved
+) -> Result<u16, Refusal>
     requires { Accepted context count (take (node_cells * count) cells.now) × (node_cells * count ≤ length held.old) }
     ensures value { result ≡ stored (columns_of context count (take (node_cells * count) cells.now)) (length columns.old) }
     ensures columns_after { columns.new ≡ stored_after (columns_of context count (take (node_cells * count) cells.now)) (length columns.old) columns.old }
@@ -229,7 +220,7 @@ fn store_columns(
 }
 
 // An accepted table's file into a buffer, its nodes numbered as they are.
-fn store_nodes(context: u16, count: u16, cells: &[u16], file: &mut [u8]) -> Saved
+fn store_nodes(context: u16, count: u16, cells: &[u16], file: &mut [u8]) -> Result<u16, Refusal>
     requires { Accepted context count (take (node_cells * count) cells.now) }
     ensures value { result ≡ stored (all_bytes (context ∷ count ∷ take (node_cells * count) cells.now)) (length file.old) }
     ensures file_after { file.new ≡ stored_after (all_bytes (context ∷ count ∷ take (node_cells * count) cells.now)) (length file.old) file.old }
@@ -239,76 +230,81 @@ fn store_nodes(context: u16, count: u16, cells: &[u16], file: &mut [u8]) -> Save
 }
 
 // The nodes of a rearranged file, by two arrays, the first as long as the table that is lent for them: 1 to 5, 19, 6 to 11.
-fn restore_file(columns: &[u8], held: &mut [u16], cells: &mut [u16]) -> Loaded
+fn restore_file(columns: &[u8], held: &mut [u16], cells: &mut [u16]) -> Result<Loaded, Refusal>
     requires { length held.old ≤ length cells.old }
     ensures value { result ≡ columns_loaded columns.now (length held.old) }
     ensures arrays { Arrays columns.now held.old cells.old held.new cells.new }
 {
-    let reply = file_loader::load_numbers(columns, held);
-    let Loaded::Accepted(context, count) = reply else {
-        return reply;
-    };
-    let numbers = sizes::NODE_CELLS * (count as usize);
-    if !restore(&held[..numbers], count, cells) {
-        return Loaded::Refused(19);
-    }
-    let refused = tree_one_pass::check(context, count, &cells[..numbers]);
-    if refused != 0 {
-        return Loaded::Refused(refused);
-    }
-    Loaded::Accepted(context, count)
+    let loaded = file_loader::load_numbers(columns, held)?;
+    let numbers = sizes::NODE_CELLS * usize::from(loaded.count);
+    restore(&held[..numbers], loaded.count, cells)?;
+    check(loaded.context, loaded.count, &cells[..numbers])?;
+    Ok(loaded)
 }
 
 // A tree file to columns, by two arrays that are equally long.
-fn to_with(file: &[u8], cells: &mut [u16], held: &mut [u16], columns: &mut [u8]) -> Saved
+fn to_with(
+    file: &[u8],
+    cells: &mut [u16],
+    held: &mut [u16],
+    columns: &mut [u8],
+) -> Result<u16, Refusal>
     requires { Room file.now (length cells.old) × (length cells.old ≡ length held.old) }
     ensures value { result ≡ to_columns file.now (length columns.old) }
     ensures columns_after { columns.new ≡ to_columns_after file.now columns.old }
 {
-    match file_loader::load(file, cells) {
-        Loaded::Refused(refusal) => Saved::Refused(refusal),
-        Loaded::Accepted(context, count) => store_columns(context, count, cells, held, columns),
-    }
+    let loaded = file_loader::load(file, cells)?;
+    store_columns(loaded.context, loaded.count, cells, held, columns)
 }
 
 // And back.
-fn from_with(columns: &[u8], held: &mut [u16], cells: &mut [u16], file: &mut [u8]) -> Saved
+fn from_with(
+    columns: &[u8],
+    held: &mut [u16],
+    cells: &mut [u16],
+    file: &mut [u8],
+) -> Result<u16, Refusal>
     requires { Room columns.now (length held.old) × (length held.old ≡ length cells.old) }
     ensures value { result ≡ from_columns columns.now (length file.old) }
     ensures file_after { file.new ≡ from_columns_after columns.now file.old }
 {
-    match restore_file(columns, held, cells) {
-        Loaded::Refused(refusal) => Saved::Refused(refusal),
-        Loaded::Accepted(context, count) => store_nodes(context, count, cells, file),
-    }
+    let loaded = restore_file(columns, held, cells)?;
+    store_nodes(loaded.context, loaded.count, cells, file)
 }
 
-// Nodes that can be restored, into the lent table.
-fn lay_out(context: u16, count: u16, held: &[u16], table: &mut [u16]) -> Loaded
-    requires count_le_most_nodes { (count ≤ most_nodes) × (node_cells * count ≤ length held.now) × (node_cells * count ≤ length table.old) }
-    requires held_value { refusal19 count (take (node_cells * count) held.now) ≡ false }
-    ensures value { result ≡ Loads context count }
-    ensures table_after { table.new ≡ over (restored count (take (node_cells * count) held.now)) table.old }
+// The start of an array over that of the lent table.
+#[tactic(auto, unfolding(laws::specs::Lists::over))]
+fn copy(cells: &[u16], numbers: usize, table: &mut [u16])
+    requires own { numbers ≤ length cells.now }
+    requires lent { numbers ≤ length table.old }
+    ensures { table.new ≡ over (take numbers cells.now) table.old }
 {
-    let numbers = sizes::NODE_CELLS * (count as usize);
-    restore(&held[..numbers], count, table);
-    Loaded::Accepted(context, count)
+    table[..numbers].copy_from_slice(&cells[..numbers]);
 }
 
 // A rearranged file into a lent table, by two arrays, the first of them no better than the table for 4.
-fn load_in(columns: &[u8], held: &mut [u16], cells: &mut [u16], table: &mut [u16]) -> Loaded
+fn load_in(
+    columns: &[u8],
+    held: &mut [u16],
+    cells: &mut [u16],
+    table: &mut [u16],
+) -> Result<Loaded, Refusal>
     requires { (length held.old ≤ length cells.old) × (length held.old ≤ length table.old) × (refusal4 (count_in columns.now) (length held.old) ≡ refusal4 (count_in columns.now) (length table.old)) }
     ensures value { result ≡ columns_loaded columns.now (length table.old) }
     ensures table_after { table.new ≡ columns_table columns.now table.old }
 {
-    match restore_file(columns, held, cells) {
-        Loaded::Refused(refusal) => Loaded::Refused(refusal),
-        Loaded::Accepted(context, count) => lay_out(context, count, held, table),
-    }
+    let loaded = restore_file(columns, held, cells)?;
+    copy(cells, sizes::NODE_CELLS * usize::from(loaded.count), table);
+    Ok(loaded)
 }
 
 // The same by two arrays that are equally long: of the first no more is used than the table has.
-fn load_with(columns: &[u8], held: &mut [u16], cells: &mut [u16], table: &mut [u16]) -> Loaded
+fn load_with(
+    columns: &[u8],
+    held: &mut [u16],
+    cells: &mut [u16],
+    table: &mut [u16],
+) -> Result<Loaded, Refusal>
     requires { Room columns.now (length held.old) × (length held.old ≡ length cells.old) }
     ensures value { result ≡ columns_loaded columns.now (length table.old) }
     ensures table_after { table.new ≡ columns_table columns.now table.old }
@@ -322,136 +318,73 @@ fn load_with(columns: &[u8], held: &mut [u16], cells: &mut [u16], table: &mut [u
 
 // ---- arrays by the count: those for fewer than 64 nodes are quickly made, and those for fewer than 512 more quickly than those for all
 
-fn to_small(file: &[u8], columns: &mut [u8]) -> Saved
-    requires { count_in file.now < 64 }
+fn to_by<const CELLS: usize>(file: &[u8], columns: &mut [u8]) -> Result<u16, Refusal>
+    requires room { Room file.now CELLS }
+    requires small { CELLS < 2 ^ 20 }
     ensures value { result ≡ to_columns file.now (length columns.old) }
     ensures columns_after { columns.new ≡ to_columns_after file.now columns.old }
 {
-    let mut cells = [0u16; sizes::NODE_CELLS * 64];
-    let mut held = [0u16; sizes::NODE_CELLS * 64];
+    let mut cells = [0u16; CELLS];
+    let mut held = [0u16; CELLS];
     to_with(file, &mut cells, &mut held, columns)
 }
 
-fn to_medium(file: &[u8], columns: &mut [u8]) -> Saved
-    requires { count_in file.now < 512 }
-    ensures value { result ≡ to_columns file.now (length columns.old) }
-    ensures columns_after { columns.new ≡ to_columns_after file.now columns.old }
-{
-    let mut cells = [0u16; sizes::NODE_CELLS * 512];
-    let mut held = [0u16; sizes::NODE_CELLS * 512];
-    to_with(file, &mut cells, &mut held, columns)
-}
-
-fn to_large(file: &[u8], columns: &mut [u8]) -> Saved
-    ensures value { result ≡ to_columns file.now (length columns.old) }
-    ensures columns_after { columns.new ≡ to_columns_after file.now columns.old }
-{
-    let mut cells = [0u16; sizes::NODE_CELLS * (sizes::MOST_NODES as usize)];
-    let mut held = [0u16; sizes::NODE_CELLS * (sizes::MOST_NODES as usize)];
-    to_with(file, &mut cells, &mut held, columns)
-}
-
-fn from_small(columns: &[u8], file: &mut [u8]) -> Saved
-    requires { count_in columns.now < 64 }
+fn from_by<const CELLS: usize>(columns: &[u8], file: &mut [u8]) -> Result<u16, Refusal>
+    requires room { Room columns.now CELLS }
+    requires small { CELLS < 2 ^ 20 }
     ensures value { result ≡ from_columns columns.now (length file.old) }
     ensures file_after { file.new ≡ from_columns_after columns.now file.old }
 {
-    let mut held = [0u16; sizes::NODE_CELLS * 64];
-    let mut cells = [0u16; sizes::NODE_CELLS * 64];
+    let mut held = [0u16; CELLS];
+    let mut cells = [0u16; CELLS];
     from_with(columns, &mut held, &mut cells, file)
 }
 
-fn from_medium(columns: &[u8], file: &mut [u8]) -> Saved
-    requires { count_in columns.now < 512 }
-    ensures value { result ≡ from_columns columns.now (length file.old) }
-    ensures file_after { file.new ≡ from_columns_after columns.now file.old }
-{
-    let mut held = [0u16; sizes::NODE_CELLS * 512];
-    let mut cells = [0u16; sizes::NODE_CELLS * 512];
-    from_with(columns, &mut held, &mut cells, file)
-}
-
-fn from_large(columns: &[u8], file: &mut [u8]) -> Saved
-    ensures value { result ≡ from_columns columns.now (length file.old) }
-    ensures file_after { file.new ≡ from_columns_after columns.now file.old }
-{
-    let mut held = [0u16; sizes::NODE_CELLS * (sizes::MOST_NODES as usize)];
-    let mut cells = [0u16; sizes::NODE_CELLS * (sizes::MOST_NODES as usize)];
-    from_with(columns, &mut held, &mut cells, file)
-}
-
-fn load_small(columns: &[u8], table: &mut [u16]) -> Loaded
-    requires { count_in columns.now < 64 }
+fn load_by<const CELLS: usize>(columns: &[u8], table: &mut [u16]) -> Result<Loaded, Refusal>
+    requires room { Room columns.now CELLS }
+    requires small { CELLS < 2 ^ 20 }
     ensures value { result ≡ columns_loaded columns.now (length table.old) }
     ensures table_after { table.new ≡ columns_table columns.now table.old }
 {
-    let mut held = [0u16; sizes::NODE_CELLS * 64];
-    let mut cells = [0u16; sizes::NODE_CELLS * 64];
-    load_with(columns, &mut held, &mut cells, table)
-}
-
-fn load_medium(columns: &[u8], table: &mut [u16]) -> Loaded
-    requires { count_in columns.now < 512 }
-    ensures value { result ≡ columns_loaded columns.now (length table.old) }
-    ensures table_after { table.new ≡ columns_table columns.now table.old }
-{
-    let mut held = [0u16; sizes::NODE_CELLS * 512];
-    let mut cells = [0u16; sizes::NODE_CELLS * 512];
-    load_with(columns, &mut held, &mut cells, table)
-}
-
-fn load_large(columns: &[u8], table: &mut [u16]) -> Loaded
-    ensures value { result ≡ columns_loaded columns.now (length table.old) }
-    ensures table_after { table.new ≡ columns_table columns.now table.old }
-{
-    let mut held = [0u16; sizes::NODE_CELLS * (sizes::MOST_NODES as usize)];
-    let mut cells = [0u16; sizes::NODE_CELLS * (sizes::MOST_NODES as usize)];
+    let mut held = [0u16; CELLS];
+    let mut cells = [0u16; CELLS];
     load_with(columns, &mut held, &mut cells, table)
 }
 
 // ---- what callers get
 
 // A tree file's rearranged file in a lent buffer: how many bytes it has, or the first refusal that applies, 1 to 11 and then 12.
-pub fn to_columns(file: &[u8], columns: &mut [u8]) -> Saved
+pub fn to_columns(file: &[u8], columns: &mut [u8]) -> Result<u16, Refusal>
     ensures reply { result ≡ to_columns file.now (length columns.old) }
     ensures columns { columns.new ≡ to_columns_after file.now columns.old }
 {
-    let count = count_in(file);
-    if count < 64 {
-        return to_small(file, columns);
+    match count_in(file) {
+        0..=63 => to_by::<FEW_CELLS>(file, columns),
+        64..=511 => to_by::<SOME_CELLS>(file, columns),
+        _ => to_by::<MOST_CELLS>(file, columns),
     }
-    if count < 512 {
-        return to_medium(file, columns);
-    }
-    to_large(file, columns)
 }
 
 // A rearranged file's tree file in a lent buffer: how many bytes it has, or the first refusal that applies, 1 to 5, 19, 6 to 11 and then 12.
-pub fn from_columns(columns: &[u8], file: &mut [u8]) -> Saved
+pub fn from_columns(columns: &[u8], file: &mut [u8]) -> Result<u16, Refusal>
     ensures reply { result ≡ from_columns columns.now (length file.old) }
     ensures file { file.new ≡ from_columns_after columns.now file.old }
 {
-    let count = count_in(columns);
-    if count < 64 {
-        return from_small(columns, file);
+    match count_in(columns) {
+        0..=63 => from_by::<FEW_CELLS>(columns, file),
+        64..=511 => from_by::<SOME_CELLS>(columns, file),
+        _ => from_by::<MOST_CELLS>(columns, file),
     }
-    if count < 512 {
-        return from_medium(columns, file);
-    }
-    from_large(columns, file)
 }
 
 // A rearranged file into a lent table: the context and the count, or the first refusal that applies, 1 to 5, 19, 6 to 11.
-pub fn load_columns(columns: &[u8], table: &mut [u16]) -> Loaded
+pub fn load_columns(columns: &[u8], table: &mut [u16]) -> Result<Loaded, Refusal>
     ensures reply { result ≡ columns_loaded columns.now (length table.old) }
     ensures table { table.new ≡ columns_table columns.now table.old }
 {
-    let count = count_in(columns);
-    if count < 64 {
-        return load_small(columns, table);
+    match count_in(columns) {
+        0..=63 => load_by::<FEW_CELLS>(columns, table),
+        64..=511 => load_by::<SOME_CELLS>(columns, table),
+        _ => load_by::<MOST_CELLS>(columns, table),
     }
-    if count < 512 {
-        return load_medium(columns, table);
-    }
-    load_large(columns, table)
 }

@@ -21,8 +21,9 @@ use Rattle.file_bytes.specs.Bytes.{all_bytes}
 use Rattle.file_bytes.proofs.Below.{AllBelow, below_none, below_more}
 use Rattle.file_bytes.proofs.Files.{whole_numbers, whole_file}
 use Rattle.file_bytes.proofs.Whole as whole
-use Rattle.file_save.specs.declared.Saved.TheVariants.{Bytes}
-use Rattle.file_save.specs.Saves.{save_refusal12, stored, stored_after}
+use Rattle.std.specs.Prelude.{Ok}
+use Rattle.file_loader.proofs.Replied.{done_by}
+use Rattle.file_save.specs.Saves.{save_refusal12, stored_after}
 use Rattle.file_save.proofs.Putting.{whole_long}
 use Rattle.file_save.proofs.Small.{Small}
 use Rattle.file_order.specs.Orders.{most_cells, checks_of}
@@ -42,12 +43,12 @@ use Rattle.file_columns_laws.proofs.Lengths.{numbers_no_longer}
 
 -- bytes into a buffer with room for them
 module _ (R : ℕ) (fine : R ≡ 0) (bytes buffer : List ℕ) (room : length bytes ≤ length buffer) where
-  given : (answered R bytes (length buffer) ≡ Bytes (length bytes)) × (answered_after R bytes buffer ≡ over bytes buffer)
-  unfolding answered answered_after stored stored_after save_refusal12
+  given : (answered R bytes (length buffer) ≡ Ok (length bytes)) × (answered_after R bytes buffer ≡ over bytes buffer)
+  unfolding answered answered_after stored_after save_refusal12
   given =
       let z = eq-eqb R 0 fine in
       let r = le-ltb (length buffer) (length bytes) room in
-      (pick_true _ _ z ∙ pick_false _ _ r, pick_true _ _ z ∙ pick_false _ _ r)
+      (sym (done_by _ _ (pick_true _ _ z ∙ skip _ _ r ∙ no_more)), pick_true _ _ z ∙ pick_false _ _ r)
 
 -- ---- an accepted table: its tree file and its rearranged file
 
@@ -196,12 +197,12 @@ module _ (context count : ℕ) (cells : List ℕ) (ok : Accepted context count c
   is_file = rw (columns_context, columns_count, restored_cells)
 
   pub there : (buffer : List ℕ) → length (columns_of context count cells) ≤ length buffer
-      → (to_columns tree (length buffer) ≡ Bytes (length (columns_of context count cells))) × (to_columns_after tree buffer ≡ over (columns_of context count cells) buffer)
+      → (to_columns tree (length buffer) ≡ Ok (length (columns_of context count cells))) × (to_columns_after tree buffer ≡ over (columns_of context count cells) buffer)
   unfolding to_columns to_columns_after checks_of
   there buffer room = rw is_columns (given (file_refusal tree most_cells) (tree_refusal most_cells ∙ room_4) (columns_of context count cells) buffer room)
 
   pub back : (buffer : List ℕ) → length tree ≤ length buffer
-      → (from_columns (columns_of context count cells) (length buffer) ≡ Bytes (length tree)) × (from_columns_after (columns_of context count cells) buffer ≡ over tree buffer)
+      → (from_columns (columns_of context count cells) (length buffer) ≡ Ok (length tree)) × (from_columns_after (columns_of context count cells) buffer ≡ over tree buffer)
   unfolding from_columns from_columns_after
   back buffer room = rw is_file (given (columns_refusal (columns_of context count cells) most_cells) (columns_refusal_lem most_cells ∙ room_4) tree buffer room)
 

@@ -1,5 +1,5 @@
 -- The refusal of a file, step by step. Assumes nothing.
-use mathlib.Core.Path.{◌≡◌, refl, sym, ap, ◌∙◌}
+use mathlib.Core.Path.{◌≡◌, refl, sym, ◌∙◌}
 use mathlib.Core.Bool.{true, false}
 use mathlib.Core.List.{List, [], ◌∷◌}
 use Prim.Native.Nat.{ℕ, suc, ◌*◌, ◌-◌, ◌≤◌, ◌<◌}
@@ -8,23 +8,27 @@ use native.Mathlib.Decide.{dec_le}
 use lib.Dec.{ltb}
 use lib.ListN.{length, take, drop, length-drop}
 use borrow.Author.Tests.{eq-eqb, ne_eqb, lt-ltb, le-ltb, ltb-false}
+use Rattle.laws.specs.Choice.{pick}
 use Rattle.laws.specs.Lists.{over}
 use Rattle.laws.proofs.Choice.{pick_true, pick_false, true_not_false, or_false}
 use Rattle.tree.specs.Sizes.{node_cells, most_nodes, most_file_bytes}
 use Rattle.tree_rules.specs.Refusals.{refusal3, refusal4, Refusal, refuse, first_of, node_refusals, refusal, Accepted as Table}
 use Rattle.tree_rules.proofs.First.{stop, skip, no_more, passed}
 use Rattle.tree_rules.proofs.Count.{count_fits, fits_count}
-use Rattle.file_loader.specs.declared.Loaded.TheVariants.{Refused, Accepted}
+use Rattle.std.specs.Prelude.{None, Some, Ok, Err}
+use Rattle.tree.specs.declared.refusal.Refusal.{Refusal as Refused}
+use Rattle.tree.specs.Replies.{number_of, replied}
 use Rattle.file_loader.specs.Several.{Numbers, broken, numbers, numbers_of, is_broken, values_in, bytes_after}
-use Rattle.file_loader.specs.Files.{header, context_in, count_in, body, cells_in, refusal1, refusal2, bad_body, refusal5, number_refusals, file_refusal, loaded, loaded_table, numbers_refusal, numbers_loaded, numbers_table}
-use Rattle.tree_source.specs.Source.{behind_header, cells_of}
+use Rattle.file_loader.specs.Files.{header, header_in, context_in, count_in, body, cells_in, refusal1, refusal2, bad_body, refusal5, number_refusals, file_refusal, loaded, loaded_table, numbers_refusal, numbers_loaded, numbers_table}
+use Rattle.tree_source.specs.Source.{behind_header, cells_of, skip as past}
+use Rattle.tree_source.proofs.Nodes.{is_value}
+use Rattle.file_numbers.specs.Standing.{stands_at}
 use Rattle.tree_source.proofs.Cells.{cells_file}
 use Rattle.file_loader.specs.declared.Header.{Header}
-use Rattle.file_loader.specs.declared.Header.TheVariants.{Read}
-use Rattle.file_loader.specs.declared.Body.{Body}
-use Rattle.file_loader.specs.declared.Body.TheVariants.{End}
-use Rattle.file_loader.specs.Reads.{HeaderRead, Passed, LaidOut, Begun, Counted, body_refusal}
-use Rattle.file_loader.proofs.Several.{numbers_length, some_left}
+use Rattle.file_loader.specs.declared.Loaded.{Loaded}
+use Rattle.file_loader.specs.Reads.{Passed, LaidOut, Begun, Headed, Counted, body_refusal}
+use Rattle.file_loader.proofs.Replied.{refused_by, done_by, said_err}
+use Rattle.file_loader.proofs.Several.{number_bad, numbers_next, numbers_stop, numbers_length, some_left}
 
 -- the first of 6 to 11, where 3 and 4 do not apply
 pub nodes_refusal : (context count : ℕ) (cells : List ℕ) → context ≤ 3 → refusal4 count (length cells) ≡ false → refusal context count cells ≡ first_of (node_refusals count cells)
@@ -34,17 +38,23 @@ nodes_refusal context count cells h e = skip _ _ (le-ltb 3 context h) ∙ skip _
 -- ---- what is answered and stored
 
 module _ (file table : List ℕ) where
-  pub numbers_refused : (n : ℕ) → numbers_refusal file (length table) ≡ n → (n ≡ 0 → ⊥) → (Refused n ≡ numbers_loaded file (length table)) × (table ≡ numbers_table file table)
+  pub numbers_refused : (e : Refused) → numbers_refusal file (length table) ≡ number_of e → (Err e ≡ numbers_loaded file (length table)) × (table ≡ numbers_table file table)
   unfolding numbers_loaded numbers_table
-  numbers_refused n e h = rw e (sym (pick_false _ _ (ne_eqb n 0 h)), sym (pick_false _ _ (ne_eqb n 0 h)))
+  numbers_refused e h =
+      let r : Err e ≡ replied (numbers_refusal file (length table)) (record { context = context_in file; count = count_in file }) = refused_by _ e _ h in
+      (r, sym (pick_false _ _ (ne_eqb _ 0 (said_err Loaded _ _ (record { context = 0; count = 0 }) e r).1)))
 
-  pub refused : (n : ℕ) → file_refusal file (length table) ≡ n → (n ≡ 0 → ⊥) → (Refused n ≡ loaded file (length table)) × (table ≡ loaded_table file table)
+  pub refused : {B : Type 0} (b : B) (e : Refused) → Err e ≡ replied (file_refusal file (length table)) b → (Err e ≡ loaded file (length table)) × (table ≡ loaded_table file table)
   unfolding loaded loaded_table
-  refused n e h = rw e (sym (pick_false _ _ (ne_eqb n 0 h)), sym (pick_false _ _ (ne_eqb n 0 h)))
+  refused b e h = let s = said_err Loaded _ _ _ e h in (s.0, sym (pick_false _ _ (ne_eqb _ 0 s.1)))
 
-  accepted : file_refusal file (length table) ≡ 0 → (Accepted (context_in file) (count_in file) ≡ loaded file (length table)) × (over (cells_in file) table ≡ loaded_table file table)
+  accepted : file_refusal file (length table) ≡ 0 → (Ok (record { context = context_in file; count = count_in file }) ≡ loaded file (length table)) × (over (cells_in file) table ≡ loaded_table file table)
   unfolding loaded loaded_table
-  accepted e = (sym (pick_true _ _ (eq-eqb _ 0 e)), sym (pick_true _ _ (eq-eqb _ 0 e)))
+  accepted e = (done_by _ _ e, sym (pick_true _ _ (eq-eqb _ 0 e)))
+
+  numbers_accepted : numbers_refusal file (length table) ≡ 0 → Ok (record { context = context_in file; count = count_in file }) ≡ numbers_loaded file (length table)
+  unfolding numbers_loaded
+  numbers_accepted e = done_by _ _ e
 
 -- ---- the header
 
@@ -65,8 +75,33 @@ pub begun : (file : List ℕ) (context count at : ℕ) → length file ≤ most_
 unfolding refusal1 refusal2 context_in count_in body is_broken values_in bytes_after
 begun file context count at h e = record { short = le-ltb most_file_bytes (length file) h; formed = rw e; is_context = rw e; is_count = rw e; is_body = rw e }
 
-pub header_begun : (file : List ℕ) (x : Header) (context count at : ℕ) → x ≡ Read context count at → length file ≤ most_file_bytes → HeaderRead file x → Begun file context count at
-header_begun file x context count at z h e = let r = rw z at e in begun file context count at h r.0
+-- its two numbers, as they stand
+pub header_first : (file : List ℕ) → None ≡ stands_at file 0 → header file ≡ broken
+unfolding header numbers_of
+header_first file e = numbers_stop 0 2 _ [] _ (omega arith) refl (number_bad _ 0 e)
+
+module _ (file : List ℕ) (context second : ℕ) (e : Some (context, second) ≡ stands_at file 0) where
+  one : numbers_of 1 file ≡ numbers (context ∷ []) (drop second file)
+  unfolding numbers_of
+  one = numbers_next 0 _ [] _ 0 _ _ refl e
+
+  pub header_second : None ≡ stands_at file second → header file ≡ broken
+  unfolding header
+  header_second f = numbers_stop 1 2 _ _ _ (omega arith) one (number_bad _ _ f)
+
+  pub header_both : (count at : ℕ) → Some (count, at) ≡ stands_at file second → (header file ≡ numbers (context ∷ count ∷ []) (drop at file)) × (at ≡ behind_header file)
+  unfolding header behind_header past
+  header_both count at f = (numbers_next 1 _ _ _ _ _ _ one f, (is_value _ _ _ _ f).1 ∙ rw (is_value _ _ _ _ e).1)
+
+-- what a reader of the header answers
+pub header_none : (file : List ℕ) → header file ≡ broken → None ≡ header_in file
+unfolding header_in is_broken pick
+header_none file e = rw e
+
+pub header_some : (file : List ℕ) (context count at : ℕ) → header file ≡ numbers (context ∷ count ∷ []) (drop at file) → at ≡ behind_header file
+    → Some (record { context = context; count = count; body = at }) ≡ header_in file
+unfolding header_in is_broken pick context_in count_in values_in
+header_some file context count at e s = rw (e, s)
 
 -- ---- the nodes
 
@@ -145,34 +180,31 @@ pub five_formed : (ns : Numbers) → bad_body ns ≡ false → is_broken ns ≡ 
 unfolding bad_body
 five_formed ns e = (or_false (is_broken ns) _ e).0
 
-pub ended_body : (file : List ℕ) (from n : ℕ) (x : Body) (end : ℕ) → x ≡ End end → Passed file from n x → ltb end (length file) ≡ bad_body (numbers_of n (drop from file))
+pub ended_body : (file : List ℕ) (from n : ℕ) (end : ℕ) → Passed file from n (Some end) → ltb end (length file) ≡ bad_body (numbers_of n (drop from file))
 unfolding bad_body is_broken bytes_after
-ended_body file from n x end z h =
-    let e = rw z at h in
-    rw (e, length-drop end file) (go (dec_le (length file) end))
+ended_body file from n end e = rw (e, length-drop end file) (go (dec_le (length file) end))
   where
     go : Dec (length file ≤ end) → ltb end (length file) ≡ ltb 0 (length file - end)
     go (yes l) = le-ltb end (length file) l ∙ sym (le-ltb 0 (length file - end) (omega arith))
     go (no l) = lt-ltb end (length file) (omega arith) ∙ sym (lt-ltb 0 (length file - end) (omega arith))
 
 -- what is known where the nodes are looked at
-pub to_body : (file : List ℕ) (lent context count at : ℕ) → Begun file context count at → at ≡ behind_header file → context ≤ 3 → refusal4 count lent ≡ false → Counted file context count at
-to_body file lent context count at b s ok fits = let f = count_fits count lent fits in record { begun = b; is_start = s; ok = ok; low = f.0; high = f.1 }
+pub to_body : (file : List ℕ) (lent : ℕ) (h : Header) → Headed file lent h → Counted file h.context h.count h.body
+to_body file lent h s = let f = count_fits h.count lent s.fits in record { begun = s.begun; is_start = s.is_start; ok = s.ok; low = f.0; high = f.1 }
 
 -- the cells of the file, where its nodes have been laid out
-pub laid_cells : (file : List ℕ) (context count at : ℕ) → Counted file context count at → (places : List ℕ) (x : Body) (end : ℕ) → x ≡ End end → LaidOut file at (count - 1) places x
+pub laid_cells : (file : List ℕ) (context count at : ℕ) → Counted file context count at → (places : List ℕ) (end : ℕ) → LaidOut file at (count - 1) places (Some end)
     → numbers_of (node_cells * count) (drop at file) ≡ numbers (cells_of file (take (count - 1) places)) (drop end file)
-laid_cells file context count at b places x end z h =
+laid_cells file context count at b places end e =
     let low = b.low in
     let n : suc (count - 1) ≡ count = omega arith in
-    let e = rw z at h in
     let l = some_left (node_cells * suc (count - 1)) at file _ _ (omega arith) e in
     (rw n at e) ∙ rw (cells_file file (take (count - 1) places) (λ z. omega arith), ← b.is_start)
 
 -- the answer once all the numbers are read and checked
 module _ (file table : List ℕ) (context count at : ℕ) (b : Begun file context count at) (ok : context ≤ 3) (fits : refusal4 count (length table) ≡ false)
     (cells : List ℕ) (end : ℕ) (read : numbers_of (node_cells * count) (drop at file) ≡ numbers cells (drop end file)) (all : length file ≤ end) where
-  pub accepted_nodes : 0 ≡ refusal context count cells → (Accepted context count ≡ loaded file (length table)) × (over cells table ≡ loaded_table file table)
+  pub accepted_nodes : 0 ≡ refusal context count cells → (Ok (record { context = context; count = count }) ≡ loaded file (length table)) × (over cells table ≡ loaded_table file table)
   accepted_nodes e =
       let f = count_fits count (length table) fits in
       let a = accepted file table (after_count file (length table) context count at b ok fits ∙ checked file context count at b cells end read ok f.0 f.1 all ∙ sym e) in
@@ -238,32 +270,19 @@ pub accepted_file : (file : List ℕ) (lent : ℕ) → file_refusal file lent �
 accepted_file file lent e = (accepted_cells file lent e).2
 
 -- what is stored of it, once its header is read again
-module _ (file : List ℕ) (lent : ℕ) (e : file_refusal file lent ≡ 0) where
-  pub no_bad_header : header file ≡ broken → ⊥
-  unfolding refusal2 is_broken
-  no_bad_header h = true_not_false (sym (ap is_broken h) ∙ (file_passes file lent e).0.headed)
+module _ (file : List ℕ) (lent : ℕ) (e : file_refusal file lent ≡ 0) (context count at : ℕ) (b : Begun file context count at) where
+  pub stored_room : node_cells * count ≤ lent
+  stored_room = rw b.is_count at (count_fits (count_in file) lent (file_passes file lent e).0.fits).2
 
-  module _ (context count at : ℕ) (h : header file ≡ numbers (context ∷ count ∷ []) (drop at file)) where
-    b : Begun file context count at
-    b = begun file context count at (file_passes file lent e).0.short h
+  pub stored_formed : is_broken (numbers_of (node_cells * count) (drop at file)) ≡ false
+  stored_formed = rw b.is_body at (file_passes file lent e).0.formed
 
-    pub stored_room : node_cells * count ≤ lent
-    stored_room = rw b.is_count at (count_fits (count_in file) lent (file_passes file lent e).0.fits).2
+module _ (file table : List ℕ) (context count at : ℕ) (b : Begun file context count at) where
+  pub stored : file_refusal file (length table) ≡ 0 → (Ok (record { context = context; count = count }) ≡ loaded file (length table)) × (over (values_in (numbers_of (node_cells * count) (drop at file))) table ≡ loaded_table file table)
+  unfolding cells_in
+  stored e = let r = accepted file table e in (rw (b.is_context, b.is_count) at r.0, rw b.is_body at r.1)
 
-    pub stored_formed : is_broken (numbers_of (node_cells * count) (drop at file)) ≡ false
-    stored_formed = rw b.is_body at (file_passes file lent e).0.formed
-
-pub stored : (file table : List ℕ) (context count at : ℕ) → file_refusal file (length table) ≡ 0 → header file ≡ numbers (context ∷ count ∷ []) (drop at file)
-    → (Accepted context count ≡ loaded file (length table)) × (over (values_in (numbers_of (node_cells * count) (drop at file))) table ≡ loaded_table file table)
-unfolding cells_in
-stored file table context count at e h =
-    let r = accepted file table e in
-    let b = begun file context count at (file_passes file (length table) e).0.short h in
-    (rw (b.is_context, b.is_count) at r.0, rw b.is_body at r.1)
-
--- the same of its numbers alone
-pub numbers_stored : (file table : List ℕ) (context count at : ℕ) → Begun file context count at → numbers_refusal file (length table) ≡ 0
-    → (Accepted context count ≡ numbers_loaded file (length table)) × (over (values_in (numbers_of (node_cells * count) (drop at file))) table ≡ numbers_table file table)
-unfolding numbers_loaded numbers_table cells_in
-numbers_stored file table context count at b e =
-    (sym (pick_true _ _ (eq-eqb _ 0 e) ∙ rw (b.is_context, b.is_count)), rw (← b.is_body) (sym (pick_true _ _ (eq-eqb _ 0 e))))
+  -- the same of its numbers alone
+  pub numbers_stored : numbers_refusal file (length table) ≡ 0 → (Ok (record { context = context; count = count }) ≡ numbers_loaded file (length table)) × (over (values_in (numbers_of (node_cells * count) (drop at file))) table ≡ numbers_table file table)
+  unfolding numbers_table cells_in
+  numbers_stored e = (rw (b.is_context, b.is_count) at (numbers_accepted file table e), rw (← b.is_body) (sym (pick_true _ _ (eq-eqb _ 0 e))))

@@ -3,3 +3,4 @@ pub mod Quick
 pub mod Storing
 pub mod Files
 pub mod Loading
+pub mod Replied

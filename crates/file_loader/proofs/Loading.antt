@@ -1,33 +1,27 @@
 -- What an accepted file leaves in the lent table. Assumes nothing.
-use mathlib.Core.Path.{◌≡◌, refl}
-use mathlib.Core.Bool.{Bool, true, false}
+use mathlib.Core.Path.{◌≡◌, ap}
 use mathlib.Core.List.{List}
 use Prim.Native.Nat.{ℕ, ◌*◌, ◌≤◌}
 use native.Mathlib.Omega.{arith}
-use lib.Dec.{eqb}
 use lib.ListN.{length, take}
 use lib.Seq.{take_at}
-use borrow.Author.Tests.{eq-eqb, eqb-true}
-use Rattle.laws.specs.Choice.{pick}
+use borrow.Author.Tests.{eq-eqb}
 use Rattle.laws.specs.Lists.{over}
 use Rattle.laws.proofs.Choice.{pick_true}
 use Rattle.laws.proofs.Lists.{length_over}
 use Rattle.tree.specs.Sizes.{node_cells, most_nodes}
 use Rattle.tree_rules.specs.Refusals.{refusal}
-use Rattle.file_loader.specs.declared.Loaded.TheVariants.{Refused, Accepted}
+use Rattle.std.specs.Prelude.{Ok}
+use Rattle.file_loader.proofs.Replied.{said_ok}
 use Rattle.file_loader.specs.Files.{context_in, count_in, cells_in, file_refusal, loaded, loaded_table}
 use Rattle.file_loader.proofs.Files.{accepted_cells}
 
 -- an accepted file's context and count
-pub are_header : (file : List ℕ) (lent context count : ℕ) → Accepted context count ≡ loaded file lent → (file_refusal file lent ≡ 0) × (context ≡ context_in file) × (count ≡ count_in file)
-unfolding loaded pick
-are_header file lent context count e = go (eqb (file_refusal file lent) 0) refl e
-  where
-    go : (b : Bool) → eqb (file_refusal file lent) 0 ≡ b → Accepted context count ≡ pick b (Accepted (context_in file) (count_in file)) (Refused (file_refusal file lent)) → (file_refusal file lent ≡ 0) × (context ≡ context_in file) × (count ≡ count_in file)
-    go true p q = (eqb-true _ 0 p, cc, cc)
-    go false p q = absurd (let z : ◌≡◌ {A = ℕ} 0 1 = cc in omega arith)
+pub are_header : (file : List ℕ) (lent context count : ℕ) → Ok (record { context = context; count = count }) ≡ loaded file lent → (file_refusal file lent ≡ 0) × (context ≡ context_in file) × (count ≡ count_in file)
+unfolding loaded
+are_header file lent context count e = let s = said_ok _ _ _ e in (s.0, ap (λ l. l.context) s.1, ap (λ l. l.count) s.1)
 
-module _ (file table : List ℕ) (context count : ℕ) (e : Accepted context count ≡ loaded file (length table)) (room : node_cells * most_nodes ≤ length table) where
+module _ (file table : List ℕ) (context count : ℕ) (e : Ok (record { context = context; count = count }) ≡ loaded file (length table)) (room : node_cells * most_nodes ≤ length table) where
   parts : (count ≤ most_nodes) × (length (cells_in file) ≡ node_cells * count) × (refusal context count (cells_in file) ≡ 0)
   parts =
       let h = are_header file (length table) context count e in

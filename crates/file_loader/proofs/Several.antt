@@ -9,21 +9,19 @@ use lib.Seq.{drop-drop}
 use borrow.Author.Tests.{leb-false}
 use Rattle.laws.proofs.Choice.{pick_true, pick_false, or_false, true_not_false}
 use Rattle.tree.specs.Sizes.{node_cells}
-use Rattle.file_numbers.specs.declared.Number.TheVariants.{Malformed, Value}
+use Rattle.std.specs.Prelude.{None, Some}
 use Rattle.file_numbers.specs.Numbers.{followed, value_of, rest_of, malformed}
 use Rattle.file_numbers.specs.Standing.{stands_at}
-use Rattle.tree_source.specs.Source.{skip, run, runs}
+use Rattle.tree_source.specs.Source.{value_in, next_in, skip, run, runs}
 use Rattle.tree_source.proofs.Cells.{skip_more, run_more, runs_more}
 use Rattle.tree_source.proofs.Nodes.{is_value}
-use Rattle.file_loader.specs.declared.Body.{Body}
-use Rattle.file_loader.specs.declared.Body.TheVariants.{End}
 use Rattle.file_loader.specs.Reads.{Passed}
 use Rattle.file_loader.specs.Several.{Numbers, broken, numbers, prepend, numbers_of, is_broken}
 
 -- ---- what stands at a place
 
 module _ (file : List ℕ) (at : ℕ) where
-  pub number_bad : Malformed ≡ stands_at file at → malformed (drop at file) ≡ true
+  pub number_bad : None ≡ stands_at file at → malformed (drop at file) ≡ true
   unfolding stands_at
   number_bad e = go (malformed (drop at file)) refl
     where
@@ -37,16 +35,16 @@ module _ (file : List ℕ) (at : ℕ) where
     pub value : value_of (drop at file) ≡ v
     pub rest : rest_of (drop at file) ≡ drop next file
 
-  pub number_good : (v next : ℕ) → Value v next ≡ stands_at file at → Stands v next
-  unfolding stands_at rest_of
+  pub number_good : (v next : ℕ) → Some (v, next) ≡ stands_at file at → Stands v next
+  unfolding stands_at rest_of value_in next_in
   number_good v next e = go (malformed (drop at file)) refl
     where
       go : (b : Bool) → malformed (drop at file) ≡ b → Stands v next
       go true h = absurd (let q = e ∙ pick_true _ _ h in let z : ◌≡◌ {A = ℕ} 0 1 = cc in omega arith)
       go false h =
           let q = e ∙ pick_false _ _ h in
-          let n : next ≡ at + suc (followed (drop at file)) = cc in
-          record { formed = h; value = cc; rest = drop-drop (suc (followed (drop at file))) at file ∙ rw (← n) }
+          let n : next ≡ at + suc (followed (drop at file)) = ap next_in q in
+          record { formed = h; value = sym (ap value_in q); rest = drop-drop (suc (followed (drop at file))) at file ∙ rw (← n) }
 
 -- ---- one number more
 
@@ -88,7 +86,7 @@ numbers_more (suc k) bytes vs r e h = go (apart k bytes vs r e) (λ ws p. number
     go (taken ws m p q) ih = one_more (suc k) bytes m ∙ rw (ih ws p, q)
 
 -- after k numbers the one that stands at the place after them
-pub numbers_next : (k : ℕ) (bytes vs file : List ℕ) (at v next : ℕ) → numbers_of k bytes ≡ numbers vs (drop at file) → Value v next ≡ stands_at file at → numbers_of (suc k) bytes ≡ numbers (vs ++ v ∷ []) (drop next file)
+pub numbers_next : (k : ℕ) (bytes vs file : List ℕ) (at v next : ℕ) → numbers_of k bytes ≡ numbers vs (drop at file) → Some (v, next) ≡ stands_at file at → numbers_of (suc k) bytes ≡ numbers (vs ++ v ∷ []) (drop next file)
 numbers_next k bytes vs file at v next e n =
     let s = number_good file at v next n in
     numbers_more k bytes vs (drop at file) e s.formed ∙ rw (s.value, s.rest)
@@ -173,21 +171,21 @@ pub read_none : (file : List ℕ) (from : ℕ) → ReadTo 0 file from from
 unfolding numbers_of run skip
 read_none file from = (refl, refl)
 
-pub read_next : (k : ℕ) (file : List ℕ) (from at v next : ℕ) → ReadTo k file from at → Value v next ≡ stands_at file at → ReadTo (suc k) file from next
+pub read_next : (k : ℕ) (file : List ℕ) (from at v next : ℕ) → ReadTo k file from at → Some (v, next) ≡ stands_at file at → ReadTo (suc k) file from next
 read_next k file from at v next r n =
     let i = is_value file at v next n in (
       numbers_next k (drop from file) (run k file from) file at v next r.0 n ∙ rw (run_more k file from, ← r.1, ← i.0),
       i.1 ∙ rw (skip_more k file from, ← r.1),
     )
 
-pub read_stop : (k n : ℕ) (file : List ℕ) (from at : ℕ) → k < n → ReadTo k file from at → Malformed ≡ stands_at file at → numbers_of n (drop from file) ≡ broken
+pub read_stop : (k n : ℕ) (file : List ℕ) (from at : ℕ) → k < n → ReadTo k file from at → None ≡ stands_at file at → numbers_of n (drop from file) ≡ broken
 read_stop k n file from at l r e = numbers_stop k n (drop from file) _ _ l r.0 (number_bad file at e)
 
 -- one node more
-pub runs_next : (k : ℕ) (file : List ℕ) (from at : ℕ) (places : List ℕ) (x : Body) (next : ℕ) → x ≡ End next → numbers_of (node_cells * suc k) (drop from file) ≡ numbers (runs file (from ∷ places)) (drop at file)
-    → Passed file at node_cells x → numbers_of (node_cells * suc (suc k)) (drop from file) ≡ numbers (runs file (from ∷ places ++ at ∷ [])) (drop next file)
-runs_next k file from at places x next z e f =
-    numbers_append (node_cells * suc k) node_cells (node_cells * suc (suc k)) (drop from file) _ (drop at file) _ (drop next file) (omega arith) e (rw z at f)
+pub runs_next : (k : ℕ) (file : List ℕ) (from at : ℕ) (places : List ℕ) (next : ℕ) → numbers_of (node_cells * suc k) (drop from file) ≡ numbers (runs file (from ∷ places)) (drop at file)
+    → Passed file at node_cells (Some next) → numbers_of (node_cells * suc (suc k)) (drop from file) ≡ numbers (runs file (from ∷ places ++ at ∷ [])) (drop next file)
+runs_next k file from at places next e f =
+    numbers_append (node_cells * suc k) node_cells (node_cells * suc (suc k)) (drop from file) _ (drop at file) _ (drop next file) (omega arith) e f
     ∙ rw (runs_more file (from ∷ places) at)
 
 -- the first node
@@ -196,9 +194,6 @@ unfolding runs
 runs_first file from places r e = e ∙ rw (append-nil (run node_cells file from))
 
 -- ---- what the steps answer
-
-pub passed_end : (file : List ℕ) (from n : ℕ) (x : Body) (next : ℕ) → x ≡ End next → Passed file from n x → numbers_of n (drop from file) ≡ numbers (run n file from) (drop next file)
-passed_end file from n x next e h = rw e at h
 
 pub not_broken : {A : Type 0} (x : Numbers) → is_broken x ≡ false → x ≡ broken → A
 unfolding is_broken

@@ -15,7 +15,7 @@ use Rattle.tree.specs.Sizes.{node_cells}
 use Rattle.tree.specs.Table.{attributes_column, detail_column, first_column, second_column, symbol_column}
 use Rattle.tree_source.specs.Source.{run}
 use Rattle.tree_source.proofs.Nodes.{is_value}
-use Rattle.file_numbers.specs.declared.Number.TheVariants.{Malformed, Value}
+use Rattle.std.specs.Prelude.{None, Some}
 use Rattle.file_numbers.specs.Numbers.{malformed}
 use Rattle.file_numbers.specs.Standing.{stands_at}
 use Rattle.file_numbers.proofs.Groups.{nothing_left, cut_after_one, zero_second, two_bytes, cut_after_two, zero_third, high_third, three_bytes}
@@ -26,7 +26,7 @@ use Rattle.file_loader.proofs.Several.{ReadTo, number_bad, numbers_stop, numbers
 -- ---- a number that is well formed: what `known_at` does not ask
 
 module _ (file : List ℕ) (at : ℕ) (formed : malformed (drop at file) ≡ false) where
-  never : {A : Type 0} → Malformed ≡ stands_at file at → A
+  never : {A : Type 0} → None ≡ stands_at file at → A
   never e = true_not_false (sym (number_bad file at e) ∙ formed)
 
   pub one_left : at < length file
@@ -45,7 +45,7 @@ module _ (file : List ℕ) (at : ℕ) (formed : malformed (drop at file) ≡ fal
         go (no h) = never (cut_after_one file at low is_low one_left on low_byte (omega arith))
 
     module _ (middle : ℕ) (is_middle : middle ≡ get_or file (at + 1) 0) where
-      pub known_two : middle < 128 → Value (low - 128 + 128 * middle) (at + 2) ≡ stands_at file at
+      pub known_two : middle < 128 → Some (low - 128 + 128 * middle, at + 2) ≡ stands_at file at
       known_two h = two_bytes file at low is_low one_left on low_byte middle is_middle two_left (λ z. never (zero_second file at low is_low one_left on low_byte middle is_middle two_left z)) h
 
       module _ (on' : 128 ≤ middle) (middle_byte : middle < 256) where
@@ -64,7 +64,7 @@ module _ (file : List ℕ) (at : ℕ) (formed : malformed (drop at file) ≡ fal
               go (yes h) = h
               go (no h) = never (high_third file at low is_low one_left on low_byte middle is_middle two_left on' middle_byte high is_high three_left (omega arith))
 
-          pub known_three : Value (low - 128 + 128 * (middle - 128) + 16384 * high) (at + 3) ≡ stands_at file at
+          pub known_three : Some (low - 128 + 128 * (middle - 128) + 16384 * high, at + 3) ≡ stands_at file at
           known_three =
               three_bytes file at low is_low one_left on low_byte middle is_middle two_left on' middle_byte high is_high three_left
               (λ z. never (zero_third file at low is_low one_left on low_byte middle is_middle two_left on' middle_byte high is_high three_left z))
@@ -88,8 +88,8 @@ put_six before at a b c d e f = record { cells = simp towards_suc; ends = refl; 
 
 -- those that were read one after the other
 module _ (file : List ℕ) (at : ℕ) (table : List ℕ) (cell : ℕ) where
-  pub put_node : (a b : ℕ) → Value a b ≡ stands_at file at → (c d : ℕ) → Value c d ≡ stands_at file b → (e f : ℕ) → Value e f ≡ stands_at file d → (g h : ℕ) → Value g h ≡ stands_at file f
-      → (i j : ℕ) → Value i j ≡ stands_at file h → (k l : ℕ) → Value k l ≡ stands_at file j
+  pub put_node : (a b : ℕ) → Some (a, b) ≡ stands_at file at → (c d : ℕ) → Some (c, d) ≡ stands_at file b → (e f : ℕ) → Some (e, f) ≡ stands_at file d → (g h : ℕ) → Some (g, h) ≡ stands_at file f
+      → (i j : ℕ) → Some (i, j) ≡ stands_at file h → (k l : ℕ) → Some (k, l) ≡ stands_at file j
       → Put table cell (run node_cells file at) (set (set (set (set (set (set table cell a) (cell + attributes_column) c) (cell + detail_column) e) (cell + first_column) g) (cell + second_column) i) (cell + symbol_column) k) (cell + node_cells)
   unfolding run
   put_node a b p c d q e f r g h s i j t k l u =

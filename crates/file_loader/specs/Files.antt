@@ -1,12 +1,15 @@
 -- Document 01, 'Tree file' and 'Reply numbers': what a file holds, its refusals, and what loading it answers and stores.
-use Rattle.std.specs.Prelude.{Bool, ◌||◌, List, [], ◌∷◌, ℕ, ◌*◌, eqb, ltb, length, get_or}
+use Rattle.std.specs.Prelude.{Bool, ◌||◌, List, [], ◌∷◌, ◌≡◌, ℕ, ◌*◌, eqb, ltb, length, drop, get_or, Option, None, Some, Result, Ok, Err}
 use Rattle.laws.specs.Choice.{pick}
 use Rattle.laws.specs.Lists.{over}
 use Rattle.tree.specs.Sizes.{node_cells, most_file_bytes}
+use Rattle.tree.specs.declared.refusal.Refusal.{Refusal as Refused}
+use Rattle.tree.specs.Replies.{number_of, replied}
+use Rattle.tree_source.specs.Source.{behind_header}
 use Rattle.tree_rules.specs.Refusals.{refusal3, refusal4, Refusal, refuse, first_of, node_refusals}
+use Rattle.file_loader.specs.declared.Header.{Header}
 use Rattle.file_loader.specs.declared.Loaded.{Loaded}
-use Rattle.file_loader.specs.declared.Loaded.TheVariants.{Refused, Accepted}
-use Rattle.file_loader.specs.Several.{Numbers, numbers_of, is_broken, values_in, bytes_after}
+use Rattle.file_loader.specs.Several.{Numbers, numbers_of, is_broken, values_in, bytes_after, broken, numbers}
 
 -- ---- "The header is context and count; then five numbers a node: form, attributes, detail, first, second." Document 02, Paper 4: "Tree files then have six numbers a node"
 
@@ -18,6 +21,15 @@ context_in file = get_or (values_in (header file)) 0 0
 
 unfoldable pub count_in : List ℕ → ℕ
 count_in file = get_or (values_in (header file)) 1 0
+
+-- what a reader of the header answers: none where a number of it is malformed, or its two numbers and the place behind them
+unfoldable pub header_in : List ℕ → Option Header
+header_in file = pick (is_broken (header file)) None (Some (record { context = context_in file; count = count_in file; body = behind_header file }))
+
+-- the header: malformed, or two numbers with the body behind them
+abbrev pub HeaderRead : List ℕ → Option Header → Type 0
+HeaderRead file None = header file ≡ broken
+HeaderRead file (Some h) = (header file ≡ numbers (h.context ∷ h.count ∷ []) (drop h.body file)) × (h.body ≡ behind_header file)
 
 unfoldable pub body : List ℕ → Numbers
 body file = numbers_of (node_cells * count_in file) (bytes_after (header file))
@@ -60,9 +72,8 @@ file_refusal file lent = first_of (number_refusals file lent (node_refusals (cou
 -- ---- what loading answers and stores
 
 -- the answer: the context and the count, or the refusal
-unfoldable pub loaded : List ℕ → ℕ → Loaded
-loaded file lent =
-    pick (eqb (file_refusal file lent) 0) (Accepted (context_in file) (count_in file)) (Refused (file_refusal file lent))
+unfoldable pub loaded : List ℕ → ℕ → Result Loaded Refused
+loaded file lent = replied (file_refusal file lent) (record { context = context_in file; count = count_in file })
 
 -- the lent table afterwards: the file's numbers over its start, or, on a refusal, as it was
 unfoldable pub loaded_table : List ℕ → List ℕ → List ℕ
@@ -74,14 +85,13 @@ loaded_table file table = pick (eqb (file_refusal file (length table)) 0) (over 
 unfoldable pub numbers_refusal : List ℕ → ℕ → ℕ
 numbers_refusal file lent = first_of (number_refusals file lent [])
 
-unfoldable pub numbers_loaded : List ℕ → ℕ → Loaded
-numbers_loaded file lent =
-    pick (eqb (numbers_refusal file lent) 0) (Accepted (context_in file) (count_in file)) (Refused (numbers_refusal file lent))
+unfoldable pub numbers_loaded : List ℕ → ℕ → Result Loaded Refused
+numbers_loaded file lent = replied (numbers_refusal file lent) (record { context = context_in file; count = count_in file })
 
 unfoldable pub numbers_table : List ℕ → List ℕ → List ℕ
 numbers_table file table = pick (eqb (numbers_refusal file (length table)) 0) (over (cells_in file) table) table
 
 -- "When an answer is an enum, a definition gives this paper's number and values for each of its cases." The reply number, 0 for done, and behind it the values
-abbrev pub loaded_in_numbers : Loaded → List ℕ
-loaded_in_numbers (Refused n) = n ∷ []
-loaded_in_numbers (Accepted context count) = 0 ∷ context ∷ count ∷ []
+abbrev pub loaded_in_numbers : Result Loaded Refused → List ℕ
+loaded_in_numbers (Err refusal) = number_of refusal ∷ []
+loaded_in_numbers (Ok loaded) = 0 ∷ loaded.context ∷ loaded.count ∷ []

@@ -1,37 +1,30 @@
 -- What the loader's steps read, as facts of the file. Nothing here is to be believed.
-use Rattle.std.specs.Prelude.{false, List, [], ◌∷◌, ◌≡◌, ℕ, suc, ◌+◌, ◌*◌, ◌≤◌, take, drop}
+use Rattle.std.specs.Prelude.{false, List, [], ◌∷◌, ◌≡◌, ℕ, suc, ◌+◌, ◌*◌, ◌≤◌, take, drop, Option, None, Some, Result, Ok, Err}
 use Rattle.laws.specs.Puts.{Put}
 use Rattle.tree.specs.Sizes.{node_cells, most_nodes}
-use Rattle.file_numbers.specs.declared.Number.TheVariants.{Value}
+use Rattle.tree.specs.declared.refusal.Refusal.{Refusal as Refused}
+use Rattle.tree.specs.Replies.{number_of}
 use Rattle.file_numbers.specs.Standing.{stands_at}
 use Rattle.tree_source.specs.Source.{run, runs, behind_header}
-use Rattle.tree_rules.specs.Refusals.{refuse, first_of, node_refusals}
+use Rattle.tree_rules.specs.Refusals.{refusal4, Refusal, refuse, first_of, node_refusals}
 use Rattle.file_loader.specs.declared.Header.{Header}
-use Rattle.file_loader.specs.declared.Header.TheVariants.{Malformed as NoHeader, Read}
 use Rattle.file_loader.specs.declared.Reading.{Reading}
-use Rattle.file_loader.specs.declared.Body.{Body}
-use Rattle.file_loader.specs.declared.Body.TheVariants.{Malformed as NoBody, End}
 use Rattle.file_loader.specs.Several.{broken, numbers, numbers_of}
-use Rattle.file_loader.specs.Files.{header, context_in, count_in, body, cells_in, refusal1, refusal2, refusal5}
-
--- the header: malformed, or two numbers with the body behind them
-abbrev pub HeaderRead : List ℕ → Header → Type 0
-HeaderRead file NoHeader = header file ≡ broken
-HeaderRead file (Read context count at) = (header file ≡ numbers (context ∷ count ∷ []) (drop at file)) × (at ≡ behind_header file)
+use Rattle.file_loader.specs.Files.{header, context_in, count_in, body, cells_in, refusal1, refusal2, refusal5, number_refusals}
 
 -- so many numbers from a place on: malformed, or those that a source has there, up to a place
-abbrev pub Passed : List ℕ → ℕ → ℕ → Body → Type 0
-Passed file from n NoBody = numbers_of n (drop from file) ≡ broken
-Passed file from n (End at) = numbers_of n (drop from file) ≡ numbers (run n file from) (drop at file)
+abbrev pub Passed : List ℕ → ℕ → ℕ → Option ℕ → Type 0
+Passed file from n None = numbers_of n (drop from file) ≡ broken
+Passed file from n (Some at) = numbers_of n (drop from file) ≡ numbers (run n file from) (drop at file)
 
 -- one node and so many others from a place on: malformed, or those that a source has at the places that are kept
-abbrev pub LaidOut : List ℕ → ℕ → ℕ → List ℕ → Body → Type 0
-LaidOut file from others places NoBody = numbers_of (node_cells * suc others) (drop from file) ≡ broken
-LaidOut file from others places (End at) = numbers_of (node_cells * suc others) (drop from file) ≡ numbers (runs file (from ∷ take others places)) (drop at file)
+abbrev pub LaidOut : List ℕ → ℕ → ℕ → List ℕ → Option ℕ → Type 0
+LaidOut file from others places None = numbers_of (node_cells * suc others) (drop from file) ≡ broken
+LaidOut file from others places (Some at) = numbers_of (node_cells * suc others) (drop from file) ≡ numbers (runs file (from ∷ take others places)) (drop at file)
 
 -- the number that stands at a place
 abbrev pub KnownAt : List ℕ → ℕ → Reading → Type 0
-KnownAt file at r = Value r.value r.next ≡ stands_at file at
+KnownAt file at r = Some (r.value, r.next) ≡ stands_at file at
 
 -- a node's numbers from a place on stand in a table from a cell on, and others begin behind them
 pub record StoredNode (file : List ℕ) (at cell : ℕ) (before after : List ℕ) (next : ℕ) : Type 0 where
@@ -45,6 +38,18 @@ pub record Begun (file : List ℕ) (context count at : ℕ) : Type 0 where
   pub is_context : context_in file ≡ context
   pub is_count : count_in file ≡ count
   pub is_body : body file ≡ numbers_of (node_cells * count) (drop at file)
+
+-- a header of a file that is not refused with a lent table of so many cells before the body is looked at
+pub record Headed (file : List ℕ) (lent : ℕ) (h : Header) : Type 0 where
+  pub begun : Begun file h.context h.count h.body
+  pub is_start : h.body ≡ behind_header file
+  pub ok : h.context ≤ 3
+  pub fits : refusal4 h.count lent ≡ false
+
+-- 1 to 4, whatever comes after them: the first that applies, or the header
+abbrev pub BegunBy : List ℕ → ℕ → Result Header Refused → Type 0
+BegunBy file lent (Err e) = (others : List Refusal) → first_of (number_refusals file lent others) ≡ number_of e
+BegunBy file lent (Ok h) = Headed file lent h
 
 -- a file that is not refused before its nodes are looked at
 pub record Counted (file : List ℕ) (context count at : ℕ) : Type 0 where

@@ -1,177 +1,145 @@
 // Tree files: the loader of a file into a lent node table.
 #![tactic(auto)]
 
-ghost use Rattle.std.specs.Prelude.{◌≡◌, false, ◌+◌, ◌*◌, ◌≤◌, ◌<◌, length, drop};
+ghost use Rattle.std.specs.Prelude.{◌≡◌, false, ◌+◌, ◌*◌, ◌≤◌, ◌<◌, ◌^◌, IfSome, Some, length, drop};
 ghost use Rattle.laws.specs.Lists.{over};
 ghost use Rattle.tree.specs.Sizes.{node_cells, most_file_bytes};
+ghost use Rattle.tree.specs.Replies.{replied};
+ghost use Rattle.tree_source.specs.Source.{next_at};
 ghost use Rattle.file_numbers.specs.Numbers.{malformed};
-ghost use Rattle.tree_source.specs.Source.{next_at, behind_header};
-ghost use Rattle.file_loader.specs.declared.Body.TheVariants.{End};
 ghost use Rattle.file_loader.specs.Several.{numbers_of, is_broken, values_in};
-ghost use Rattle.file_loader.specs.Files.{bad_body, file_refusal, loaded, loaded_table, numbers_loaded, numbers_table};
-ghost use Rattle.file_loader.specs.Reads.{HeaderRead, Passed, LaidOut, KnownAt, StoredNode, Begun, Counted, body_refusal};
+ghost use Rattle.file_loader.specs.Files.{header_in, HeaderRead, bad_body, file_refusal, loaded, loaded_table, numbers_loaded, numbers_table};
+ghost use Rattle.file_loader.specs.Reads.{Passed, LaidOut, KnownAt, StoredNode, BegunBy, Counted, body_refusal};
 
-use file_numbers::{Number, number_at, wide};
+use file_numbers::number_at;
+use tree::refusal::Refusal;
 use tree::{offsets, sizes};
-use tree_source::QUICK_BYTES;
+use tree_one_pass::check_source;
+use tree_source::{QUICK_BYTES, Source};
 
 // ---- several numbers
 
-// What the header holds.
-#[derive(Drop)]
-enum Header {
-    Malformed,
-    // The context, the count, and the place of the body.
-    Read(u16, u16, usize),
+// What the header holds, and the place of the body.
+#[derive(Clone, Copy, Debug)]
+pub struct Header {
+    pub context: u16,
+    pub count: u16,
+    pub body: usize,
 }
 
-fn read_header(file: &[u8]) -> Header
-    ensures { HeaderRead file.now result }
-{
-    let Number::Value(context, second) = number_at(file, 0) else {
-        return Header::Malformed;
-    };
-    let Number::Value(count, body) = number_at(file, second) else {
-        return Header::Malformed;
-    };
-    Header::Read(context, count, body)
+impl Header {
+    // The header of a file; none where a number of it is malformed.
+    pub fn read(file: &[u8]) -> Option<Header>
+        ensures value { result ≡ header_in file.now }
+        ensures read { HeaderRead file.now result }
+    {
+        let (context, second) = number_at(file, 0)?;
+        let (count, body) = number_at(file, second)?;
+        Some(Header {
+            context,
+            count,
+            body,
+        })
+    }
 }
 
-// What stands from a place of the body on.
-#[derive(Drop)]
-enum Body {
-    Malformed,
-    // The place after the last number.
-    End(usize),
-}
-
-// The numbers of a node from a place on.
-fn after_node(file: &[u8], from: usize) -> Body
+// The numbers of a node from a place on: the place after them; none where one is malformed.
+fn after_node(file: &[u8], from: usize) -> Option<usize>
     ensures { Passed file.now from node_cells result }
 {
-    let Number::Value(_, attributes) = number_at(file, from) else {
-        return Body::Malformed;
-    };
-    let Number::Value(_, detail) = number_at(file, attributes) else {
-        return Body::Malformed;
-    };
-    let Number::Value(_, first) = number_at(file, detail) else {
-        return Body::Malformed;
-    };
-    let Number::Value(_, second) = number_at(file, first) else {
-        return Body::Malformed;
-    };
-    let Number::Value(_, symbol) = number_at(file, second) else {
-        return Body::Malformed;
-    };
-    let Number::Value(_, end) = number_at(file, symbol) else {
-        return Body::Malformed;
-    };
-    Body::End(end)
+    let (_, attributes) = number_at(file, from)?;
+    let (_, detail) = number_at(file, attributes)?;
+    let (_, first) = number_at(file, detail)?;
+    let (_, second) = number_at(file, first)?;
+    let (_, symbol) = number_at(file, second)?;
+    let (_, end) = number_at(file, symbol)?;
+    Some(end)
 }
 
-// So many numbers from a place on.
-fn after_numbers(file: &[u8], from: usize, numbers: usize) -> Body
+// So many numbers from a place on: the place after them; none where one is malformed.
+fn after_numbers(file: &[u8], from: usize, numbers: usize) -> Option<usize>
     ensures { Passed file.now from numbers result }
 {
     let mut at = from;
-    let mut done = 0;
-    while done < numbers {
-        let Number::Value(_, next) = number_at(file, at) else {
-            return Body::Malformed;
-        };
+    for _done in 0..numbers {
+        let (_, next) = number_at(file, at)?;
         at = next;
-        done += 1;
     }
-    Body::End(at)
+    Some(at)
 }
 
-// The place after the number that starts at a place where three bytes are left; 0 where it is malformed.
-fn skip_at(file: &[u8], at: usize) -> usize
+// The place after the number that starts at a place where three bytes are left; none where it is malformed.
+fn skip_at(file: &[u8], at: usize) -> Option<usize>
     requires { at + 2 < length file.now }
-    ensures { (result ≡ next_at file.now at) × (result ≤ at + 3) }
+    ensures { IfSome result (λ next. (next ≡ next_at file.now at) × (at < next) × (next ≤ at + 3)) }
 {
-    let low = wide(file[at]);
+    let low = u16::from(file[at]);
     if low < 128 {
-        return at + 1;
+        return Some(at + 1);
     }
-    let middle = wide(file[at + 1]);
+    let middle = u16::from(file[at + 1]);
     if middle == 0 {
-        return 0;
+        return None;
     }
     if middle < 128 {
-        return at + 2;
+        return Some(at + 2);
     }
-    let high = wide(file[at + 2]);
+    let high = u16::from(file[at + 2]);
     if high == 0 {
-        return 0;
+        return None;
     }
     if high > 3 {
-        return 0;
+        return None;
     }
-    at + 3
+    Some(at + 3)
 }
 
-// The place after a node's numbers from a place on, where so many bytes are left and its first three numbers are small, as they are in accepted files; 0 otherwise.
-fn after_quick_node(file: &[u8], at: usize) -> usize
-    ensures { (result ≡ 0 → ⊥) → Passed file.now at node_cells (End result) }
+// The place after a node's numbers from a place on, where so many bytes are left and its first three numbers are small, as they are in accepted files; none otherwise.
+fn after_quick_node(file: &[u8], at: usize) -> Option<usize>
+    ensures { IfSome result (λ end. Passed file.now at node_cells (Some end)) }
 {
     let end = file.len();
     if end < QUICK_BYTES {
-        return 0;
+        return None;
     }
     if end - QUICK_BYTES < at {
-        return 0;
+        return None;
     }
-    if 127 < wide(file[at]) + wide(file[at + 1]) + wide(file[at + 2]) {
-        return 0;
+    if 127 < u16::from(file[at]) + u16::from(file[at + 1]) + u16::from(file[at + 2]) {
+        return None;
     }
-    let second = skip_at(file, at + 3);
-    if second == 0 {
-        return 0;
-    }
-    let symbol = skip_at(file, second);
-    if symbol == 0 {
-        return 0;
-    }
+    let second = skip_at(file, at + 3)?;
+    let symbol = skip_at(file, second)?;
     skip_at(file, symbol)
 }
 
 // The numbers of a node from a place on, most of them quickly.
-fn pass_node(file: &[u8], from: usize) -> Body
+fn pass_node(file: &[u8], from: usize) -> Option<usize>
     ensures { Passed file.now from node_cells result }
 {
-    let quick = after_quick_node(file, from);
-    if quick != 0 {
-        return Body::End(quick);
+    if let Some(quick) = after_quick_node(file, from) {
+        return Some(quick);
     }
     after_node(file, from)
 }
 
-// The nodes from a place on, one and so many others: where the others begin.
-fn lay_out(file: &[u8], from: usize, others: usize, places: &mut [u16]) -> Body
+// The nodes from a place on, one and so many others: where the others begin, and the place after them all.
+fn lay_out(file: &[u8], from: usize, others: usize, places: &mut [u16]) -> Option<usize>
     requires { (length file.now ≤ most_file_bytes) × (others ≤ length places.old) }
     ensures laid_out { LaidOut file.now from others places.new result }
     ensures places_len_unchanged { length places.new ≡ length places.old }
 {
-    let Body::End(second) = after_node(file, from) else {
-        return Body::Malformed;
-    };
-    let mut at = second;
-    let mut done = 0;
-    while done < others {
-        let Body::End(next) = pass_node(file, at) else {
-            return Body::Malformed;
-        };
+    let mut at = after_node(file, from)?;
+    for done in 0..others {
+        let next = pass_node(file, at)?;
         places[done] = at as u16;
         at = next;
-        done += 1;
     }
-    Body::End(at)
+    Some(at)
 }
 
 // A number, and the place after it.
-#[derive(Drop)]
+#[derive(Clone, Copy, Debug)]
 struct Reading {
     value: u16,
     next: usize,
@@ -182,21 +150,21 @@ fn known_at(file: &[u8], at: usize) -> Reading
     requires { malformed (drop at file.now) ≡ false }
     ensures { KnownAt file.now at result }
 {
-    let low = wide(file[at]);
+    let low = u16::from(file[at]);
     if low < 128 {
         return Reading {
             value: low,
             next: at + 1,
         };
     }
-    let middle = wide(file[at + 1]);
+    let middle = u16::from(file[at + 1]);
     if middle < 128 {
         return Reading {
             value: (low - 128) + 128 * middle,
             next: at + 2,
         };
     }
-    let high = wide(file[at + 2]);
+    let high = u16::from(file[at + 2]);
     Reading {
         value: (low - 128) + 128 * (middle - 128) + 16384 * high,
         next: at + 3,
@@ -229,136 +197,126 @@ fn store(file: &[u8], from: usize, nodes: usize, table: &mut [u16])
     ensures { table.new ≡ over (values_in (numbers_of (node_cells * nodes) (drop from file.now))) table.old }
 {
     let mut at = from;
-    let mut done = 0;
-    while done < nodes {
+    for done in 0..nodes {
         at = store_node(file, at, sizes::NODE_CELLS * done, table);
-        done += 1;
     }
 }
 
 // ---- files
 
+// The places of the nodes but the first: of fewer than 64 nodes, and of as many as there can be.
+const FEW_PLACES: usize = 62;
+
+const MOST_PLACES: usize = sizes::MOST_NODES as usize - 1;
+
 // 5 to 11, with an array for the places of the nodes but the first.
-fn check_with(file: &[u8], context: u16, count: u16, at: usize, places: &mut [u16]) -> u16
-    requires { Counted file.now context count at × (count ≤ length places.old + 1) }
-    ensures { result ≡ body_refusal file.now }
+fn check_with(file: &[u8], header: Header, places: &mut [u16]) -> Result<(), Refusal>
+    requires { Counted file.now header.context header.count header.body × (header.count ≤ length places.old + 1) }
+    ensures { result ≡ replied (body_refusal file.now) tt }
 {
-    let others = (count - 1) as usize;
-    let Body::End(end) = lay_out(file, at, others, places) else {
-        return 5;
+    let others = usize::from(header.count - 1);
+    let Some(end) = lay_out(file, header.body, others, places) else {
+        return Err(Refusal::Body);
     };
     if end < file.len() {
-        return 5;
+        return Err(Refusal::Body);
     }
-    tree_one_pass::check_source(context, count, file, &places[..others])
+    let source = Source {
+        file,
+        held: &places[..others],
+    };
+    check_source(header.context, header.count, &source)
 }
 
-// The same for fewer than 64 nodes, with an array that is quickly made.
-fn check_small(file: &[u8], context: u16, count: u16, at: usize) -> u16
-    requires { Counted file.now context count at × (count < 64) }
-    ensures { result ≡ body_refusal file.now }
+// The same with an array of its own: one for few nodes is quickly made.
+fn check_by<const PLACES: usize>(file: &[u8], header: Header) -> Result<(), Refusal>
+    requires counted { Counted file.now header.context header.count header.body }
+    requires fits { header.count ≤ PLACES + 1 }
+    requires small { PLACES < 2 ^ 20 }
+    ensures { result ≡ replied (body_refusal file.now) tt }
 {
-    let mut places = [0u16; 62];
-    check_with(file, context, count, at, &mut places)
+    let mut places = [0u16; PLACES];
+    check_with(file, header, &mut places)
 }
 
-// The same for up to 4,096 nodes.
-fn check_large(file: &[u8], context: u16, count: u16, at: usize) -> u16
-    requires { Counted file.now context count at }
-    ensures { result ≡ body_refusal file.now }
-{
-    let mut places = [0u16; sizes::MOST_NODES as usize - 1];
-    check_with(file, context, count, at, &mut places)
-}
-
-// 3 to 11, once the header is read.
-fn check_nodes(file: &[u8], lent: usize, context: u16, count: u16, at: usize) -> u16
-    requires { Begun file.now context count at × (at ≡ behind_header file.now) }
-    ensures { result ≡ file_refusal file.now lent }
-{
-    if context > 3 {
-        return 3;
-    }
-    if tree_rules::refusal::is_bad_count(count, lent) {
-        return 4;
-    }
-    if count < 64 {
-        return check_small(file, context, count, at);
-    }
-    check_large(file, context, count, at)
-}
-
-// The number of the first refusal that applies to a tree file and a lent table of so many cells, or 0. The file is read
-// twice: for its form and the places of its nodes, and for the rules.
-pub fn check(file: &[u8], lent: usize) -> u16
-    ensures { result ≡ file_refusal file.now lent }
+// 1 to 4: the header of a file, for a lent table of so many cells.
+fn begin(file: &[u8], lent: usize) -> Result<Header, Refusal>
+    ensures { BegunBy file.now lent result }
 {
     if file.len() > sizes::MOST_FILE_BYTES {
-        return 1;
+        return Err(Refusal::FileTooLong);
     }
-    let Header::Read(context, count, at) = read_header(file) else {
-        return 2;
+    let Some(header) = Header::read(file) else {
+        return Err(Refusal::Header);
     };
-    check_nodes(file, lent, context, count, at)
+    if header.context > 3 {
+        return Err(Refusal::Context);
+    }
+    if tree_rules::refusal::is_bad_count(header.count, lent) {
+        return Err(Refusal::Count);
+    }
+    Ok(header)
+}
+
+// The first refusal that applies to a tree file and a lent table of so many cells. The file is read twice: for its form
+// and the places of its nodes, and for the rules.
+pub fn check(file: &[u8], lent: usize) -> Result<(), Refusal>
+    ensures { result ≡ replied (file_refusal file.now lent) tt }
+{
+    let header = begin(file, lent)?;
+    if header.count < 64 {
+        return check_by::<FEW_PLACES>(file, header);
+    }
+    check_by::<MOST_PLACES>(file, header)
 }
 
 // Whether 5 applies to so many numbers from a place on.
 fn is_bad_body(file: &[u8], from: usize, numbers: usize) -> bool
     ensures { result ≡ bad_body (numbers_of numbers (drop from file.now)) }
 {
-    let Body::End(end) = after_numbers(file, from, numbers) else {
+    let Some(end) = after_numbers(file, from, numbers) else {
         return true;
     };
     end < file.len()
 }
 
-// What loading answers.
-#[derive(Drop)]
-pub enum Loaded {
-    // The number of the first refusal that applies.
-    Refused(u16),
-    // The context and the count of nodes: the lent table holds them.
-    Accepted(u16, u16),
+// The context and the count of nodes of a file that the lent table holds.
+#[derive(Clone, Copy, Debug, PartialEq, Eq)]
+pub struct Loaded {
+    pub context: u16,
+    pub count: u16,
 }
 
 // A tree file into a lent table: the context and the count, or the first refusal that applies. Nothing is stored before all
 // checks are done; then the file is read once more.
-pub fn load(file: &[u8], table: &mut [u16]) -> Loaded
+pub fn load(file: &[u8], table: &mut [u16]) -> Result<Loaded, Refusal>
     ensures reply { result ≡ loaded file.now (length table.old) }
     ensures table { table.new ≡ loaded_table file.now table.old }
 {
-    let refused = check(file, table.len());
-    if refused != 0 {
-        return Loaded::Refused(refused);
-    }
-    let Header::Read(context, count, body) = read_header(file) else {
-        return Loaded::Refused(2);
-    };
-    store(file, body, count as usize, table);
-    Loaded::Accepted(context, count)
+    check(file, table.len())?;
+    let Header {
+        context,
+        count,
+        body,
+    } = begin(file, table.len())?;
+    store(file, body, usize::from(count), table);
+    Ok(Loaded { context, count })
 }
 
 // The numbers of a file into a lent table as they stand, whatever they say: the context and the count, or the first of 1 to 5 that applies. Nothing is stored before that is known.
-pub fn load_numbers(file: &[u8], table: &mut [u16]) -> Loaded
+pub fn load_numbers(file: &[u8], table: &mut [u16]) -> Result<Loaded, Refusal>
     ensures reply { result ≡ numbers_loaded file.now (length table.old) }
     ensures table { table.new ≡ numbers_table file.now table.old }
 {
-    if file.len() > sizes::MOST_FILE_BYTES {
-        return Loaded::Refused(1);
+    let Header {
+        context,
+        count,
+        body,
+    } = begin(file, table.len())?;
+    let nodes = usize::from(count);
+    if is_bad_body(file, body, sizes::NODE_CELLS * nodes) {
+        return Err(Refusal::Body);
     }
-    let Header::Read(context, count, at) = read_header(file) else {
-        return Loaded::Refused(2);
-    };
-    if context > 3 {
-        return Loaded::Refused(3);
-    }
-    if tree_rules::refusal::is_bad_count(count, table.len()) {
-        return Loaded::Refused(4);
-    }
-    let cells = sizes::NODE_CELLS * (count as usize);
-    if is_bad_body(file, at, cells) {
-        return Loaded::Refused(5);
-    }
-    store(file, at, count as usize, table);
-    Loaded::Accepted(context, count)
+    store(file, body, nodes, table);
+    Ok(Loaded { context, count })
 }

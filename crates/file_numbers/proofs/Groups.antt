@@ -1,17 +1,17 @@
 -- The number at a place of a file, by its first three bytes. Assumes nothing.
-use mathlib.Core.Path.{◌≡◌, refl, sym, ap, ap₂, ◌∙◌}
-use mathlib.Core.Bool.{Bool, true, false, ◌&&◌, ◌||◌}
+use mathlib.Core.Path.{◌≡◌, refl, sym, ap, ◌∙◌}
+use mathlib.Core.Bool.{true, false}
 use mathlib.Core.List.{List, [], ◌∷◌}
 use Prim.Native.Nat.{ℕ, zero, suc, ◌+◌, ◌*◌, ◌-◌, ◌%◌, ◌≤◌, ◌<◌}
 use native.Mathlib.Omega.{arith}
 use native.Mathlib.Decide.{dec_le}
-use lib.Dec.{eqb, leb, ltb}
+use lib.Dec.{leb}
 use lib.ListN.{length, get_or, take, drop, length-drop}
-use lib.Seq.{take-nil, get_or-drop, drop-drop}
+use lib.Seq.{take-nil, get_or-drop}
 use borrow.Author.Tests.{le-leb, lt-leb, lt-ltb, le-ltb, eq-eqb, ne_eqb}
 use Rattle.laws.specs.Choice.{pick}
 use Rattle.laws.proofs.Choice.{pick_true, pick_false}
-use Rattle.file_numbers.specs.declared.Number.TheVariants.{Malformed, Value}
+use Rattle.std.specs.Prelude.{None, Some}
 use Rattle.file_numbers.specs.Numbers.{followed, groups, value_of, malformed}
 use Rattle.file_numbers.specs.Standing.{stands_at}
 
@@ -167,11 +167,11 @@ module _ (bytes : List ℕ) (on : 128 ≤ get_or bytes 0 0) (on' : 128 ≤ get_o
 -- ---- what stands at a place
 
 module _ (file : List ℕ) (at : ℕ) where
-  bad : malformed (drop at file) ≡ true → Malformed ≡ stands_at file at
+  bad : malformed (drop at file) ≡ true → None ≡ stands_at file at
   unfolding stands_at
   bad e = sym (pick_true _ _ e)
 
-  good : (v k : ℕ) → malformed (drop at file) ≡ false → value_of (drop at file) ≡ v → followed (drop at file) ≡ k → Value v (at + suc k) ≡ stands_at file at
+  good : (v k : ℕ) → malformed (drop at file) ≡ false → value_of (drop at file) ≡ v → followed (drop at file) ≡ k → Some (v, at + suc k) ≡ stands_at file at
   unfolding stands_at
   good v k e p q = rw (← p, ← q) (sym (pick_false _ _ e))
 
@@ -181,14 +181,14 @@ module _ (file : List ℕ) (at : ℕ) where
   byte_at : (k n : ℕ) → at + k ≡ n → get_or (drop at file) k 0 ≡ get_or file n 0
   byte_at k n e = get_or-drop at file k 0 ∙ ap (λ (m : ℕ). get_or file m 0) e
 
-  pub nothing_left : length file ≤ at → Malformed ≡ stands_at file at
+  pub nothing_left : length file ≤ at → None ≡ stands_at file at
   nothing_left h = bad (cut_off (drop at file) (let l = long in omega arith))
 
   module _ (low : ℕ) (is_low : low ≡ get_or file at 0) (left : at < length file) where
     first_byte : get_or (drop at file) 0 0 ≡ low
     first_byte = byte_at 0 at (omega arith) ∙ sym is_low
 
-    pub one_byte : low < 128 → Value low (at + 1) ≡ stands_at file at
+    pub one_byte : low < 128 → Some (low, at + 1) ≡ stands_at file at
     one_byte h =
         let l = long in
         let b = first_byte in
@@ -196,7 +196,7 @@ module _ (file : List ℕ) (at : ℕ) where
         good low 0 (formed_one (drop at file) (omega arith) (omega arith) g.0) (omega arith) g.0
 
     module _ (on : 128 ≤ low) (low_byte : low < 256) where
-      pub cut_after_one : length file - at < 2 → Malformed ≡ stands_at file at
+      pub cut_after_one : length file - at < 2 → None ≡ stands_at file at
       cut_after_one h =
           let l = long in
           let b = first_byte in
@@ -207,14 +207,14 @@ module _ (file : List ℕ) (at : ℕ) where
         second_byte : get_or (drop at file) 1 0 ≡ middle
         second_byte = byte_at 1 (at + 1) refl ∙ sym is_middle
 
-        pub zero_second : middle ≡ 0 → Malformed ≡ stands_at file at
+        pub zero_second : middle ≡ 0 → None ≡ stands_at file at
         zero_second z =
             let b = first_byte in
             let m = second_byte in
             let g = two_groups (drop at file) (omega arith) (omega arith) (omega arith) in
             bad (zero_end (drop at file) (omega arith) (rw g.0 (omega arith)))
 
-        pub two_bytes : (middle ≡ 0 → ⊥) → middle < 128 → Value (low - 128 + 128 * middle) (at + 2) ≡ stands_at file at
+        pub two_bytes : (middle ≡ 0 → ⊥) → middle < 128 → Some (low - 128 + 128 * middle, at + 2) ≡ stands_at file at
         two_bytes z h =
             let l = long in
             let b = first_byte in
@@ -223,7 +223,7 @@ module _ (file : List ℕ) (at : ℕ) where
             good _ 1 (formed_more (drop at file) (omega arith) (omega arith) (omega arith) (rw g.0 (λ q. omega arith))) (omega arith) g.0
 
         module _ (on' : 128 ≤ middle) (middle_byte : middle < 256) where
-          pub cut_after_two : length file - at < 3 → Malformed ≡ stands_at file at
+          pub cut_after_two : length file - at < 3 → None ≡ stands_at file at
           cut_after_two h =
               let l = long in
               let b = first_byte in
@@ -235,7 +235,7 @@ module _ (file : List ℕ) (at : ℕ) where
             third_byte : get_or (drop at file) 2 0 ≡ high
             third_byte = byte_at 2 (at + 2) refl ∙ sym is_high
 
-            pub zero_third : high ≡ 0 → Malformed ≡ stands_at file at
+            pub zero_third : high ≡ 0 → None ≡ stands_at file at
             zero_third z =
                 let b = first_byte in
                 let m = second_byte in
@@ -243,10 +243,10 @@ module _ (file : List ℕ) (at : ℕ) where
                 let g = three_groups (drop at file) (omega arith) (omega arith) (omega arith) (omega arith) (omega arith) in
                 bad (zero_end (drop at file) (omega arith) (rw g.0 (omega arith)))
 
-            pub high_third : 3 < high → Malformed ≡ stands_at file at
+            pub high_third : 3 < high → None ≡ stands_at file at
             high_third h = go (dec_le 128 high)
               where
-                go : Dec (128 ≤ high) → Malformed ≡ stands_at file at
+                go : Dec (128 ≤ high) → None ≡ stands_at file at
                 go (yes p) =
                     let b = first_byte in
                     let m = second_byte in
@@ -260,7 +260,7 @@ module _ (file : List ℕ) (at : ℕ) where
                     let g = three_groups (drop at file) (omega arith) (omega arith) (omega arith) (omega arith) (omega arith) in
                     bad (too_large (drop at file) (omega arith) (omega arith))
 
-            pub three_bytes : (high ≡ 0 → ⊥) → high ≤ 3 → Value (low - 128 + 128 * (middle - 128) + 16384 * high) (at + 3) ≡ stands_at file at
+            pub three_bytes : (high ≡ 0 → ⊥) → high ≤ 3 → Some (low - 128 + 128 * (middle - 128) + 16384 * high, at + 3) ≡ stands_at file at
             three_bytes z h =
                 let l = long in
                 let b = first_byte in

@@ -7,18 +7,18 @@ use native.Mathlib.Omega.{arith}
 use native.Mathlib.Decide.{dec_le}
 use borrow.Author.Tests.{lt-ltb, le-ltb}
 use Rattle.laws.proofs.Choice.{pick_true, pick_false}
-use Rattle.file_order.specs.declared.Order.{Order}
-use Rattle.file_order.specs.declared.Order.TheVariants.{Before, Equal, After}
+use Rattle.std.specs.declared.cmp.Ordering.{Ordering}
+use Rattle.std.specs.declared.cmp.Ordering.TheVariants.{Less, Equal, Greater}
 use Rattle.file_order.specs.Orders.{in_order}
 
 -- ---- by the first numbers
 
 module _ (x : ℕ) (xs : List ℕ) (y : ℕ) (ys : List ℕ) where
-  less : x < y → in_order (x ∷ xs) (y ∷ ys) ≡ Before
+  less : x < y → in_order (x ∷ xs) (y ∷ ys) ≡ Less
   unfolding in_order
   less h = pick_true _ _ (lt-ltb x y h)
 
-  more : y < x → in_order (x ∷ xs) (y ∷ ys) ≡ After
+  more : y < x → in_order (x ∷ xs) (y ∷ ys) ≡ Greater
   unfolding in_order
   more h = pick_false _ _ (le-ltb x y (omega arith)) ∙ pick_true _ _ (lt-ltb y x h)
 
@@ -41,13 +41,13 @@ module _ (x : ℕ) (xs : List ℕ) (y : ℕ) (ys : List ℕ) where
       go (yes p) (yes q) = level (omega arith)
 
 -- two of the three answers are different
-never : {A : Type 0} {a b : Order} (n : Order → ℕ) → n a < n b → a ≡ b → A
+never : {A : Type 0} {a b : Ordering} (n : Ordering → ℕ) → n a < n b → a ≡ b → A
 never n h e = absurd (let f = ap n e in omega arith)
 
-abbrev rank : Order → ℕ
-rank Before = 0
+abbrev rank : Ordering → ℕ
+rank Less = 0
 rank Equal = 1
-rank After = 2
+rank Greater = 2
 
 -- ---- equal only where the lists are
 
@@ -70,10 +70,10 @@ list_self (x ∷ xs) = alike x xs x xs refl ∙ list_self xs
 
 -- ---- the other way round
 
-abbrev pub opposite : Order → Order
-opposite Before = After
+abbrev pub opposite : Ordering → Ordering
+opposite Less = Greater
 opposite Equal = Equal
-opposite After = Before
+opposite Greater = Less
 
 pub turned : (xs ys : List ℕ) → in_order ys xs ≡ opposite (in_order xs ys)
 unfolding in_order
@@ -90,15 +90,15 @@ turned (x ∷ xs) (y ∷ ys) = go (stand x xs y ys) (turned xs ys)
 -- ---- one after the other
 
 -- before: by the first numbers, or by the rest
-by_first : (x : ℕ) (xs : List ℕ) (y : ℕ) (ys : List ℕ) → in_order (x ∷ xs) (y ∷ ys) ≡ Before → (x < y) ⊎ ((x ≡ y) × (in_order xs ys ≡ Before))
+by_first : (x : ℕ) (xs : List ℕ) (y : ℕ) (ys : List ℕ) → in_order (x ∷ xs) (y ∷ ys) ≡ Less → (x < y) ⊎ ((x ≡ y) × (in_order xs ys ≡ Less))
 by_first x xs y ys e = go (stand x xs y ys)
   where
-    go : Stand x xs y ys → (x < y) ⊎ ((x ≡ y) × (in_order xs ys ≡ Before))
+    go : Stand x xs y ys → (x < y) ⊎ ((x ≡ y) × (in_order xs ys ≡ Less))
     go (below h) = inl h
     go (above h) = never rank (omega arith) (sym e ∙ more x xs y ys h)
     go (level h) = inr (h, sym (alike x xs y ys h) ∙ e)
 
-pub before_before : (xs ys zs : List ℕ) → in_order xs ys ≡ Before → in_order ys zs ≡ Before → in_order xs zs ≡ Before
+pub before_before : (xs ys zs : List ℕ) → in_order xs ys ≡ Less → in_order ys zs ≡ Less → in_order xs zs ≡ Less
 unfolding in_order
 before_before [] [] zs p q = never rank (omega arith) (sym p)
 before_before [] (y ∷ ys) [] p q = never rank (omega arith) (sym q)
@@ -107,8 +107,8 @@ before_before (x ∷ xs) [] zs p q = never rank (omega arith) (sym p)
 before_before (x ∷ xs) (y ∷ ys) [] p q = never rank (omega arith) (sym q)
 before_before (x ∷ xs) (y ∷ ys) (z ∷ zs) p q = go (by_first x xs y ys p) (by_first y ys z zs q) (before_before xs ys zs)
   where
-    go : (x < y) ⊎ ((x ≡ y) × (in_order xs ys ≡ Before)) → (y < z) ⊎ ((y ≡ z) × (in_order ys zs ≡ Before)) → (in_order xs ys ≡ Before → in_order ys zs ≡ Before → in_order xs zs ≡ Before)
-        → in_order (x ∷ xs) (z ∷ zs) ≡ Before
+    go : (x < y) ⊎ ((x ≡ y) × (in_order xs ys ≡ Less)) → (y < z) ⊎ ((y ≡ z) × (in_order ys zs ≡ Less)) → (in_order xs ys ≡ Less → in_order ys zs ≡ Less → in_order xs zs ≡ Less)
+        → in_order (x ∷ xs) (z ∷ zs) ≡ Less
     go (inl h) (inl j) ih = less x xs z zs (omega arith)
     go (inl h) (inr j) ih = less x xs z zs (let e = j.0 in omega arith)
     go (inr h) (inl j) ih = less x xs z zs (let e = h.0 in omega arith)

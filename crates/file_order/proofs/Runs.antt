@@ -9,13 +9,13 @@ use lib.ListN.{drop}
 use borrow.Author.Tests.{lt-ltb, le-ltb}
 use Rattle.laws.specs.Choice.{pick}
 use Rattle.laws.proofs.Choice.{pick_true, pick_false, true_not_false}
-use Rattle.file_numbers.specs.declared.Number.TheVariants.{Malformed, Value}
+use Rattle.std.specs.Prelude.{None, Some}
 use Rattle.file_numbers.specs.Numbers.{value_of, rest_of, malformed}
 use Rattle.file_numbers.specs.Standing.{stands_at}
 use Rattle.file_loader.specs.Several.{Numbers, broken, numbers, prepend, numbers_of, is_broken, values_in}
 use Rattle.file_loader.proofs.Several.{number_bad, number_good, one_more, numbers_stop}
-use Rattle.file_order.specs.declared.Order.{Order}
-use Rattle.file_order.specs.declared.Order.TheVariants.{Before, Equal, After}
+use Rattle.std.specs.declared.cmp.Ordering.{Ordering}
+use Rattle.std.specs.declared.cmp.Ordering.TheVariants.{Less, Equal, Greater}
 use Rattle.file_order.specs.Orders.{in_order}
 use Rattle.file_order.specs.Heads.{run}
 
@@ -31,15 +31,15 @@ prepended v broken e = true_not_false e
 prepended v (numbers ns bytes) e = (refl, refl)
 
 module _ (file : List ℕ) (at n : ℕ) where
-  next_is : (v next : ℕ) → Value v next ≡ stands_at file at → run file at (suc n) ≡ prepend v (run file next n)
+  next_is : (v next : ℕ) → Some (v, next) ≡ stands_at file at → run file at (suc n) ≡ prepend v (run file next n)
   next_is v next e = let s = number_good file at v next e in one_more n (drop at file) s.formed ∙ rw (s.value, s.rest)
 
   -- no number of a run that is formed is malformed
-  pub not_bad : {A : Type 0} → Formed (run file at (suc n)) → Malformed ≡ stands_at file at → A
+  pub not_bad : {A : Type 0} → Formed (run file at (suc n)) → None ≡ stands_at file at → A
   unfolding is_broken numbers_of
   not_bad f e = true_not_false (rw (numbers_stop 0 (suc n) (drop at file) [] (drop at file) (omega arith) refl (number_bad file at e)) at f)
 
-  pub run_next : Formed (run file at (suc n)) → (v next : ℕ) → Value v next ≡ stands_at file at → Formed (run file next n) × (values_in (run file at (suc n)) ≡ v ∷ values_in (run file next n))
+  pub run_next : Formed (run file at (suc n)) → (v next : ℕ) → Some (v, next) ≡ stands_at file at → Formed (run file next n) × (values_in (run file at (suc n)) ≡ v ∷ values_in (run file next n))
   run_next f v next e =
       let p = prepended v (run file next n) (rw (next_is v next e) at f) in
       (p.0, rw (next_is v next e) p.1)
@@ -61,11 +61,11 @@ no_values file at = refl
 
 -- ---- two of them, where one or both are at their ends
 
-first_ends : (ys : List ℕ) (y : ℕ) (zs : List ℕ) → ys ≡ y ∷ zs → in_order [] ys ≡ Before
+first_ends : (ys : List ℕ) (y : ℕ) (zs : List ℕ) → ys ≡ y ∷ zs → in_order [] ys ≡ Less
 unfolding in_order
 first_ends ys y zs e = rw e
 
-second_ends : (xs : List ℕ) (x : ℕ) (zs : List ℕ) → xs ≡ x ∷ zs → in_order xs [] ≡ After
+second_ends : (xs : List ℕ) (x : ℕ) (zs : List ℕ) → xs ≡ x ∷ zs → in_order xs [] ≡ Greater
 unfolding in_order
 second_ends xs x zs e = rw e
 
@@ -73,14 +73,14 @@ both_end : in_order [] [] ≡ Equal
 unfolding in_order
 both_end = refl
 
-heads : (xs ys : List ℕ) (x y : ℕ) (us vs : List ℕ) → xs ≡ x ∷ us → ys ≡ y ∷ vs → in_order xs ys ≡ pick (ltb x y) Before (pick (ltb y x) After (in_order us vs))
+heads : (xs ys : List ℕ) (x y : ℕ) (us vs : List ℕ) → xs ≡ x ∷ us → ys ≡ y ∷ vs → in_order xs ys ≡ pick (ltb x y) Less (pick (ltb y x) Greater (in_order us vs))
 unfolding in_order
 heads xs ys x y us vs p q = rw (p, q)
 
 -- ---- after so many numbers of both, which were equal
 
 module _ (first second : List ℕ) (one many two others : ℕ) where
-  abbrev whole : Order
+  abbrev whole : Ordering
   whole = in_order (values_in (run first one many)) (values_in (run second two others))
 
   -- what is left decides
@@ -109,12 +109,12 @@ module _ (first second : List ℕ) (one many two others : ℕ) where
       left : Formed (run first at (suc k))
       left = rw is_k at b.left_formed
 
-      pub ended : others ≤ done → After ≡ whole
+      pub ended : others ≤ done → Greater ≡ whole
       ended h =
           let z : others - done ≡ 0 = omega arith in
           sym (b.same ∙ rw (is_k, z, no_values second beside) (second_ends _ _ _ (some_values first at k left)))
 
-      pub left_not_bad : {A : Type 0} → Malformed ≡ stands_at first at → A
+      pub left_not_bad : {A : Type 0} → None ≡ stands_at first at → A
       left_not_bad e = not_bad first at k left e
 
       module _ (more' : done < others) where
@@ -128,20 +128,20 @@ module _ (first second : List ℕ) (one many two others : ℕ) where
         right : Formed (run second beside (suc l))
         right = rw is_l at b.right_formed
 
-        pub right_not_bad : {A : Type 0} → Malformed ≡ stands_at second beside → A
+        pub right_not_bad : {A : Type 0} → None ≡ stands_at second beside → A
         right_not_bad e = not_bad second beside l right e
 
-        module _ (x next y after : ℕ) (p : Value x next ≡ stands_at first at) (q : Value y after ≡ stands_at second beside) where
-          by_heads : whole ≡ pick (ltb x y) Before (pick (ltb y x) After (in_order (values_in (run first next k)) (values_in (run second after l))))
+        module _ (x next y after : ℕ) (p : Some (x, next) ≡ stands_at first at) (q : Some (y, after) ≡ stands_at second beside) where
+          by_heads : whole ≡ pick (ltb x y) Less (pick (ltb y x) Greater (in_order (values_in (run first next k)) (values_in (run second after l))))
           by_heads =
               b.same
               ∙ rw (is_k, is_l)
               (heads _ _ x y _ _ (run_next first at k left x next p).1 (run_next second beside l right y after q).1)
 
-          pub smaller : x < y → Before ≡ whole
+          pub smaller : x < y → Less ≡ whole
           smaller h = sym (by_heads ∙ pick_true _ _ (lt-ltb x y h))
 
-          pub larger : y < x → After ≡ whole
+          pub larger : y < x → Greater ≡ whole
           larger h = sym (by_heads ∙ pick_false _ _ (le-ltb x y (omega arith)) ∙ pick_true _ _ (lt-ltb y x h))
 
           pub beside_more : y ≤ x → x ≤ y → Beside next after (done + 1)
@@ -161,7 +161,7 @@ module _ (first second : List ℕ) (one many two others : ℕ) where
       none : values_in (run first at (many - done)) ≡ []
       none = let z : many - done ≡ 0 = omega arith in rw z (no_values first at)
 
-      pub ends_first : done < others → Before ≡ whole
+      pub ends_first : done < others → Less ≡ whole
       ends_first h =
           let n : others - done ≡ suc (others - suc done) = omega arith in
           sym (b.same ∙ rw (none, n) (first_ends _ _ _ (some_values second beside (others - suc done) (rw n at b.right_formed))))

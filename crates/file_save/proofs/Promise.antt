@@ -1,7 +1,7 @@
 -- One file for one tree: the promise on saving. Assumes nothing.
 use mathlib.Core.Path.{◌≡◌, refl, sym, ap, ◌∙◌}
 use mathlib.Core.List.{List, [], ◌∷◌, ◌++◌, append-nil}
-use Prim.Native.Nat.{ℕ, ◌+◌, ◌*◌, ◌≤◌}
+use Prim.Native.Nat.{ℕ, ◌*◌, ◌≤◌}
 use native.Mathlib.Omega.{arith}
 use lib.ListN.{length, drop, length-append}
 use lib.Seq.{drop_at, drop-length}
@@ -15,7 +15,7 @@ use Rattle.tree_numbering.specs.Numbered.{size, numbered}
 use Rattle.tree_numbering.proofs.Holds.{length_numbered, numbered_tree}
 use Rattle.tree_numbering.proofs.Sizes.{size_accepted}
 use Rattle.tree_sound.proofs.Accepts.{numbered_accepted, accepted_sound, accepted_outputs, accepted_root}
-use Rattle.file_loader.specs.declared.Loaded.TheVariants.{Accepted as Loads}
+use Rattle.std.specs.Prelude.{Ok}
 use Rattle.file_loader.specs.Several.{numbers, numbers_of}
 use Rattle.file_loader.specs.Files.{header, context_in, count_in, cells_in, loaded, loaded_table}
 use Rattle.file_loader.proofs.Files.{begun, accepted_nodes, accepted_file}
@@ -116,7 +116,7 @@ module _ (context count : ℕ) (cells : List ℕ) (ok : Accepted context count c
     )
 
   module _ (table : List ℕ) (room : node_cells * count ≤ length table) where
-    pub loads_back : (loaded (file_of context count cells) (length table) ≡ Loads context count) × (loaded_table (file_of context count cells) table ≡ over (numbered tree) table)
+    pub loads_back : (loaded (file_of context count cells) (length table) ≡ Ok (record { context = context; count = count })) × (loaded_table (file_of context count cells) table ≡ over (numbered tree) table)
     loads_back =
         let k = bounds in
         let at = length (all_bytes head) in

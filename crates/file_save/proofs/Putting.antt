@@ -1,6 +1,6 @@
 -- Laws of bytes put into a buffer. Assumes nothing.
 use mathlib.Core.Path.{◌≡◌, sym, ap, ◌∙◌}
-use mathlib.Core.Bool.{true, false}
+use mathlib.Core.Bool.{Bool, true, false}
 use mathlib.Core.List.{List, ◌∷◌}
 use Prim.Native.Nat.{ℕ, suc, ◌+◌, ◌-◌, ◌≤◌, ◌<◌}
 use native.Mathlib.Omega.{arith}
@@ -11,11 +11,15 @@ use borrow.Author.Tests.{ltb-false, lt-ltb, le-ltb}
 use Rattle.tree.specs.Sizes.{most_file_bytes}
 use Rattle.laws.specs.Lists.{over}
 use Rattle.laws.specs.Puts.{Put}
-use Rattle.laws.proofs.Choice.{pick_true, pick_false}
+use Rattle.laws.proofs.Choice.{pick_true, pick_false, true_not_false}
 use Rattle.laws.proofs.Putting.{put_more, put_over}
 use Rattle.file_bytes.specs.Bytes.{bytes_of, all_bytes}
 use Rattle.file_bytes.proofs.Several.{all_next}
-use Rattle.file_save.specs.declared.Saved.TheVariants.{Refused, Bytes}
+use Rattle.std.specs.Prelude.{Option, Some, None, Ok, Err, min, not, is_some}
+use Rattle.tree.specs.declared.refusal.Refusal.TheVariants.{Short}
+use Rattle.tree_rules.proofs.First.{stop, skip, no_more}
+use Rattle.file_loader.proofs.Replied.{refused_by, done_by}
+use Rattle.file_save.specs.Stores.{Leaves}
 use Rattle.file_save.specs.Saves.{save_refusal12, stored, stored_after, counted_of}
 
 -- one number more
@@ -49,13 +53,13 @@ module _ (context count : ℕ) (numbers : List ℕ) where
 
 -- what is answered and stored
 module _ (bytes buffer : List ℕ) (room : ℕ) where
-  pub no_room : ltb room (length bytes) ≡ true → (Refused 12 ≡ stored bytes room) × (buffer ≡ stored_after bytes room buffer)
+  pub no_room : ltb room (length bytes) ≡ true → (Err Short ≡ stored bytes room) × (buffer ≡ stored_after bytes room buffer)
   unfolding stored stored_after save_refusal12
-  no_room e = (sym (pick_true _ _ e), sym (pick_true _ _ e))
+  no_room e = (refused_by _ Short _ (stop _ _ e), sym (pick_true _ _ e))
 
-  pub has_room : length bytes ≤ room → (n : ℕ) → n ≡ length bytes → (after : List ℕ) → after ≡ over bytes buffer → (Bytes n ≡ stored bytes room) × (after ≡ stored_after bytes room buffer)
+  pub has_room : length bytes ≤ room → (n : ℕ) → n ≡ length bytes → (after : List ℕ) → after ≡ over bytes buffer → (Ok n ≡ stored bytes room) × (after ≡ stored_after bytes room buffer)
   unfolding stored stored_after save_refusal12
-  has_room h n e after f = (rw e (sym (pick_false _ _ (le-ltb _ _ h))), f ∙ sym (pick_false _ _ (le-ltb _ _ h)))
+  has_room h n e after f = (rw e (done_by _ _ (skip _ _ (le-ltb _ _ h) ∙ no_more)), f ∙ sym (pick_false _ _ (le-ltb _ _ h)))
 
 -- ---- what an answer can count of a buffer
 
@@ -99,3 +103,23 @@ room_whole context count numbers room lent e h =
     let r = ltb-false room (length (whole context count numbers)) h in
     let m = counted_most lent in
     (omega arith, omega arith, omega arith)
+
+-- the largest that can be counted of it
+pub least_counted : (lent : ℕ) → min lent 65535 ≡ counted_of lent
+least_counted lent = go (dec_le most_file_bytes lent)
+  where
+    go : Dec (most_file_bytes ≤ lent) → min lent 65535 ≡ counted_of lent
+    go (yes h) = let e = many_counted lent h in omega arith
+    go (no h) = let e = few_counted lent (omega arith) in omega arith
+
+-- what several numbers leave behind a header, or nothing
+pub left_none : (context count : ℕ) (numbers : List ℕ) (room header : ℕ) → header ≡ length (bytes_of context) + length (bytes_of count) → header ≤ room
+    → (r : Option ℕ) → Leaves (all_bytes numbers) (room - header) r → (b : Bool) → is_some r ≡ not b → b ≡ ltb room (length (whole context count numbers))
+left_none context count numbers room header e h None l true z =
+    let w = whole_long context count numbers in
+    sym (lt-ltb room (length (whole context count numbers)) (omega arith))
+left_none context count numbers room header e h None l false z = true_not_false (sym z)
+left_none context count numbers room header e h (Some left) l true z = true_not_false z
+left_none context count numbers room header e h (Some left) l false z =
+    let w = whole_long context count numbers in
+    sym (le-ltb room (length (whole context count numbers)) (omega arith))

@@ -23,14 +23,16 @@ use Rattle.tree_numbering.proofs.Accepting.{is_accepted, is_over, is_refusal}
 use Rattle.tree_numbering.proofs.Sizes.{size_accepted}
 use Rattle.tree_sound.proofs.Accepts.{accepted_sound}
 use Rattle.file_bytes.specs.Bytes.{all_bytes}
-use Rattle.file_save.specs.declared.Saved.{Saved}
-use Rattle.file_save.specs.declared.Saved.TheVariants.{Refused}
+use Rattle.std.specs.Prelude.{Result, Err}
+use Rattle.tree.specs.declared.refusal.Refusal.{Refusal}
+use Rattle.tree.specs.Replies.{replied}
+use Rattle.file_loader.proofs.Replied.{said_err}
 use Rattle.file_save.specs.Saves.{file, file_of, save_refusal12, stored, stored_after, counted_of, save_refusal, saved, saved_after}
 use Rattle.file_save.proofs.Putting.{whole_long, stored_counted, after_counted}
 use Rattle.file_save.proofs.Small.{bytes_one, bytes_two, few_bytes}
 
 -- what is answered where numbers are stored, and left in the buffer
-abbrev pub StoredIn : List ℕ → List ℕ → List ℕ → Saved → Type 0
+abbrev pub StoredIn : List ℕ → List ℕ → List ℕ → Result ℕ Refusal → Type 0
 StoredIn bytes buffer last r = (r ≡ stored bytes (counted_of (length buffer))) × (last ≡ stored_after bytes (counted_of (length buffer)) buffer)
 
 module _ (context count : ℕ) (cells : List ℕ) where
@@ -41,9 +43,9 @@ module _ (context count : ℕ) (cells : List ℕ) where
     unfolding save_refusal
     refuses = rw (← is) (pick_false _ _ (ne_eqb n 0 some))
 
-    refused_table : (Refused n ≡ saved context count cells (length buffer)) × (buffer ≡ saved_after context count cells buffer)
+    refused_table : {B : Type 0} (b : B) (e : Refusal) → Err e ≡ replied n b → (Err e ≡ saved context count cells (length buffer)) × (buffer ≡ saved_after context count cells buffer)
     unfolding saved saved_after
-    refused_table = rw refuses (sym (pick_false _ _ (ne_eqb n 0 some)), sym (pick_false _ _ (ne_eqb n 0 some)))
+    refused_table b e h = rw refuses ((said_err ℕ n b _ e h).0, sym (pick_false _ _ (ne_eqb n 0 some)))
 
   -- ---- a table that is accepted
 
@@ -61,11 +63,7 @@ module _ (context count : ℕ) (cells : List ℕ) where
 
     pub saved_is : (lent : ℕ) → saved context count cells lent ≡ stored (file_of context count cells) lent
     unfolding saved stored save_refusal12
-    saved_is lent = go (ltb lent (length (file_of context count cells))) refl
-      where
-        go : (b : Bool) → ltb lent (length (file_of context count cells)) ≡ b → saved context count cells lent ≡ stored (file_of context count cells) lent
-        go true e = rw (too_short lent e) (pick_false _ _ (ne_eqb 12 0 (λ z. omega arith)) ∙ sym (pick_true _ _ e))
-        go false e = rw (long_enough lent e) (pick_true _ _ (eq-eqb 0 0 refl) ∙ sym (pick_false _ _ e))
+    saved_is lent = rw (only_12 lent)
 
     pub after_is : (buffer : List ℕ) → saved_after context count cells buffer ≡ stored_after (file_of context count cells) (length buffer) buffer
     unfolding saved_after stored_after save_refusal12
@@ -113,7 +111,7 @@ module _ (context count : ℕ) (cells : List ℕ) where
       unfolding file
       is_file = rw (part_is, is_size)
 
-      saved_by : (buffer last : List ℕ) (r : Saved)
+      saved_by : (buffer last : List ℕ) (r : Result ℕ Refusal)
           → StoredIn (all_bytes (context ∷ count ∷ take (node_cells * count) after)) buffer last r
           → (r ≡ saved context count cells (length buffer)) × (last ≡ saved_after context count cells buffer)
       saved_by buffer last r e = (
@@ -124,9 +122,11 @@ module _ (context count : ℕ) (cells : List ℕ) where
 -- ---- an array of our own with room for every accepted table
 
 module _ (context count : ℕ) (cells own : List ℕ) (room : Accepted context count cells → node_cells * count ≤ length own) where
-  pub number_refused : (buffer : List ℕ) (n : ℕ) → n ≡ numbering_refusal context count cells (length own) → (n ≡ 0 → ⊥)
-      → (Refused n ≡ saved context count cells (length buffer)) × (buffer ≡ saved_after context count cells buffer)
-  number_refused buffer n e h = refused_table context count cells buffer n (is_refusal context count cells own room n e h) h
+  pub number_refused : (buffer : List ℕ) {B : Type 0} (b : B) (e : Refusal) → Err e ≡ replied (numbering_refusal context count cells (length own)) b
+      → (Err e ≡ saved context count cells (length buffer)) × (buffer ≡ saved_after context count cells buffer)
+  number_refused buffer b e h =
+      let some = (said_err ℕ _ b 0 e h).1 in
+      refused_table context count cells buffer _ (is_refusal context count cells own room _ refl some) some b e h
 
   module _ (done : 0 ≡ numbering_refusal context count cells (length own)) (after : List ℕ) (is : after ≡ numbered_after context count cells own) where
     ok : Accepted context count cells
@@ -141,7 +141,7 @@ module _ (context count : ℕ) (cells own : List ℕ) (room : Accepted context c
     pub number_length : node_cells * count ≡ length (take (node_cells * count) after)
     number_length = sym (part_length context count cells ok own after (room ok) over_own)
 
-    pub number_saved : (buffer last : List ℕ) (r : Saved)
+    pub number_saved : (buffer last : List ℕ) (r : Result ℕ Refusal)
         → StoredIn (all_bytes (context ∷ count ∷ take (node_cells * count) after)) buffer last r
         → (r ≡ saved context count cells (length buffer)) × (last ≡ saved_after context count cells buffer)
     number_saved buffer last r e = saved_by context count cells ok own after (room ok) over_own buffer last r e

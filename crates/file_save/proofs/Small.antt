@@ -1,13 +1,15 @@
 -- The numbers of a tree that keeps the rules of a node are below 65,536, and take at most ten bytes a node. Assumes nothing.
 use mathlib.Core.Path.{◌≡◌, sym}
 use mathlib.Core.Bool.{Bool, true, false, not, ◌&&◌}
-use mathlib.Core.List.{[], ◌∷◌}
+use mathlib.Core.List.{List, [], ◌∷◌, ◌++◌}
 use Prim.Native.Nat.{ℕ, suc, ◌+◌, ◌*◌, ◌≤◌, ◌<◌}
 use native.Mathlib.Omega.{arith}
+use Rattle.std.specs.Prelude.{count_by, cond}
+use Rattle.std.proofs.lemmas.List.Sums.{sum_by-cons}
 use native.Mathlib.Decide.{dec_le}
 use lib.Dec.{T, eqb, leb}
 use lib.ListN.{length, length-append}
-use borrow.Author.Tests.{leb-true, lt-leb, ne_eqb, not-false}
+use borrow.Author.Tests.{leb-true, le-leb, lt-leb, ne_eqb, not-false}
 use Rattle.laws.specs.Choice.{pick, is_one_of, lookup}
 use Rattle.laws.proofs.Choice.{true_of, true_not_false, and_true, or_false}
 use Rattle.laws.proofs.Each.{all, all_at}
@@ -130,3 +132,16 @@ few_bytes (node l a b) i h e =
     let x = few_bytes a (suc i) (omega arith) f.0 in
     let y = few_bytes b (suc i + size a) (omega arith) f.1 in
     rw (all_append (cells_from (suc i) a) (cells_from (suc i + size a) b)) (simp length-append (omega (arith, w.1)))
+
+-- numbers of 128 and above take three bytes at most, and others one
+pub longer_bytes : (ns : List ℕ) → length (all_bytes ns) ≤ length ns + 2 * count_by (λ n. leb 128 n) ns
+unfolding all_bytes
+longer_bytes [] = omega arith
+longer_bytes (n ∷ ns) = rw (sum_by-cons (λ (m : ℕ). cond (leb 128 m) 1 0) n ns) (go (dec_le 128 n) (longer_bytes ns))
+  where
+    long : length (bytes_of n ++ all_bytes ns) ≡ length (bytes_of n) + length (all_bytes ns)
+    long = length-append (bytes_of n) (all_bytes ns)
+
+    go : Dec (128 ≤ n) → length (all_bytes ns) ≤ length ns + 2 * count_by (λ m. leb 128 m) ns → length (bytes_of n ++ all_bytes ns) ≤ suc (length ns) + 2 * (cond (leb 128 n) 1 0 + count_by (λ m. leb 128 m) ns)
+    go (yes h) i = let l = long in let b = (some_bytes n).1 in rw (le-leb 128 n h) (omega arith)
+    go (no h) i = let l = long in let b = bytes_one n (omega arith) in rw (lt-leb 128 n (omega arith)) (omega arith)

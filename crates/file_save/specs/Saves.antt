@@ -1,14 +1,14 @@
 -- Document 02, Paper 2: the file of a tree, what saving a node table answers, and what the lent buffer holds afterwards.
-use Rattle.std.specs.Prelude.{Bool, List, [], ◌∷◌, ℕ, ◌-◌, eqb, ltb, length}
+use Rattle.std.specs.Prelude.{Bool, List, [], ◌∷◌, ℕ, ◌-◌, eqb, ltb, length, Result, Ok, Err}
 use Rattle.laws.specs.Choice.{pick}
 use Rattle.laws.specs.Lists.{over}
 use Rattle.tree.specs.Sizes.{most_file_bytes}
 use Rattle.tree.specs.Trees.{Tree, tree_at}
+use Rattle.tree.specs.declared.refusal.Refusal.{Refusal}
+use Rattle.tree.specs.Replies.{number_of, replied}
 use Rattle.tree_rules.specs.Refusals.{refusal, refuse, first_of}
 use Rattle.tree_numbering.specs.Numbered.{size, numbered}
 use Rattle.file_bytes.specs.Bytes.{all_bytes}
-use Rattle.file_save.specs.declared.Saved.{Saved}
-use Rattle.file_save.specs.declared.Saved.TheVariants.{Refused, Bytes}
 
 -- "a writer of tree files that numbers parents before operands and the first operand's nodes before the second's" (`numbered`): "The header is context and count; then five numbers a node", six by Paper 4
 unfoldable pub file : ℕ → Tree → List ℕ
@@ -23,8 +23,8 @@ unfoldable pub save_refusal12 : List ℕ → ℕ → Bool
 save_refusal12 bytes lent = ltb lent (length bytes)
 
 -- numbers as a file, once nothing else is refused: 12, or how many bytes they are; and the buffer afterwards, on 12 as it was, else the bytes over its start. `room` is how many bytes are taken
-unfoldable pub stored : List ℕ → ℕ → Saved
-stored bytes room = pick (save_refusal12 bytes room) (Refused 12) (Bytes (length bytes))
+unfoldable pub stored : List ℕ → ℕ → Result ℕ Refusal
+stored bytes room = replied (first_of (refuse 12 (save_refusal12 bytes room) ∷ [])) (length bytes)
 
 unfoldable pub stored_after : List ℕ → ℕ → List ℕ → List ℕ
 stored_after bytes room buffer = pick (save_refusal12 bytes room) buffer (over bytes buffer)
@@ -42,12 +42,8 @@ save_refusal context count cells lent =
     (refusal context count cells)
 
 -- the answer: the number of bytes, or the refusal
-unfoldable pub saved : ℕ → ℕ → List ℕ → ℕ → Saved
-saved context count cells lent =
-    pick
-    (eqb (save_refusal context count cells lent) 0)
-    (Bytes (length (file_of context count cells)))
-    (Refused (save_refusal context count cells lent))
+unfoldable pub saved : ℕ → ℕ → List ℕ → ℕ → Result ℕ Refusal
+saved context count cells lent = replied (save_refusal context count cells lent) (length (file_of context count cells))
 
 -- the buffer afterwards: on a refusal as it was; else the file over its start
 unfoldable pub saved_after : ℕ → ℕ → List ℕ → List ℕ → List ℕ
@@ -55,6 +51,6 @@ saved_after context count cells buffer =
     pick (eqb (save_refusal context count cells (length buffer)) 0) (over (file_of context count cells) buffer) buffer
 
 -- "When an answer is an enum, a definition gives this paper's number and values for each of its cases." The reply number, 0 for done, and behind it the value
-abbrev pub saved_in_numbers : Saved → List ℕ
-saved_in_numbers (Refused n) = n ∷ []
-saved_in_numbers (Bytes n) = 0 ∷ n ∷ []
+abbrev pub saved_in_numbers : Result ℕ Refusal → List ℕ
+saved_in_numbers (Err refusal) = number_of refusal ∷ []
+saved_in_numbers (Ok n) = 0 ∷ n ∷ []

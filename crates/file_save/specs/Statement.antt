@@ -1,11 +1,10 @@
 -- Document 02, Paper 2: what is promised of saving an accepted node table, and so of every accepted file.
-use Rattle.std.specs.Prelude.{◌≡◌, List, ℕ, ◌*◌, ◌≤◌, length}
+use Rattle.std.specs.Prelude.{◌≡◌, List, ℕ, ◌*◌, ◌≤◌, length, Ok}
 use Rattle.tree.specs.Sizes.{node_cells, most_file_bytes}
 use Rattle.laws.specs.Lists.{over}
 use Rattle.tree.specs.Trees.{tree_at}
 use Rattle.tree_rules.specs.Refusals.{Accepted}
 use Rattle.tree_numbering.specs.Numbered.{numbered}
-use Rattle.file_loader.specs.declared.Loaded.TheVariants.{Accepted as Loads}
 use Rattle.file_loader.specs.Files.{context_in, count_in, cells_in, file_refusal, loaded, loaded_table}
 use Rattle.file_save.specs.Saves.{file_of, saved, saved_after}
 
@@ -19,7 +18,7 @@ pub record OneFile (context count : ℕ) (cells : List ℕ) : Type 0 where
       → (kind ≡ context) × (tree_at other others 1 ≡ tree_at cells count 1)
   -- "Loading the output" into any table with room for it gives the context, the count and the numbered tree,
   pub loads_back : (table : List ℕ) → node_cells * count ≤ length table
-      → (loaded (file_of context count cells) (length table) ≡ Loads context count)
+      → (loaded (file_of context count cells) (length table) ≡ Ok (record { context = context; count = count }))
       × (loaded_table (file_of context count cells) table ≡ over (numbered (tree_at cells count 1)) table)
   -- "and writing once more changes nothing."
   pub saved_again : (table : List ℕ) → node_cells * count ≤ length table → (buffer : List ℕ)

@@ -1,82 +1,54 @@
 // Trees as tree files: one file for one tree.
 #![tactic(auto)]
 
-ghost use Rattle.std.specs.Prelude.{◌≡◌, true, ◌∷◌, ◌+◌, ◌*◌, ◌≤◌, ◌<◌, ltb, length};
+ghost use Rattle.std.specs.Prelude.{◌≡◌, true, ◌∷◌, ◌+◌, ◌*◌, ◌≤◌, ◌<◌, ◌^◌, leb, ltb, count_by, length};
 ghost use Rattle.laws.specs.Puts.{Put};
 ghost use Rattle.tree.specs.Sizes.{node_cells};
+ghost use Rattle.tree.specs.Replies.{replied};
 ghost use Rattle.tree_rules.specs.Refusals.{Accepted};
 ghost use Rattle.file_bytes.specs.Bytes.{bytes_of, all_bytes};
 ghost use Rattle.file_save.specs.Saves.{counted_of, stored, stored_after, saved, saved_after};
 ghost use Rattle.file_save.specs.Stores.{Leaves};
 
+use tree::refusal::Refusal;
 use tree::sizes;
+use tree::table::Table;
 use tree_numbering::accepted::number;
-
-// What saving answers.
-#[derive(Drop)]
-pub enum Saved {
-    // The number of the first refusal that applies.
-    Refused(u16),
-    // How many bytes of the lent buffer are the file.
-    Bytes(u16),
-}
 
 // ---- numbers as bytes
 
 // How many bytes a number takes.
+#[tactic(auto, unfolding(file_bytes::specs::Bytes::bytes_of, laws::specs::Choice::pick))]
 fn long(value: u16) -> usize
     ensures { result ≡ length (bytes_of value) }
 {
-    if value < 128 {
-        return 1;
+    match value {
+        0..=127 => 1,
+        128..=16383 => 2,
+        _ => 3,
     }
-    if value < 16384 {
-        return 2;
-    }
-    3
 }
 
-// What several numbers leave of so many bytes.
-#[derive(Drop)]
-enum Room {
-    // They take more.
-    Short,
-    Left(usize),
-}
-
-fn left_after(numbers: &[u16], room: usize) -> Room
+// What several numbers leave of so many bytes; none where they take more.
+fn left_after(numbers: &[u16], room: usize) -> Option<usize>
     ensures { Leaves (all_bytes numbers.now) room result }
 {
     let mut left = room;
-    let mut done = 0;
-    while done < numbers.len() {
-        let bytes = long(numbers[done]);
-        if left < bytes {
-            return Room::Short;
-        }
-        left -= bytes;
-        done += 1;
+    for &number in numbers {
+        left = left.checked_sub(long(number))?;
     }
-    Room::Left(left)
+    Some(left)
 }
 
-// How many numbers take more than one byte; none takes more than three.
-#[tactic(auto, using(crate::proofs::Putting::bytes_next, file_bytes::proofs::Numbers::some_bytes, crate::proofs::Small::bytes_one))]
+// How many numbers take more than one byte.
 fn longer(numbers: &[u16]) -> usize
-    ensures { length (all_bytes numbers.now) ≤ length numbers.now + 2 * result }
+    ensures { result ≡ count_by (λ n. leb 128 n) numbers.now }
 {
-    let mut found = 0;
-    let mut done = 0;
-    while done < numbers.len() {
-        if 128 <= numbers[done] {
-            found += 1;
-        }
-        done += 1;
-    }
-    found
+    numbers.iter().filter(|&&number| 128 <= number).count()
 }
 
-// Whether so many bytes are enough for several numbers even if each that takes more than one takes three: no number's bytes are counted.
+// Whether so many bytes are enough for several numbers even if each that takes more than one takes three, and none takes more: no number's bytes are counted.
+#[tactic(auto, using(crate::proofs::Small::longer_bytes))]
 fn is_enough(numbers: &[u16], room: usize) -> bool
     ensures { result ≡ true → length (all_bytes numbers.now) ≤ room }
 {
@@ -111,10 +83,8 @@ fn put_all(file: &mut [u8], from: usize, numbers: &[u16]) -> usize
     ensures { Put file.old from (all_bytes numbers.now) file.new result }
 {
     let mut at = from;
-    let mut done = 0;
-    while done < numbers.len() {
-        at = put(file, at, numbers[done]);
-        done += 1;
+    for &number in numbers {
+        at = put(file, at, number);
     }
     at
 }
@@ -126,10 +96,8 @@ fn is_short(context: u16, count: u16, numbers: &[u16], room: usize) -> bool
     ensures { result ≡ ltb room (length (all_bytes (context ∷ count ∷ numbers.now))) }
 {
     let thirds = room / 3;
-    if numbers.len() < thirds {
-        if 1 < thirds - numbers.len() {
-            return false;
-        }
+    if numbers.len() < thirds && 1 < thirds - numbers.len() {
+        return false;
     }
     let header = long(context) + long(count);
     if room < header {
@@ -138,89 +106,82 @@ fn is_short(context: u16, count: u16, numbers: &[u16], room: usize) -> bool
     if is_enough(numbers, room - header) {
         return false;
     }
-    let Room::Left(_) = left_after(numbers, room - header) else {
-        return true;
-    };
-    false
+    left_after(numbers, room - header).is_none()
 }
 
 // The most bytes of so many that an answer can count.
 fn counted(room: usize) -> usize
     ensures { result ≡ counted_of room }
 {
-    if room < sizes::MOST_FILE_BYTES {
-        return room;
-    }
-    sizes::MOST_FILE_BYTES - 1
+    room.min(sizes::MOST_FILE_BYTES - 1)
 }
 
-// A context, a count and the numbers of the nodes as a file, where the buffer has room for it. Nothing is stored before that is known.
-pub fn store(context: u16, count: u16, numbers: &[u16], file: &mut [u8]) -> Saved
+// A context, a count and the numbers of the nodes as a file: how many bytes of the lent buffer are it, where the buffer has room for it. Nothing is stored before that is known.
+pub fn store(context: u16, count: u16, numbers: &[u16], file: &mut [u8]) -> Result<u16, Refusal>
     ensures reply { result ≡ stored (all_bytes (context ∷ count ∷ numbers.now)) (counted_of (length file.old)) }
     ensures file { file.new ≡ stored_after (all_bytes (context ∷ count ∷ numbers.now)) (counted_of (length file.old)) file.old }
 {
     if is_short(context, count, numbers, counted(file.len())) {
-        return Saved::Refused(12);
+        return Err(Refusal::Short);
     }
     let second = put(file, 0, context);
     let body = put(file, second, count);
     let end = put_all(file, body, numbers);
-    Saved::Bytes(end as u16)
+    Ok(end as u16)
 }
 
 // The tree of a node table as a file, with a lent array for its numbering. An accepted table has room in it.
-fn save_in(context: u16, count: u16, table: &[u16], own: &mut [u16], file: &mut [u8]) -> Saved
+fn save_in(
+    context: u16,
+    count: u16,
+    table: &[u16],
+    own: &mut [u16],
+    file: &mut [u8],
+) -> Result<u16, Refusal>
     requires { Accepted context count table.now → node_cells * count ≤ length own.old }
     ensures value { result ≡ saved context count table.now (length file.old) }
     ensures file_after { file.new ≡ saved_after context count table.now file.old }
 {
-    let refused = number(context, count, table, own);
-    if refused != 0 {
-        return Saved::Refused(refused);
-    }
-    let cells = sizes::NODE_CELLS * (count as usize);
+    let numbered = Table {
+        cells: table,
+        count,
+    };
+    number(context, &numbered, own)?;
+    let cells = sizes::NODE_CELLS * usize::from(count);
     store(context, count, &own[..cells], file)
 }
 
-// The same for fewer than 64 nodes, with an array that is quickly made.
-fn save_small(context: u16, count: u16, table: &[u16], file: &mut [u8]) -> Saved
-    requires { count < 64 }
-    ensures value { result ≡ saved context count table.now (length file.old) }
-    ensures file_after { file.new ≡ saved_after context count table.now file.old }
-{
-    let mut own = [0u16; sizes::NODE_CELLS * 64];
-    save_in(context, count, table, &mut own, file)
-}
+// The cells of fewer than 64 nodes, of fewer than 512, and of as many as there can be.
+pub const FEW_CELLS: usize = sizes::NODE_CELLS * 64;
 
-// The same for fewer than 512 nodes.
-fn save_medium(context: u16, count: u16, table: &[u16], file: &mut [u8]) -> Saved
-    requires { count < 512 }
-    ensures value { result ≡ saved context count table.now (length file.old) }
-    ensures file_after { file.new ≡ saved_after context count table.now file.old }
-{
-    let mut own = [0u16; sizes::NODE_CELLS * 512];
-    save_in(context, count, table, &mut own, file)
-}
+pub const SOME_CELLS: usize = sizes::NODE_CELLS * 512;
 
-// The same for any count.
-fn save_large(context: u16, count: u16, table: &[u16], file: &mut [u8]) -> Saved
+pub const MOST_CELLS: usize = sizes::NODE_CELLS * (sizes::MOST_NODES as usize);
+
+// The same with an array of its own: one for few nodes is quickly made.
+fn save_by<const CELLS: usize>(
+    context: u16,
+    count: u16,
+    table: &[u16],
+    file: &mut [u8],
+) -> Result<u16, Refusal>
+    requires room { Accepted context count table.now → node_cells * count ≤ CELLS }
+    requires small { CELLS < 2 ^ 20 }
     ensures value { result ≡ saved context count table.now (length file.old) }
     ensures file_after { file.new ≡ saved_after context count table.now file.old }
 {
-    let mut own = [0u16; sizes::NODE_CELLS * (sizes::MOST_NODES as usize)];
+    let mut own = [0u16; CELLS];
     save_in(context, count, table, &mut own, file)
 }
 
 // The tree of a node table as a file in a lent buffer, its nodes numbered from the root on: how many bytes it has, or the first refusal that applies.
-pub fn save(context: u16, count: u16, table: &[u16], file: &mut [u8]) -> Saved
+pub fn save(context: u16, count: u16, table: &[u16], file: &mut [u8]) -> Result<u16, Refusal>
     ensures reply { result ≡ saved context count table.now (length file.old) }
     ensures file { file.new ≡ saved_after context count table.now file.old }
 {
-    if count < 64 {
-        return save_small(context, count, table, file);
+    match count {
+        0..=63 => save_by::<FEW_CELLS>(context, count, table, file),
+        64..=511 => save_by::<SOME_CELLS>(context, count, table, file),
+        _ => save_by::<MOST_CELLS>(context, count, table, file),
     }
-    if count < 512 {
-        return save_medium(context, count, table, file);
-    }
-    save_large(context, count, table, file)
 }

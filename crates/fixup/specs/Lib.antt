@@ -1,3 +1,2 @@
 pub mod Contexts
 pub mod Fixup
-pub mod Steps

@@ -1,12 +1,10 @@
 // FixupContext: what is known of an expression's surroundings, and what an owner hands down.
 ghost use Rattle.std.specs.Prelude.{◌≡◌};
 ghost use Rattle.fixup.specs.Contexts.{none_context, new_stmt, new_match_arm, new_condition, with_operator, with_dot, rightmost};
-ghost use Rattle.fixup.specs.Steps.{with_operators};
 
-use bools::{and_not, both, either};
 use precedence::Precedence;
 
-#[derive(Clone, Copy)]
+#[derive(Clone, Copy, Debug, PartialEq, Eq)]
 pub struct FixupContext {
     pub previous_operator: Precedence,
     pub next_operator: Precedence,
@@ -33,71 +31,57 @@ pub struct FixupContext {
 }
 
 impl FixupContext {
+    // Minimal fixing: flags are set where they are needed.
+    pub const NONE: FixupContext = FixupContext {
+        previous_operator: Precedence::MIN,
+        next_operator: Precedence::MIN,
+        stmt: false,
+        leftmost_subexpression_in_stmt: false,
+        match_arm: false,
+        leftmost_subexpression_in_match_arm: false,
+        condition: false,
+        rightmost_subexpression_in_condition: false,
+        leftmost_subexpression_in_optional_operand: false,
+        next_operator_can_begin_expr: false,
+        next_operator_can_continue_expr: false,
+        next_operator_can_begin_generics: false,
+    };
+
     // FixupContext::NONE
     pub fn none() -> FixupContext
         ensures { result ≡ none_context }
     {
-        FixupContext {
-            previous_operator: Precedence::MIN,
-            next_operator: Precedence::MIN,
-            stmt: false,
-            leftmost_subexpression_in_stmt: false,
-            match_arm: false,
-            leftmost_subexpression_in_match_arm: false,
-            condition: false,
-            rightmost_subexpression_in_condition: false,
-            leftmost_subexpression_in_optional_operand: false,
-            next_operator_can_begin_expr: false,
-            next_operator_can_continue_expr: false,
-            next_operator_can_begin_generics: false,
-        }
+        FixupContext::NONE
     }
 
     // The context of an expression in statement position.
     pub fn new_stmt() -> FixupContext
         ensures { result ≡ new_stmt }
     {
-        let mut fixup = FixupContext::none();
-        fixup.stmt = true;
-        fixup
+        FixupContext {
+            stmt: true,
+            ..FixupContext::NONE
+        }
     }
 
     // The context of an expression as the right-hand side of a match arm.
     pub fn new_match_arm() -> FixupContext
         ensures { result ≡ new_match_arm }
     {
-        let mut fixup = FixupContext::none();
-        fixup.match_arm = true;
-        fixup
+        FixupContext {
+            match_arm: true,
+            ..FixupContext::NONE
+        }
     }
 
     // The context of an expression as the condition of an `if` or `while`.
     pub fn new_condition() -> FixupContext
         ensures { result ≡ new_condition }
     {
-        let mut fixup = FixupContext::none();
-        fixup.condition = true;
-        fixup.rightmost_subexpression_in_condition = true;
-        fixup
-    }
-
-    // A copy with these operators on either side. A flag of a copy can be assigned, an operator cannot: it is an enum.
-    fn with_operators(self, previous: Precedence, next: Precedence) -> FixupContext
-        ensures { result ≡ with_operators self previous next }
-    {
         FixupContext {
-            previous_operator: previous,
-            next_operator: next,
-            stmt: self.stmt,
-            leftmost_subexpression_in_stmt: self.leftmost_subexpression_in_stmt,
-            match_arm: self.match_arm,
-            leftmost_subexpression_in_match_arm: self.leftmost_subexpression_in_match_arm,
-            condition: self.condition,
-            rightmost_subexpression_in_condition: self.rightmost_subexpression_in_condition,
-            leftmost_subexpression_in_optional_operand: self.leftmost_subexpression_in_optional_operand,
-            next_operator_can_begin_expr: self.next_operator_can_begin_expr,
-            next_operator_can_continue_expr: self.next_operator_can_continue_expr,
-            next_operator_can_begin_generics: self.next_operator_can_begin_generics,
+            condition: true,
+            rightmost_subexpression_in_condition: true,
+            ..FixupContext::NONE
         }
     }
 
@@ -110,40 +94,37 @@ impl FixupContext {
     ) -> FixupContext
         ensures { result ≡ with_operator self next_operator_can_begin_expr next_operator_can_begin_generics precedence }
     {
-        let previous = self.previous_operator;
-        let mut fixup = self.with_operators(previous, precedence);
-        fixup.stmt = false;
-        fixup.leftmost_subexpression_in_stmt = either(
-            self.stmt,
-            self.leftmost_subexpression_in_stmt,
-        );
-        fixup.match_arm = false;
-        fixup.leftmost_subexpression_in_match_arm = either(
-            self.match_arm,
-            self.leftmost_subexpression_in_match_arm,
-        );
-        fixup.rightmost_subexpression_in_condition = false;
-        fixup.next_operator_can_begin_expr = next_operator_can_begin_expr;
-        fixup.next_operator_can_continue_expr = true;
-        fixup.next_operator_can_begin_generics = next_operator_can_begin_generics;
-        fixup
+        FixupContext {
+            next_operator: precedence,
+            stmt: false,
+            leftmost_subexpression_in_stmt: self.stmt || self.leftmost_subexpression_in_stmt,
+            match_arm: false,
+            leftmost_subexpression_in_match_arm: self.match_arm
+                || self.leftmost_subexpression_in_match_arm,
+            rightmost_subexpression_in_condition: false,
+            next_operator_can_begin_expr,
+            next_operator_can_continue_expr: true,
+            next_operator_can_begin_generics,
+            ..self
+        }
     }
 
     // The context that leftmost_subexpression_with_dot makes.
     pub fn leftmost_fixup_with_dot(self) -> FixupContext
         ensures { result ≡ with_dot self }
     {
-        let previous = self.previous_operator;
-        let mut fixup = self.with_operators(previous, Precedence::Unambiguous);
-        fixup.stmt = either(self.stmt, self.leftmost_subexpression_in_stmt);
-        fixup.leftmost_subexpression_in_stmt = false;
-        fixup.match_arm = either(self.match_arm, self.leftmost_subexpression_in_match_arm);
-        fixup.leftmost_subexpression_in_match_arm = false;
-        fixup.rightmost_subexpression_in_condition = false;
-        fixup.next_operator_can_begin_expr = false;
-        fixup.next_operator_can_continue_expr = true;
-        fixup.next_operator_can_begin_generics = false;
-        fixup
+        FixupContext {
+            next_operator: Precedence::Unambiguous,
+            stmt: self.stmt || self.leftmost_subexpression_in_stmt,
+            leftmost_subexpression_in_stmt: false,
+            match_arm: self.match_arm || self.leftmost_subexpression_in_match_arm,
+            leftmost_subexpression_in_match_arm: false,
+            rightmost_subexpression_in_condition: false,
+            next_operator_can_begin_expr: false,
+            next_operator_can_continue_expr: true,
+            next_operator_can_begin_generics: false,
+            ..self
+        }
     }
 
     // The context of a right operand.
@@ -155,14 +136,15 @@ impl FixupContext {
     ) -> FixupContext
         ensures { result ≡ rightmost self reset_allow_struct optional_operand precedence }
     {
-        let next = self.next_operator;
-        let mut fixup = self.with_operators(precedence, next);
-        fixup.stmt = false;
-        fixup.leftmost_subexpression_in_stmt = false;
-        fixup.match_arm = false;
-        fixup.leftmost_subexpression_in_match_arm = false;
-        fixup.condition = and_not(self.condition, reset_allow_struct);
-        fixup.leftmost_subexpression_in_optional_operand = both(self.condition, optional_operand);
-        fixup
+        FixupContext {
+            previous_operator: precedence,
+            stmt: false,
+            leftmost_subexpression_in_stmt: false,
+            match_arm: false,
+            leftmost_subexpression_in_match_arm: false,
+            condition: self.condition && !reset_allow_struct,
+            leftmost_subexpression_in_optional_operand: self.condition && optional_operand,
+            ..self
+        }
     }
 }

@@ -1,179 +1,95 @@
 // What the context says of an expression: parenthesize, its precedence, and scan_left.
-ghost use Rattle.std.specs.Prelude.{◌≡◌, ◌&&◌};
+ghost use Rattle.std.specs.Prelude.{◌≡◌};
 ghost use Rattle.tree.specs.Trees.{tree_at};
 ghost use Rattle.fixup.specs.Fixup.{parenthesize, effective, left_of_binary, scan_left};
-ghost use Rattle.fixup_look.specs.Steps.{look_of};
-ghost use Rattle.fixup.specs.Steps.{asks};
 
 use super::context::FixupContext;
-use bools::{and_not, either};
-use fixup_look::{Look, looks};
+use classify::{requires_comma_to_be_match_arm, requires_semi_to_be_stmt};
+use fixup_look::{
+    is_bare_jump, is_bare_return, is_cast_to_path, is_let, is_open_ahead, is_open_ended,
+    is_plain_block, is_struct,
+};
 use precedence::Precedence;
-use tree::table::{Operand, cell, form_at};
-use tree::{columns, forms};
-use tree_shapes::first_at;
-
-// The question is put only where a flag of the context asks for it.
-fn flagged(flag: bool, question: Look, table: &[u16], count: u16, node: u16) -> bool
-    ensures { result ≡ (flag && look_of question (tree_at table.now count node)) }
-{
-    if flag {
-        looks(question, table, count, node)
-    } else {
-        false
-    }
-}
-
-// Left of a Binary operator with a precedence of its own.
-fn left_of_binary(previous: Precedence, own: Precedence) -> bool
-    ensures { result ≡ left_of_binary previous own }
-{
-    if own.is_same(Precedence::Assign) {
-        previous.is_at_most(Precedence::Assign)
-    } else {
-        previous.is_below(own)
-    }
-}
+use tree::form::Form;
+use tree::table::Table;
 
 impl FixupContext {
-    // Whether one of the flags is set that parenthesize looks at.
-    fn asks(self) -> bool
-        ensures { result ≡ asks self }
-    {
-        either(
-            either(
-                either(self.stmt, self.leftmost_subexpression_in_stmt),
-                self.leftmost_subexpression_in_match_arm,
-            ),
-            either(
-                either(self.condition, self.rightmost_subexpression_in_condition),
-                self.leftmost_subexpression_in_optional_operand,
-            ),
-        )
-    }
-
     // Whether parentheses are needed to head off the early termination of a statement or condition.
-    pub fn parenthesize(self, table: &[u16], count: u16, node: u16) -> bool
-        ensures { result ≡ parenthesize self (tree_at table.now count node) }
+    #[tactic(auto, unfolding(crate::specs::Fixup::parenthesize))]
+    pub fn parenthesize(self, table: &Table, node: u16) -> bool
+        ensures { result ≡ parenthesize self (tree_at table.now.cells.now table.now.count node) }
     {
-        if self.asks() {
-            return self.parenthesize_asked(table, count, node);
-        }
-        false
-    }
-
-    // parenthesize, question by question.
-    fn parenthesize_asked(self, table: &[u16], count: u16, node: u16) -> bool
-        ensures { result ≡ parenthesize self (tree_at table.now count node) }
-    {
-        if flagged(
-            self.leftmost_subexpression_in_stmt,
-            Look::EndsStmt,
-            table,
-            count,
-            node,
-        ) {
+        if self.leftmost_subexpression_in_stmt && !requires_semi_to_be_stmt(table, node) {
             return true;
         }
-        if flagged(
-            either(self.stmt, self.leftmost_subexpression_in_stmt),
-            Look::Let,
-            table,
-            count,
-            node,
-        ) {
+        if (self.stmt || self.leftmost_subexpression_in_stmt) && is_let(table, node) {
             return true;
         }
-        if flagged(
-            self.leftmost_subexpression_in_match_arm,
-            Look::EndsMatchArm,
-            table,
-            count,
-            node,
-        ) {
+        if self.leftmost_subexpression_in_match_arm
+            && !requires_comma_to_be_match_arm(table, node)
+        {
             return true;
         }
-        if flagged(self.condition, Look::Struct, table, count, node) {
+        if self.condition && is_struct(table, node) {
             return true;
         }
-        if flagged(
-            self.rightmost_subexpression_in_condition,
-            Look::BareReturn,
-            table,
-            count,
-            node,
-        ) {
+        if self.rightmost_subexpression_in_condition && is_bare_return(table, node) {
             return true;
         }
-        if flagged(
-            and_not(self.rightmost_subexpression_in_condition, self.condition),
-            Look::OpenEnded,
-            table,
-            count,
-            node,
-        ) {
+        if self.rightmost_subexpression_in_condition
+            && !self.condition
+            && is_open_ended(table, node)
+        {
             return true;
         }
-        flagged(
-            self.leftmost_subexpression_in_optional_operand,
-            Look::PlainBlock,
-            table,
-            count,
-            node,
-        )
+        self.leftmost_subexpression_in_optional_operand && is_plain_block(table, node)
     }
 
     // The effective precedence of a subexpression.
-    pub fn precedence(self, table: &[u16], count: u16, node: u16) -> Precedence
-        ensures { result ≡ effective self (tree_at table.now count node) }
+    #[tactic(auto, unfolding(crate::specs::Fixup::effective, laws::specs::Choice::pick))]
+    pub fn precedence(self, table: &Table, node: u16) -> Precedence
+        ensures { result ≡ effective self (tree_at table.now.cells.now table.now.count node) }
     {
-        if flagged(
-            self.next_operator_can_begin_expr,
-            Look::BareJump,
-            table,
-            count,
-            node,
-        ) {
+        if self.next_operator_can_begin_expr && is_bare_jump(table, node) {
             return Precedence::Jump;
         }
-        if flagged(
-            !self.next_operator_can_continue_expr,
-            Look::OpenAhead,
-            table,
-            count,
-            node,
-        ) {
+        if !self.next_operator_can_continue_expr && is_open_ahead(table, node) {
             return Precedence::Prefix;
         }
-        if !self.next_operator_can_begin_generics {
-            return Precedence::of(table, count, node);
-        }
-        if looks(Look::CastToPath, table, count, node) {
+        if self.next_operator_can_begin_generics && is_cast_to_path(table, node) {
             return Precedence::MIN;
         }
-        Precedence::of(table, count, node)
+        Precedence::of(table, node)
+    }
+}
+
+// Left of a Binary operator with a precedence of its own. As a match within scan_left's, the proof did not close.
+#[tactic(auto, unfolding(crate::specs::Fixup::left_of_binary, laws::specs::Choice::pick))]
+fn left_of_binary(previous: Precedence, own: Precedence) -> bool
+    ensures { result ≡ left_of_binary previous own }
+{
+    match own {
+        Precedence::Assign => previous <= Precedence::Assign,
+        _ => previous < own,
     }
 }
 
 // Whether the operator before the expression leaves it whole.
-pub fn scan_left(table: &[u16], count: u16, node: u16, fixup: FixupContext) -> bool
-    ensures { result ≡ scan_left (tree_at table.now count node) fixup }
+#[tactic(auto, unfolding(crate::specs::Fixup::scan_left_lines, tree::specs::Trees::label_at, laws::specs::Choice::lookup, laws::specs::Choice::pick), using(crate::proofs::Scans::scanned, crate::proofs::Scans::unlisted, tree::proofs::Walks::there))]
+pub fn scan_left(table: &Table, node: u16, fixup: FixupContext) -> bool
+    ensures { result ≡ scan_left (tree_at table.now.cells.now table.now.count node) fixup }
 {
-    let previous = fixup.previous_operator;
-    match form_at(table, count, node) {
-        forms::EXPR_ASSIGN => previous.is_at_most(Precedence::Assign),
-        forms::EXPR_BINARY => {
+    match table.form(node) {
+        Some(Form::ExprAssign) => fixup.previous_operator <= Precedence::Assign,
+        Some(Form::ExprBinary) => {
             left_of_binary(
-                previous,
-                Precedence::of_binop(cell(table, node, columns::DETAIL)),
+                fixup.previous_operator,
+                Precedence::of_binop(table.detail(node)),
             )
         }
-        forms::EXPR_CAST => previous.is_below(Precedence::Cast),
-        forms::EXPR_RANGE => {
-            let Operand::Present(_) = first_at(table, count, node) else {
-                return true;
-            };
-            previous.is_below(Precedence::Assign)
+        Some(Form::ExprCast) => fixup.previous_operator < Precedence::Cast,
+        Some(Form::ExprRange) => {
+            table.first(node).is_none() || fixup.previous_operator < Precedence::Assign
         }
         _ => true,
     }

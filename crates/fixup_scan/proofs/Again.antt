@@ -19,7 +19,7 @@ use Rattle.fixup.specs.Contexts.{rightmost}
 use Rattle.fixup.specs.Fixup.{effective, scan_left}
 use Rattle.fixup_scan.specs.declared.Scan.{Scan}
 use Rattle.fixup_scan.specs.declared.Scan.TheVariants.{Fail, Bailout, Consume}
-use Rattle.fixup_scan.specs.declared.answer.Leave.TheVariants.{Answer, Ask}
+use Rattle.std.specs.Prelude.{None, Some}
 use Rattle.fixup_scan.specs.declared.arm.Arm.{Arm}
 use Rattle.fixup_scan.specs.declared.arm.Arm.TheVariants.{Assign, Binary, Prefix, Range, Break, Return, Closure, Let, Group, Closed}
 use Rattle.fixup_scan.specs.Scans.{binds, consumes, consume_by, loose, scanned, right_by, scan_right, rightmost_precedence}
@@ -200,30 +200,30 @@ fails_again =
 
 -- ---- the first answer serves
 
-answer_not_ask : {A : Type 0} {s : Scan} → Answer s ≡ Ask → A
+answer_not_ask : {A : Type 0} {s : Scan} → Some s ≡ None → A
 answer_not_ask e = absurd (let z : ◌≡◌ {A = ℕ} 0 1 = cc in omega arith)
 
-asks_not_consume : (arm : Arm) (p next : Precedence) (s : Scan) → leave_by arm p next s ≡ Ask → not_consume s ≡ true
+asks_not_consume : (arm : Arm) (p next : Precedence) (s : Scan) → leave_by arm p next s ≡ None → not_consume s ≡ true
 asks_not_consume arm p next Fail e = refl
 asks_not_consume arm p next Bailout e = refl
 asks_not_consume arm p next Consume e = answer_not_ask e
 
-pub prefix_asks : (p next : Precedence) (s : Scan) → leave_by Prefix p next s ≡ Ask → s ≡ Fail
+pub prefix_asks : (p next : Precedence) (s : Scan) → leave_by Prefix p next s ≡ None → s ≡ Fail
 prefix_asks p next Fail e = refl
 prefix_asks p next Bailout e = answer_not_ask e
 prefix_asks p next Consume e = answer_not_ask e
 
-group_asks : {A : Type 0} (p next : Precedence) (s : Scan) → leave_by Group p next s ≡ Ask → A
+group_asks : {A : Type 0} (p next : Precedence) (s : Scan) → leave_by Group p next s ≡ None → A
 group_asks p next Fail e = answer_not_ask e
 group_asks p next Bailout e = answer_not_ask e
 group_asks p next Consume e = answer_not_ask e
 
-closure_asks : {A : Type 0} (p next : Precedence) (s : Scan) → leave_by Closure p next s ≡ Ask → A
+closure_asks : {A : Type 0} (p next : Precedence) (s : Scan) → leave_by Closure p next s ≡ None → A
 closure_asks p next Fail e = answer_not_ask e
 closure_asks p next Bailout e = answer_not_ask e
 closure_asks p next Consume e = answer_not_ask e
 
-closed_asks : {A : Type 0} (p next : Precedence) (s : Scan) → leave_by Closed p next s ≡ Ask → A
+closed_asks : {A : Type 0} (p next : Precedence) (s : Scan) → leave_by Closed p next s ≡ None → A
 closed_asks p next Fail e = answer_not_ask e
 closed_asks p next Bailout e = answer_not_ask e
 closed_asks p next Consume e = answer_not_ask e
@@ -233,10 +233,10 @@ module _ (o : Tree) (x : FixupContext) (p : Precedence) (f b : ℕ) where
   abbrev asked_again : Arm → Scan
   asked_again arm = let y = (visit_by arm x p f b).context in scan_right o y y.previous_operator 1 0
 
-  lowest_asked : (arm : Arm) (y : FixupContext) (q : Precedence) (g c : ℕ) → leave_by arm p x.next_operator (scan_right o y q g c) ≡ Ask → not_consume (scan_right o y q 1 0) ≡ true
+  lowest_asked : (arm : Arm) (y : FixupContext) (q : Precedence) (g c : ℕ) → leave_by arm p x.next_operator (scan_right o y q g c) ≡ None → not_consume (scan_right o y q 1 0) ≡ true
   lowest_asked arm y q g c e = let h = asks_not_consume arm p x.next_operator (scan_right o y q g c) e in ap not_consume (lowest o y q g c h) ∙ h
 
-  asked_same : (arm : Arm) → leave_by arm p x.next_operator (asked arm (scan_right o) x p f b) ≡ Ask → asks_again arm x.next_operator ≡ false → not_consume (asked_again arm) ≡ true
+  asked_same : (arm : Arm) → leave_by arm p x.next_operator (asked arm (scan_right o) x p f b) ≡ None → asks_again arm x.next_operator ≡ false → not_consume (asked_again arm) ≡ true
   asked_same Assign e k = lowest_asked Assign _ _ _ _ e
   asked_same (Binary q) e k = lowest_asked (Binary q) _ _ _ _ e
   asked_same Prefix e k = still_not_consume x.next_operator (asked_again Prefix) (fails_again o _ p _ _ k (prefix_asks p x.next_operator (asked Prefix (scan_right o) x p f b) e))
@@ -249,7 +249,7 @@ module _ (o : Tree) (x : FixupContext) (p : Precedence) (f b : ℕ) where
   asked_same Closed e k = closed_asks p x.next_operator (asked Closed (scan_right o) x p f b) e
 
   -- the operand's right precedence, from the answer that it gave
-  pub first_serves : (arm : Arm) → leave_by arm p x.next_operator (asked arm (scan_right o) x p f b) ≡ Ask → asks_again arm x.next_operator ≡ false → right_given o (asked arm (scan_right o) x p f b) (visit_by arm x p f b).context ≡ rightmost_precedence o (visit_by arm x p f b).context
+  pub first_serves : (arm : Arm) → leave_by arm p x.next_operator (asked arm (scan_right o) x p f b) ≡ None → asks_again arm x.next_operator ≡ false → right_given o (asked arm (scan_right o) x p f b) (visit_by arm x p f b).context ≡ rightmost_precedence o (visit_by arm x p f b).context
   unfolding right_given rightmost_precedence right_by
   first_serves arm e k =
       let y = (visit_by arm x p f b).context in

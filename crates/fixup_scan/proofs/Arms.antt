@@ -15,7 +15,7 @@ use Rattle.classify.specs.Classify.{leading_label}
 use Rattle.fixup.specs.declared.context.FixupContext.{FixupContext}
 use Rattle.fixup_scan.specs.declared.Scan.{Scan}
 use Rattle.fixup_scan.specs.declared.Scan.TheVariants.{Fail, Bailout, Consume}
-use Rattle.fixup_scan.specs.declared.answer.Leave.TheVariants.{Answer, Ask}
+use Rattle.std.specs.Prelude.{None, Some}
 use Rattle.fixup_scan.specs.declared.arm.Arm.{Arm}
 use Rattle.fixup_scan.specs.declared.arm.Arm.TheVariants.{Assign, Binary, Prefix, Range, Break, Return, Closure, Let, Group, Closed}
 use Rattle.fixup_scan.specs.Scans.{by, Scans, right_by, consumes, consume_by, assign, binary, prefix, range, jump, bare_jump, lets, closed, scan_lines, scan_right}
@@ -23,12 +23,12 @@ use Rattle.fixup_scan.specs.Arms.{arm_lines, arm_of, operand_by, closed_scan, ba
 
 -- ---- choices
 
-pub answer_of : (t : Bool) (s settled : Scan) → finish (pick t (Answer s) Ask) settled ≡ pick t s settled
+pub answer_of : (t : Bool) (s settled : Scan) → finish (pick t (Some s) None) settled ≡ pick t s settled
 unfolding pick
 answer_of true s settled = refl
 answer_of false s settled = refl
 
-ask_of : (t : Bool) (s settled : Scan) → finish (pick t Ask (Answer s)) settled ≡ pick t settled s
+ask_of : (t : Bool) (s settled : Scan) → finish (pick t None (Some s)) settled ≡ pick t settled s
 unfolding pick
 ask_of true s settled = refl
 ask_of false s settled = refl

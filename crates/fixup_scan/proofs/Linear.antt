@@ -17,8 +17,7 @@ use Rattle.fixup.specs.Contexts.{rightmost}
 use Rattle.fixup.specs.Fixup.{parenthesize, effective}
 use Rattle.fixup_scan.specs.declared.Scan.{Scan}
 use Rattle.fixup_scan.specs.declared.Scan.TheVariants.{Fail, Bailout, Consume}
-use Rattle.fixup_scan.specs.declared.answer.Leave.{Leave}
-use Rattle.fixup_scan.specs.declared.answer.Leave.TheVariants.{Answer, Ask}
+use Rattle.std.specs.Prelude.{Option, None, Some}
 use Rattle.fixup_scan.specs.declared.arm.Arm.{Arm}
 use Rattle.fixup_scan.specs.declared.arm.Arm.TheVariants.{Assign, Binary, Prefix, Range, Break, Return, Closure, Let, Group, Closed}
 use Rattle.fixup_scan.specs.Scans.{consumes, consume_by, loose, scanned, right_by, scan_right, rightmost_precedence}
@@ -56,11 +55,11 @@ abbrev Scanned : Tree → Type 0
 Scanned t = (x : FixupContext) (p : Precedence) (f b : ℕ) → linear t x p f b ≡ scan_right t x p f b
 
 -- an answer, settled by the one precedence or the other
-settled : (l : Leave) (again : Bool) (settle : Precedence → Scan) (q r : Precedence) → (l ≡ Ask → again ≡ false → r ≡ q) → finish l (settle (pick again q r)) ≡ finish l (settle q)
+settled : (l : Option Scan) (again : Bool) (settle : Precedence → Scan) (q r : Precedence) → (l ≡ None → again ≡ false → r ≡ q) → finish l (settle (pick again q r)) ≡ finish l (settle q)
 unfolding pick
-settled (Answer s) again settle q r h = refl
-settled Ask true settle q r h = refl
-settled Ask false settle q r h = ap settle (h refl refl)
+settled (Some s) again settle q r h = refl
+settled None true settle q r h = refl
+settled None false settle q r h = ap settle (h refl refl)
 
 operand_linear_scan : (arm : Arm) (o : Tree) → Scanned o → (x : FixupContext) (p : Precedence) (f b : ℕ) →
     (let v = visit_by arm x p f b in
@@ -256,9 +255,9 @@ fails_once_more = along OnceMore (λ t ih x p f b q j e. visits_once t x q 1 0 (
 abbrev Twice : Tree → Type 0
 Twice t = (x : FixupContext) (p : Precedence) (f b : ℕ) → visits t x p f b ≤ 2 * spine t
 
-is_ask_lem : (l : Leave) → is_ask l ≡ true → l ≡ Ask
-is_ask_lem (Answer s) e = true_not_false (sym e)
-is_ask_lem Ask e = refl
+is_ask_lem : (l : Option Scan) → is_ask l ≡ true → l ≡ None
+is_ask_lem (Some s) e = true_not_false (sym e)
+is_ask_lem None e = refl
 
 pub pick_within : (b : Bool) (n m : ℕ) → n ≤ m → pick b n 0 ≤ m
 unfolding pick
@@ -266,7 +265,7 @@ pick_within true n m h = h
 pick_within false n m h = omega arith
 
 -- where the operand is scanned twice, it fails with no next operator
-inner_twice : (arm : Arm) (o : Tree) (x : FixupContext) (p : Precedence) (f b : ℕ) → asks_again arm x.next_operator ≡ true → leave_by arm p x.next_operator (asked arm (scan_right o) x p f b) ≡ Ask → scanned_once arm o x p f b + right_visits_by o (visits o) (visit_by arm x p f b).context ≤ 2 * spine o
+inner_twice : (arm : Arm) (o : Tree) (x : FixupContext) (p : Precedence) (f b : ℕ) → asks_again arm x.next_operator ≡ true → leave_by arm p x.next_operator (asked arm (scan_right o) x p f b) ≡ None → scanned_once arm o x p f b + right_visits_by o (visits o) (visit_by arm x p f b).context ≤ 2 * spine o
 unfolding right_visits_by
 inner_twice Assign o x p f b j e = true_not_false (sym j)
 inner_twice (Binary q) o x p f b j e = true_not_false (sym j)

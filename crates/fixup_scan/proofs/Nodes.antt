@@ -1,13 +1,13 @@
 -- scan_right at a node of a table, by what its operand answers. Assumes nothing.
 use mathlib.Core.Path.{◌≡◌, refl, sym, ap, ◌∙◌}
-use mathlib.Core.Bool.{true, false, ◌&&◌}
+use mathlib.Core.Bool.{true, false}
 use mathlib.Core.List.{List}
 use Prim.Native.Nat.{ℕ, ◌≤◌, ◌<◌}
 use native.Mathlib.Omega.{arith}
 use native.Mathlib.Decide.{dec_le}
 use Rattle.laws.specs.Choice.{pick}
 use Rattle.laws.proofs.Choice.{pick_true, pick_false}
-use Rattle.tree.specs.declared.table.Operand.TheVariants.{Absent, Present}
+use Rattle.std.specs.Prelude.{Option, None, Some}
 use Rattle.tree.specs.Table.{first_column, second_column}
 use Rattle.tree.specs.Trees.{Tree, none, operand_at, tree_at, levels}
 use Rattle.tree.specs.Operands.{presence}
@@ -15,18 +15,15 @@ use Rattle.tree.specs.Walks.{is_there, at_root}
 use Rattle.tree.proofs.Unfold.{tree_zero, tree_past, unfolds}
 use Rattle.tree.proofs.Walks.{present_above, absent_zero}
 use Rattle.precedence.specs.declared.Precedence.{Precedence}
-use Rattle.precedence.specs.declared.Precedence.TheVariants as level
 use Rattle.fixup.specs.declared.context.FixupContext.{FixupContext}
-use Rattle.fixup.specs.Fixup.{parenthesize, effective, scan_left}
+use Rattle.fixup.specs.Fixup.{parenthesize}
 use Rattle.fixup_scan.specs.declared.Scan.{Scan}
 use Rattle.fixup_scan.specs.declared.Scan.TheVariants.{Consume}
-use Rattle.fixup_scan.specs.declared.answer.Leave.{Leave}
-use Rattle.fixup_scan.specs.declared.answer.Leave.TheVariants.{Answer, Ask}
 use Rattle.fixup_scan.specs.declared.arm.Arm.{Arm}
 use Rattle.fixup_scan.specs.declared.arm.Arm.TheVariants.{Assign, Binary, Prefix, Range, Break, Return, Closure, Let, Group, Closed}
 use Rattle.fixup_scan.specs.declared.visit.Visit.{Visit}
-use Rattle.fixup_scan.specs.Scans.{consumes, consume_by, loose, scanned, right_by, scan_right, rightmost_precedence}
-use Rattle.fixup_scan.specs.Arms.{arm_of, operand_by, leaf_scan, early, visit_by, leave_by, settle_by, finish, not_consume, scan_by, operand_number}
+use Rattle.fixup_scan.specs.Scans.{consumes, consume_by, scan_right, rightmost_precedence}
+use Rattle.fixup_scan.specs.Arms.{arm_of, operand_by, leaf_scan, early, visit_by, leave_by, settle_by, finish, scan_by, operand_number}
 use Rattle.fixup_scan.specs.Linear.{asks_again, right_given, onwards}
 use Rattle.fixup_scan.proofs.Spine.{scan_along}
 use Rattle.fixup_scan.proofs.Again.{first_serves}
@@ -67,7 +64,7 @@ module _ (cells : List ℕ) (count : ℕ) where
       low (no h) d = onwards_nowhere i (let z : i ≡ 0 = omega arith in rw z (tree_zero cells count))
 
   -- an operand that is present is a node after its owner
-  pub operand_above : (arm : Arm) (i n : ℕ) → presence (operand_number arm cells count i) ≡ Present n → (operand_number arm cells count i ≡ n) × (i < n) × (n ≤ count)
+  pub operand_above : (arm : Arm) (i n : ℕ) → presence (operand_number arm cells count i) ≡ Some n → (operand_number arm cells count i ≡ n) × (i < n) × (n ≤ count)
   unfolding presence
   operand_above Assign i n e = present_above count i _ n e
   operand_above (Binary q) i n e = present_above count i _ n e
@@ -81,7 +78,7 @@ module _ (cells : List ℕ) (count : ℕ) where
   operand_above Closed i n e = absurd (let z : ◌≡◌ {A = ℕ} 0 1 = cc in omega arith)
 
   -- the operand that a node's arm goes on with has fewer levels than the node
-  pub operand_below : (i : ℕ) (arm : Arm) → arm ≡ arm_of (tree_at cells count i) → (n : ℕ) → presence (operand_number arm cells count i) ≡ Present n → levels (tree_at cells count n) < levels (tree_at cells count i)
+  pub operand_below : (i : ℕ) (arm : Arm) → arm ≡ arm_of (tree_at cells count i) → (n : ℕ) → presence (operand_number arm cells count i) ≡ Some n → levels (tree_at cells count n) < levels (tree_at cells count i)
   operand_below i arm is n present =
       let s = operand_above arm i n present in
       let e : onwards (tree_at cells count i) ≡ tree_at cells count n = onwards_at i ∙ rw (← is, s.0) in
@@ -108,11 +105,11 @@ module _ (cells : List ℕ) (count : ℕ) where
       bare_scans : scan_right here x p f b ≡ goes_on arm
       bare_scans = node_scans ∙ pick_false _ _ bare ∙ rw is
 
-      pub scan_leaf : presence (operand_number arm cells count i) ≡ Absent → scan_right here x p f b ≡ leaf_scan arm x.next_operator_can_begin_expr p next
+      pub scan_leaf : presence (operand_number arm cells count i) ≡ None → scan_right here x p f b ≡ leaf_scan arm x.next_operator_can_begin_expr p next
       unfolding scan_by pick
       scan_leaf e = bare_scans ∙ rw (absent_zero _ e, tree_zero cells count)
 
-      module _ (n : ℕ) (present : presence (operand_number arm cells count i) ≡ Present n) where
+      module _ (n : ℕ) (present : presence (operand_number arm cells count i) ≡ Some n) where
         abbrev v : Visit
         v = visit_by arm x p f b
 
@@ -129,49 +126,18 @@ module _ (cells : List ℕ) (count : ℕ) where
         pub scan_early : early arm next (consumes p next) f b ≡ true → scan_right here x p f b ≡ Consume
         scan_early e = present_scans ∙ pick_true _ _ e
 
-        module _ (late : early arm next (consumes p next) f b ≡ false) (w : Visit) (visits : w ≡ v) (s : Scan) (scans : s ≡ scan_right (tree_at cells count n) w.context w.precedence w.fail_offset w.bailout_offset) (l : Leave) (leaves : l ≡ leave_by arm p next s) where
+        pub scan_leaves : early arm next (consumes p next) f b ≡ false → (a : Scan) → Some a ≡ leave_by arm p next (scan_right (tree_at cells count n) v.context v.precedence v.fail_offset v.bailout_offset) → scan_right here x p f b ≡ a
+        scan_leaves late a e = present_scans ∙ pick_false _ _ late ∙ rw (← e)
+
+        module _ (late : early arm next (consumes p next) f b ≡ false) (w : Visit) (visits : w ≡ v) (s : Scan) (scans : s ≡ scan_right (tree_at cells count n) w.context w.precedence w.fail_offset w.bailout_offset) (l : Option Scan) (leaves : l ≡ leave_by arm p next s) where
           left_by : scan_right here x p f b ≡ finish l (settle_by arm p next (rightmost_precedence (tree_at cells count n) w.context))
           left_by = present_scans ∙ pick_false _ _ late ∙ rw (← visits, ← scans, ← leaves)
 
-          pub scan_answers : (a : Scan) → l ≡ Answer a → scan_right here x p f b ≡ a
-          scan_answers a e = left_by ∙ rw e
-
-          pub scan_settles : l ≡ Ask → (r : Precedence) → r ≡ rightmost_precedence (tree_at cells count n) w.context → scan_right here x p f b ≡ settle_by arm p next r
+          pub scan_settles : l ≡ None → (r : Precedence) → r ≡ rightmost_precedence (tree_at cells count n) w.context → scan_right here x p f b ≡ settle_by arm p next r
           scan_settles e r q = left_by ∙ rw (e, ← q)
 
           -- the answer that the operand gave serves where it is not scanned again
-          pub scan_serves : l ≡ Ask → asks_again arm next ≡ false → (r : Precedence) → r ≡ right_given (tree_at cells count n) s w.context → scan_right here x p f b ≡ settle_by arm p next r
+          pub scan_serves : l ≡ None → asks_again arm next ≡ false → (r : Precedence) → r ≡ right_given (tree_at cells count n) s w.context → scan_right here x p f b ≡ settle_by arm p next r
           scan_serves e k r q =
               let serves = rw (← visits, ← scans) at (first_serves (tree_at cells count n) x p f b arm) in
               left_by ∙ rw e (ap (settle_by arm p next) (sym (serves (sym leaves ∙ e) k) ∙ sym q))
-
--- ---- the precedences that ask the scan, by the outcomes of their tests
-
-module _ (t : Tree) (s : Scan) (x : FixupContext) (d : Precedence) (is : d ≡ effective x t) where
-  pub given_unscanned : loose x d && scanned x ≡ false → d ≡ right_given t s x
-  unfolding right_given
-  given_unscanned e = is ∙ sym (pick_false _ _ (rw (← is, e)))
-
-  module _ (asks : loose x d && scanned x ≡ true) where
-    pub given_grouped : not_consume s && scan_left t x ≡ true → level.Prefix ≡ right_given t s x
-    unfolding right_given
-    given_grouped e = sym (pick_true _ _ (rw (← is, asks) e))
-
-    pub given_consumed : not_consume s && scan_left t x ≡ false → d ≡ right_given t s x
-    unfolding right_given
-    given_consumed e = is ∙ sym (pick_false _ _ (rw (← is, asks) e))
-
-right_is : (t : Tree) (s : Scan) (x : FixupContext) → s ≡ scan_right t x x.previous_operator 1 0 → right_given t s x ≡ rightmost_precedence t x
-unfolding right_given rightmost_precedence right_by
-right_is t s x e = rw e
-
-module _ (t : Tree) (x : FixupContext) (d : Precedence) (is : d ≡ effective x t) where
-  pub right_unscanned : loose x d && scanned x ≡ false → d ≡ rightmost_precedence t x
-  right_unscanned e = given_unscanned t _ x d is e ∙ right_is t _ x refl
-
-  module _ (asks : loose x d && scanned x ≡ true) (s : Scan) (scans : s ≡ scan_right t x x.previous_operator 1 0) where
-    pub right_grouped : not_consume s && scan_left t x ≡ true → level.Prefix ≡ rightmost_precedence t x
-    right_grouped e = given_grouped t s x d is asks e ∙ right_is t s x scans
-
-    pub right_consumed : not_consume s && scan_left t x ≡ false → d ≡ rightmost_precedence t x
-    right_consumed e = given_consumed t s x d is asks e ∙ right_is t s x scans

@@ -1,5 +1,5 @@
 -- scan_right cut along its arms, as the code runs it. `scan_along` (proofs/Spine.antt) says that this is scan_right of specs/Scans: nothing here is to be believed.
-use Rattle.std.specs.Prelude.{Bool, true, false, not, ◌&&◌, ◌||◌, List, [], ◌∷◌, ℕ, eqb, leb}
+use Rattle.std.specs.Prelude.{Bool, true, false, not, ◌&&◌, ◌||◌, List, [], ◌∷◌, ℕ, eqb, leb, Option, None, Some}
 use Rattle.bools.specs.Bits.{bit_of}
 use Rattle.laws.specs.Choice.{pick, Line, line}
 use Rattle.tree.specs.Forms.{expr_assign, expr_binary, expr_break, expr_closure, expr_group, expr_let, expr_range, expr_raw_addr, expr_reference, expr_return, expr_unary, expr_yield}
@@ -14,8 +14,6 @@ use Rattle.fixup.specs.declared.context.FixupContext.{FixupContext}
 use Rattle.fixup.specs.Contexts.{rightmost}
 use Rattle.fixup_scan.specs.declared.Scan.{Scan}
 use Rattle.fixup_scan.specs.declared.Scan.TheVariants.{Fail, Bailout, Consume}
-use Rattle.fixup_scan.specs.declared.answer.Leave.{Leave}
-use Rattle.fixup_scan.specs.declared.answer.Leave.TheVariants.{Answer, Ask}
 use Rattle.fixup_scan.specs.declared.arm.Arm.{Arm}
 use Rattle.fixup_scan.specs.declared.arm.Arm.TheVariants.{Assign, Binary, Prefix, Range, Break, Return, Closure, Let, Group, Closed}
 use Rattle.fixup_scan.specs.declared.visit.Visit.{Visit}
@@ -25,9 +23,6 @@ use Rattle.fixup_scan.specs.Scans.{by, Scans, consumes, consume_by, right_by}
 
 abbrev pub not_consume : Scan → Bool
 not_consume s = by s true true false
-
-abbrev pub is_bailout : Scan → Bool
-is_bailout s = by s false true false
 
 -- ---- the arms of scan_right's `match`
 
@@ -142,35 +137,35 @@ visit_by Closed x p fail bailout = visit x p fail bailout
 unfoldable pub fail_or : Precedence → Scan
 fail_or next = pick (same next level.Unambiguous) Fail Bailout
 
-abbrev pub leave_fail : Arm → Precedence → Leave
-leave_fail Assign next = Answer (fail_or next)
-leave_fail (Binary q) next = pick (same q level.Assign) (Answer (fail_or next)) Ask
-leave_fail Prefix next = Ask
-leave_fail Range next = Ask
-leave_fail (Break lost) next = Answer Bailout
-leave_fail Return next = Answer Bailout
-leave_fail Closure next = Answer Fail
-leave_fail Let next = pick (below next level.Let) (Answer Bailout) Ask
-leave_fail Group next = Answer Fail
-leave_fail Closed next = Answer Fail
+abbrev pub leave_fail : Arm → Precedence → Option Scan
+leave_fail Assign next = Some (fail_or next)
+leave_fail (Binary q) next = pick (same q level.Assign) (Some (fail_or next)) None
+leave_fail Prefix next = None
+leave_fail Range next = None
+leave_fail (Break lost) next = Some Bailout
+leave_fail Return next = Some Bailout
+leave_fail Closure next = Some Fail
+leave_fail Let next = pick (below next level.Let) (Some Bailout) None
+leave_fail Group next = Some Fail
+leave_fail Closed next = Some Fail
 
 -- Let: where the next operator binds no looser than `let`, both of the crate's answers are Consume
-abbrev pub leave_bailout : Arm → Precedence → Precedence → Leave
-leave_bailout Assign p next = Answer Consume
-leave_bailout (Binary q) p next = Answer (consume_by p next)
-leave_bailout Prefix p next = Answer (consume_by p next)
-leave_bailout Range p next = pick (same next level.Assign || same next level.Range) Ask (Answer Consume)
-leave_bailout (Break lost) p next = Answer Consume
-leave_bailout Return p next = Answer Consume
-leave_bailout Closure p next = Answer Bailout
-leave_bailout Let p next = Answer (pick (below next level.Let) Bailout Consume)
-leave_bailout Group p next = Answer Bailout
-leave_bailout Closed p next = Answer Bailout
+abbrev pub leave_bailout : Arm → Precedence → Precedence → Option Scan
+leave_bailout Assign p next = Some Consume
+leave_bailout (Binary q) p next = Some (consume_by p next)
+leave_bailout Prefix p next = Some (consume_by p next)
+leave_bailout Range p next = pick (same next level.Assign || same next level.Range) None (Some Consume)
+leave_bailout (Break lost) p next = Some Consume
+leave_bailout Return p next = Some Consume
+leave_bailout Closure p next = Some Bailout
+leave_bailout Let p next = Some (pick (below next level.Let) Bailout Consume)
+leave_bailout Group p next = Some Bailout
+leave_bailout Closed p next = Some Bailout
 
-abbrev pub leave_by : Arm → Precedence → Precedence → Scan → Leave
+abbrev pub leave_by : Arm → Precedence → Precedence → Scan → Option Scan
 leave_by arm p next Fail = leave_fail arm next
 leave_by arm p next Bailout = leave_bailout arm p next
-leave_by arm p next Consume = Answer Consume
+leave_by arm p next Consume = Some Consume
 
 -- the answer by the operand's right precedence; the other arms do not ask
 abbrev pub settle_by : Arm → Precedence → Precedence → Precedence → Scan
@@ -185,9 +180,9 @@ settle_by Let p next right = pick (below right level.Let) Consume Bailout
 settle_by Group p next right = Consume
 settle_by Closed p next right = Consume
 
-abbrev pub finish : Leave → Scan → Scan
-finish (Answer s) settled = s
-finish Ask settled = settled
+abbrev pub finish : Option Scan → Scan → Scan
+finish (Some s) settled = s
+finish None settled = settled
 
 -- ---- an arm with its operand and the scans of that
 

@@ -1,5 +1,5 @@
 -- scan_right as the code runs it, and how many nodes it visits. The theorem `linear_is_scan` (proofs/Linear.antt) makes `linear` scan_right: of this file, only what counts the visits has to be believed.
-use Rattle.std.specs.Prelude.{Bool, true, false, not, ◌&&◌, ℕ, ◌+◌}
+use Rattle.std.specs.Prelude.{Bool, true, false, not, ◌&&◌, ℕ, ◌+◌, Option, None, Some}
 use Rattle.laws.specs.Choice.{pick}
 use Rattle.tree.specs.Trees.{Tree, none, node}
 use Rattle.tree.specs.Walks.{is_there}
@@ -10,8 +10,6 @@ use Rattle.fixup.specs.declared.context.FixupContext.{FixupContext}
 use Rattle.fixup.specs.Fixup.{parenthesize, effective, scan_left}
 use Rattle.fixup_scan.specs.declared.Scan.{Scan}
 use Rattle.fixup_scan.specs.declared.Scan.TheVariants.{Consume}
-use Rattle.fixup_scan.specs.declared.answer.Leave.{Leave}
-use Rattle.fixup_scan.specs.declared.answer.Leave.TheVariants.{Answer, Ask}
 use Rattle.fixup_scan.specs.declared.arm.Arm.{Arm}
 use Rattle.fixup_scan.specs.declared.arm.Arm.TheVariants.{Assign, Binary, Prefix, Range, Break, Return, Closure, Let, Group, Closed}
 use Rattle.fixup_scan.specs.Scans.{consumes, consume_by, Scans, loose, scanned, right_by}
@@ -78,9 +76,9 @@ no_visit x p fail bailout = 0
 unfoldable pub right_visits_by : Tree → Counts → FixupContext → ℕ
 right_visits_by t counts x = pick (loose x (effective x t) && scanned x) (counts x x.previous_operator 1 0) 0
 
-abbrev pub is_ask : Leave → Bool
-is_ask (Answer s) = false
-is_ask Ask = true
+abbrev pub is_ask : Option Scan → Bool
+is_ask (Some s) = false
+is_ask None = true
 
 -- the operand's visits: those of its scan, and those of its second one
 unfoldable pub visits_by : Arm → Tree → Scans → Counts → Counts

@@ -1,76 +1,45 @@
-// Tests on precedences and answers, and consume_by_precedence.
-ghost use Rattle.std.specs.Prelude.{◌≡◌, ◌||◌};
-ghost use Rattle.precedence.specs.Precedences.{same};
-ghost use Rattle.precedence.specs.declared.Precedence.TheVariants.{Assign, Range};
+// Tests on precedences, and consume_by_precedence.
+ghost use Rattle.std.specs.Prelude.{◌≡◌};
 ghost use Rattle.fixup_scan.specs.Scans.{binds, consumes, consume_by};
-ghost use Rattle.fixup_scan.specs.Arms.{not_consume, is_bailout};
 
 use super::Scan;
-use bools::either;
 use precedence::Precedence;
 
-// What follows from the operand's scan: the answer, or the operand's right precedence is asked.
-#[derive(Drop)]
-pub enum Leave {
-    Answer(Scan),
-    Ask,
+// An expression's precedence where it is scanned, and the operator behind it.
+#[derive(Clone, Copy, Debug, PartialEq, Eq)]
+pub struct Scanned {
+    pub precedence: Precedence,
+    pub next: Precedence,
 }
 
-pub fn is_assign_or_range(operator: Precedence) -> bool
-    ensures { result ≡ (same operator Assign || same operator Range) }
-{
-    either(
-        operator.is_same(Precedence::Assign),
-        operator.is_same(Precedence::Range),
-    )
-}
-
-pub fn is_bailout(scan: Scan) -> bool
-    ensures { result ≡ is_bailout scan }
-{
-    match scan {
-        Scan::Fail => false,
-        Scan::Bailout => true,
-        Scan::Consume => false,
+impl Scanned {
+    // Whether an operator binds its operand before the next one does.
+    #[tactic(auto, unfolding(crate::specs::Scans::binds, laws::specs::Choice::pick))]
+    fn binds(self) -> bool
+        ensures { result ≡ binds self.precedence self.next }
+    {
+        match self.precedence {
+            Precedence::Assign | Precedence::Compare => self.precedence <= self.next,
+            _ => self.precedence < self.next,
+        }
     }
-}
 
-pub fn is_not_consume(scan: Scan) -> bool
-    ensures { result ≡ not_consume scan }
-{
-    match scan {
-        Scan::Fail => true,
-        Scan::Bailout => true,
-        Scan::Consume => false,
+    #[tactic(auto, unfolding(crate::specs::Scans::consumes))]
+    pub fn consumes(self) -> bool
+        ensures { result ≡ consumes self.precedence self.next }
+    {
+        self.binds() || self.next == Precedence::MIN
     }
-}
 
-// Whether an operator binds its operand before the next one does.
-fn binds(precedence: Precedence, next: Precedence) -> bool
-    ensures { result ≡ binds precedence next }
-{
-    if either(
-        precedence.is_same(Precedence::Assign),
-        precedence.is_same(Precedence::Compare),
-    ) {
-        return precedence.is_at_most(next);
-    }
-    precedence.is_below(next)
-}
-
-pub fn consumes(precedence: Precedence, next: Precedence) -> bool
-    ensures { result ≡ consumes precedence next }
-{
-    either(binds(precedence, next), next.is_same(Precedence::MIN))
-}
-
-// consume_by_precedence
-pub fn consume_by(precedence: Precedence, next: Precedence) -> Scan
-    ensures { result ≡ consume_by precedence next }
-{
-    if consumes(precedence, next) {
-        Scan::Consume
-    } else {
-        Scan::Bailout
+    // consume_by_precedence
+    #[tactic(auto, unfolding(crate::specs::Scans::consume_by, laws::specs::Choice::pick))]
+    pub fn consume_by(self) -> Scan
+        ensures { result ≡ consume_by self.precedence self.next }
+    {
+        if self.consumes() {
+            Scan::Consume
+        } else {
+            Scan::Bailout
+        }
     }
 }

@@ -4,15 +4,13 @@ ghost use Rattle.tree.specs.Trees.{tree_at};
 ghost use Rattle.tree.specs.Operands.{presence};
 ghost use Rattle.tree.specs.Steps.{tree_of};
 ghost use Rattle.classify.specs.Classify.{leading_label};
-ghost use Rattle.fixup_scan.specs.Arms.{unattributed, arm_of, operand_number};
+ghost use Rattle.fixup_scan.specs.Arms.{arm_of, operand_number};
 
-use bools::both;
 use precedence::Precedence;
-use tree::table::{Operand, cell, form_at, operand_at};
-use tree::{columns, forms};
-use tree_shapes::first_at;
+use tree::form::Form;
+use tree::table::{Operand, Table};
 
-#[derive(Clone, Copy)]
+#[derive(Clone, Copy, Debug, PartialEq, Eq)]
 pub enum Arm {
     // Expr::Assign without attributes
     Assign,
@@ -33,59 +31,51 @@ pub enum Arm {
     Closed,
 }
 
-fn unattributed(attributes: u16, arm: Arm) -> Arm
-    ensures { result ≡ unattributed attributes arm }
+#[tactic(auto, unfolding(classify::specs::Classify::leading_label, tree::specs::Walks::walk))]
+fn leading_label(table: &Table, value: Operand) -> bool
+    ensures { result ≡ leading_label (tree_of table.now.cells.now table.now.count value) }
 {
-    if attributes == 0 { arm } else { Arm::Closed }
-}
-
-fn leading_label(table: &[u16], count: u16, value: Operand) -> bool
-    ensures { result ≡ leading_label (tree_of table.now count value) }
-{
-    let Operand::Present(number) = value else {
+    let Some(number) = value else {
         return false;
     };
-    classify::expr_leading_label(table, count, number)
+    classify::expr_leading_label(table, number)
 }
 
-pub fn arm_at(table: &[u16], count: u16, node: u16) -> Arm
-    ensures { result ≡ arm_of (tree_at table.now count node) }
+#[tactic(auto, unfolding(crate::specs::Arms::arm_of, crate::specs::Arms::arm_lines, tree::specs::Walks::at_root, tree::specs::Trees::label_at, laws::specs::Choice::lookup, laws::specs::Choice::pick), using(tree::proofs::Unfold::unfolds, tree::proofs::Unfold::tree_zero, tree::proofs::Unfold::tree_past, tree::proofs::Walks::tree_of_lem, crate::proofs::Unlisted::unlisted))]
+pub fn arm_at(table: &Table, node: u16) -> Arm
+    ensures { result ≡ arm_of (tree_at table.now.cells.now table.now.count node) }
 {
-    match form_at(table, count, node) {
-        forms::EXPR_ASSIGN => unattributed(cell(table, node, columns::ATTRIBUTES), Arm::Assign),
-        forms::EXPR_BINARY => unattributed(
-            cell(table, node, columns::ATTRIBUTES),
-            Arm::Binary(Precedence::of_binop(cell(table, node, columns::DETAIL))),
-        ),
-        forms::EXPR_RAW_ADDR | forms::EXPR_UNARY => Arm::Prefix,
-        forms::EXPR_REFERENCE => Arm::Prefix,
-        forms::EXPR_RANGE => unattributed(cell(table, node, columns::ATTRIBUTES), Arm::Range),
-        forms::EXPR_BREAK => Arm::Break(both(
-            cell(table, node, columns::DETAIL) == 0,
-            leading_label(table, count, first_at(table, count, node)),
-        )),
-        forms::EXPR_RETURN | forms::EXPR_YIELD => Arm::Return,
-        forms::EXPR_CLOSURE => Arm::Closure,
-        forms::EXPR_LET => Arm::Let,
-        forms::EXPR_GROUP => Arm::Group,
+    let Some(form) = table.form(node) else {
+        return Arm::Closed;
+    };
+    match form {
+        Form::ExprAssign if table.attributes(node) == 0 => Arm::Assign,
+        Form::ExprBinary if table.attributes(node) == 0 => {
+            Arm::Binary(Precedence::of_binop(table.detail(node)))
+        }
+        Form::ExprRawAddr | Form::ExprReference | Form::ExprUnary => Arm::Prefix,
+        Form::ExprRange if table.attributes(node) == 0 => Arm::Range,
+        Form::ExprBreak => {
+            Arm::Break(table.detail(node) == 0 && leading_label(table, table.first(node)))
+        }
+        Form::ExprReturn | Form::ExprYield => Arm::Return,
+        Form::ExprClosure => Arm::Closure,
+        Form::ExprLet => Arm::Let,
+        Form::ExprGroup => Arm::Group,
         _ => Arm::Closed,
     }
 }
 
-// The operand that the arm of a node goes on with.
-pub fn operand_of(arm: Arm, table: &[u16], count: u16, node: u16) -> Operand
-    ensures { result ≡ presence (operand_number arm table.now count node) }
-{
-    match arm {
-        Arm::Assign => operand_at(table, count, node, columns::SECOND),
-        Arm::Binary(_) => operand_at(table, count, node, columns::SECOND),
-        Arm::Prefix => operand_at(table, count, node, columns::FIRST),
-        Arm::Range => operand_at(table, count, node, columns::SECOND),
-        Arm::Break(_) => operand_at(table, count, node, columns::FIRST),
-        Arm::Return => operand_at(table, count, node, columns::FIRST),
-        Arm::Closure => Operand::Absent,
-        Arm::Let => operand_at(table, count, node, columns::FIRST),
-        Arm::Group => operand_at(table, count, node, columns::FIRST),
-        Arm::Closed => Operand::Absent,
+impl Arm {
+    // The operand that the arm of a node goes on with.
+    #[tactic(auto, unfolding(tree::specs::Operands::presence))]
+    pub fn operand_of(self, table: &Table, node: u16) -> Operand
+        ensures { result ≡ presence (operand_number self table.now.cells.now table.now.count node) }
+    {
+        match self {
+            Arm::Assign | Arm::Binary(_) | Arm::Range => table.second(node),
+            Arm::Prefix | Arm::Break(_) | Arm::Return | Arm::Let | Arm::Group => table.first(node),
+            Arm::Closure | Arm::Closed => None,
+        }
     }
 }

@@ -7,7 +7,7 @@ mod visit; // visit.rt: how the operand of an arm is scanned
 mod leave; // leave.rt: what follows from the operand's scan
 pub mod right; // right.rt: scan_right and the precedences that ask it
 
-#[derive(Clone, Copy)]
+#[derive(Clone, Copy, Debug, PartialEq, Eq)]
 pub enum Scan {
     Fail,
     Bailout,

@@ -1,57 +1,91 @@
-// scan_right, and the precedences of left and right operands, which ask it.
+// The precedences of left and right operands, and scan_right, which they ask.
 ghost use Rattle.std.specs.Prelude.{◌≡◌};
 ghost use Rattle.tree.specs.Trees.{tree_at};
 ghost use Rattle.fixup_scan.specs.Linear.{right_given};
-ghost use Rattle.fixup_scan.specs.Scans.{loose, scanned, scan_right, rightmost_precedence, bails_out, leftmost_precedence};
+ghost use Rattle.fixup_scan.specs.Scans.{loose, scanned, scan_right, rightmost_precedence, leftmost_precedence};
 
 use super::Scan;
-use super::answer::{Leave, consume_by, consumes, is_bailout, is_not_consume};
-use super::arm::{arm_at, operand_of};
-use super::leave::{asks_again, leaf_scan, leave_by, settle_by};
-use super::visit::{is_early, visit_of};
-use bools::{both, either};
+use super::answer::Scanned;
+use super::arm::arm_at;
+use super::visit::Visit;
 use fixup::context::FixupContext;
 use fixup::group::scan_left;
 use precedence::Precedence;
-use tree::table::Operand;
+use tree::table::Table;
+
+// The precedence of a left operand in its context.
+#[tactic(auto, unfolding(crate::specs::Scans::leftmost_precedence, crate::specs::Scans::bails_out, laws::specs::Choice::pick))]
+pub fn leftmost_subexpression_precedence(
+    fixup: FixupContext,
+    table: &Table,
+    node: u16,
+) -> Precedence
+    ensures { result ≡ leftmost_precedence (tree_at table.now.cells.now table.now.count node) fixup }
+{
+    let next = fixup.next_operator;
+    if (!fixup.next_operator_can_begin_expr || next == Precedence::Range)
+        && scan_right(table, node, fixup, Precedence::MIN, 0, 0) == Scan::Bailout
+        && scan_left(table, node, fixup)
+    {
+        return Precedence::Unambiguous;
+    }
+    fixup.precedence(table, node)
+}
 
 // Whether the operator before would group an operand of this precedence.
+#[tactic(auto, unfolding(crate::specs::Scans::loose, laws::specs::Choice::pick))]
 fn is_loose(fixup: FixupContext, default: Precedence) -> bool
     ensures { result ≡ loose fixup default }
 {
     let previous = fixup.previous_operator;
-    let takes_equal = either(
-        previous.is_same(Precedence::Assign),
-        either(
-            previous.is_same(Precedence::Let),
-            previous.is_same(Precedence::Prefix),
-        ),
-    );
-    if takes_equal {
-        return default.is_below(previous);
+    match previous {
+        Precedence::Assign | Precedence::Let | Precedence::Prefix => default < previous,
+        _ => default <= previous,
     }
-    default.is_at_most(previous)
 }
 
 // Whether the next operator leaves the question to scan_right.
+#[tactic(auto, unfolding(crate::specs::Scans::scanned))]
 fn is_scanned(fixup: FixupContext) -> bool
     ensures { result ≡ scanned fixup }
 {
-    let next = fixup.next_operator;
-    let ends_operand = either(
-        next.is_same(Precedence::Range),
-        either(next.is_same(Precedence::Or), next.is_same(Precedence::And)),
-    );
-    either(ends_operand, !fixup.next_operator_can_begin_expr)
+    match fixup.next_operator {
+        Precedence::Range | Precedence::Or | Precedence::And => true,
+        _ => !fixup.next_operator_can_begin_expr,
+    }
 }
 
 // The precedence of a right operand in its context, given how it is scanned there.
-fn right_given(fixup: FixupContext, table: &[u16], count: u16, node: u16, scan: Scan) -> Precedence
-    ensures { result ≡ right_given (tree_at table.now count node) scan fixup }
+#[tactic(auto, unfolding(crate::specs::Linear::right_given, laws::specs::Choice::pick))]
+fn right_given(fixup: FixupContext, table: &Table, node: u16, scan: Scan) -> Precedence
+    ensures { result ≡ right_given (tree_at table.now.cells.now table.now.count node) scan fixup }
 {
-    let default = fixup.precedence(table, count, node);
-    if both(is_loose(fixup, default), is_scanned(fixup)) {
-        if both(is_not_consume(scan), scan_left(table, count, node, fixup)) {
+    let default = fixup.precedence(table, node);
+    if is_loose(fixup, default) && is_scanned(fixup) {
+        if scan != Scan::Consume && scan_left(table, node, fixup) {
+            return Precedence::Prefix;
+        }
+    }
+    default
+}
+
+// The precedence of a right operand in its context. Apart from right_given: here the scan is asked
+// only behind the first two tests.
+#[cycle(rightmost_subexpression_precedence_scan_right)]
+#[tactic(auto, unfolding(crate::specs::Scans::rightmost_precedence, crate::specs::Scans::right_by, laws::specs::Choice::pick))]
+pub fn rightmost_subexpression_precedence(
+    fixup: FixupContext,
+    table: &Table,
+    node: u16,
+) -> Precedence
+    ensures { result ≡ rightmost_precedence (tree_at table.now.cells.now table.now.count node) fixup }
+{
+    let default = fixup.precedence(table, node);
+    if is_loose(fixup, default) && is_scanned(fixup) {
+        let previous = fixup.previous_operator;
+        if scan_right(table, node, fixup, previous, 1, 0) != Scan::Consume
+            && scan_left(table, node, fixup)
+        {
             return Precedence::Prefix;
         }
     }
@@ -60,108 +94,52 @@ fn right_given(fixup: FixupContext, table: &[u16], count: u16, node: u16, scan: 
 
 // How the next operator meets the right end of an expression. An operand that was scanned is not
 // scanned again for its right precedence, so that a nest takes no more visits than twice its levels.
+// Context, precedence and offsets stay apart: a struct by value costs at each call of a recursion.
 #[cycle(rightmost_subexpression_precedence_scan_right)]
+#[tactic(auto, using(crate::proofs::Nodes::operand_above, crate::proofs::Nodes::scan_grouped, crate::proofs::Nodes::scan_leaf, crate::proofs::Nodes::scan_early, crate::proofs::Nodes::scan_leaves, crate::proofs::Nodes::scan_settles, crate::proofs::Nodes::scan_serves))]
 pub fn scan_right(
-    table: &[u16],
-    count: u16,
+    table: &Table,
     node: u16,
     fixup: FixupContext,
     precedence: Precedence,
     fail_offset: u16,
     bailout_offset: u16,
 ) -> Scan
-    ensures { result ≡ scan_right (tree_at table.now count node) fixup precedence fail_offset bailout_offset }
+    ensures { result ≡ scan_right (tree_at table.now.cells.now table.now.count node) fixup precedence fail_offset bailout_offset }
 {
     let next = fixup.next_operator;
-    if fixup.parenthesize(table, count, node) {
-        return consume_by(precedence, next);
+    let scanned = Scanned { precedence, next };
+    if fixup.parenthesize(table, node) {
+        return scanned.consume_by();
     }
-    let arm = arm_at(table, count, node);
-    let Operand::Present(operand) = operand_of(arm, table, count, node) else {
-        return leaf_scan(arm, fixup.next_operator_can_begin_expr, precedence, next);
+    let arm = arm_at(table, node);
+    let Some(operand) = arm.operand_of(table, node) else {
+        return arm.leaf_scan(fixup.next_operator_can_begin_expr, scanned);
     };
-    if is_early(
-        arm,
-        next,
-        consumes(precedence, next),
-        fail_offset,
-        bailout_offset,
-    ) {
+    if arm.is_early(next, scanned.consumes(), fail_offset, bailout_offset) {
         return Scan::Consume;
     }
-    let visit = visit_of(arm, fixup, precedence, fail_offset, bailout_offset);
-    let context = visit.context;
-    let handed = visit.precedence;
+    let visit = arm.visit_of(Visit {
+        context: fixup,
+        precedence,
+        fail_offset,
+        bailout_offset,
+    });
     let scan = scan_right(
         table,
-        count,
         operand,
-        context,
-        handed,
+        visit.context,
+        visit.precedence,
         visit.fail_offset,
         visit.bailout_offset,
     );
-    let leave = leave_by(arm, precedence, next, scan);
-    match leave {
-        Leave::Answer(answer) => answer,
-        Leave::Ask => {
-            if asks_again(arm, next) {
-                let right = rightmost_subexpression_precedence(context, table, count, operand);
-                return settle_by(arm, precedence, next, right);
-            }
-            let right = right_given(context, table, count, operand, scan);
-            settle_by(arm, precedence, next, right)
-        }
+    if let Some(answer) = arm.leave_by(scanned, scan) {
+        return answer;
     }
-}
-
-// The precedence of a right operand in its context.
-#[cycle(rightmost_subexpression_precedence_scan_right)]
-pub fn rightmost_subexpression_precedence(
-    fixup: FixupContext,
-    table: &[u16],
-    count: u16,
-    node: u16,
-) -> Precedence
-    ensures { result ≡ rightmost_precedence (tree_at table.now count node) fixup }
-{
-    let default = fixup.precedence(table, count, node);
-    if both(is_loose(fixup, default), is_scanned(fixup)) {
-        let previous = fixup.previous_operator;
-        let scan = scan_right(table, count, node, fixup, previous, 1, 0);
-        if both(is_not_consume(scan), scan_left(table, count, node, fixup)) {
-            return Precedence::Prefix;
-        }
+    if arm.asks_again(next) {
+        let right = rightmost_subexpression_precedence(visit.context, table, operand);
+        return arm.settle_by(scanned, right);
     }
-    default
-}
-
-// Whether scan_right bails out of a left operand, and scan_left leaves it whole.
-fn bails_out(fixup: FixupContext, table: &[u16], count: u16, node: u16) -> bool
-    ensures { result ≡ bails_out (tree_at table.now count node) fixup }
-{
-    let next = fixup.next_operator;
-    if either(
-        !fixup.next_operator_can_begin_expr,
-        next.is_same(Precedence::Range),
-    ) {
-        let scan = scan_right(table, count, node, fixup, Precedence::MIN, 0, 0);
-        return both(is_bailout(scan), scan_left(table, count, node, fixup));
-    }
-    false
-}
-
-// The precedence of a left operand in its context.
-pub fn leftmost_subexpression_precedence(
-    fixup: FixupContext,
-    table: &[u16],
-    count: u16,
-    node: u16,
-) -> Precedence
-    ensures { result ≡ leftmost_precedence (tree_at table.now count node) fixup }
-{
-    if bails_out(fixup, table, count, node) {
-        return Precedence::Unambiguous;
-    }
-    fixup.precedence(table, count, node)
+    let right = right_given(visit.context, table, operand, scan);
+    arm.settle_by(scanned, right)
 }

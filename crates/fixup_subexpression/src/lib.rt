@@ -8,8 +8,9 @@ ghost use Rattle.fixup_subexpression.specs.Subexpressions.{leftmost_with_operato
 use fixup::context::FixupContext;
 use fixup_scan::right::{leftmost_subexpression_precedence, rightmost_subexpression_precedence};
 use precedence::Precedence;
+use tree::table::Table;
 
-#[derive(Drop)]
+#[derive(Clone, Copy, Debug, PartialEq, Eq)]
 pub struct Subexpression {
     pub precedence: Precedence,
     pub fixup: FixupContext,
@@ -18,14 +19,13 @@ pub struct Subexpression {
 // A left operand before an operator.
 pub fn leftmost_subexpression_with_operator(
     fixup: FixupContext,
-    table: &[u16],
-    count: u16,
+    table: &Table,
     node: u16,
     next_operator_can_begin_expr: bool,
     next_operator_can_begin_generics: bool,
     precedence: Precedence,
 ) -> Subexpression
-    ensures { result ≡ leftmost_with_operator fixup (tree_at table.now count node) next_operator_can_begin_expr next_operator_can_begin_generics precedence }
+    ensures { result ≡ leftmost_with_operator fixup (tree_at table.now.cells.now table.now.count node) next_operator_can_begin_expr next_operator_can_begin_generics precedence }
 {
     let left = fixup.leftmost_fixup_with_operator(
         next_operator_can_begin_expr,
@@ -33,7 +33,7 @@ pub fn leftmost_subexpression_with_operator(
         precedence,
     );
     Subexpression {
-        precedence: leftmost_subexpression_precedence(left, table, count, node),
+        precedence: leftmost_subexpression_precedence(left, table, node),
         fixup: left,
     }
 }
@@ -41,15 +41,14 @@ pub fn leftmost_subexpression_with_operator(
 // A left operand before a dot or a question mark.
 pub fn leftmost_subexpression_with_dot(
     fixup: FixupContext,
-    table: &[u16],
-    count: u16,
+    table: &Table,
     node: u16,
 ) -> Subexpression
-    ensures { result ≡ leftmost_with_dot fixup (tree_at table.now count node) }
+    ensures { result ≡ leftmost_with_dot fixup (tree_at table.now.cells.now table.now.count node) }
 {
     let dotted = fixup.leftmost_fixup_with_dot();
     Subexpression {
-        precedence: leftmost_subexpression_precedence(dotted, table, count, node),
+        precedence: leftmost_subexpression_precedence(dotted, table, node),
         fixup: dotted,
     }
 }
@@ -57,16 +56,15 @@ pub fn leftmost_subexpression_with_dot(
 // A right operand.
 pub fn rightmost_subexpression(
     fixup: FixupContext,
-    table: &[u16],
-    count: u16,
+    table: &Table,
     node: u16,
     precedence: Precedence,
 ) -> Subexpression
-    ensures { result ≡ rightmost_operand fixup (tree_at table.now count node) precedence }
+    ensures { result ≡ rightmost_operand fixup (tree_at table.now.cells.now table.now.count node) precedence }
 {
     let right = fixup.rightmost_subexpression_fixup(false, false, precedence);
     Subexpression {
-        precedence: rightmost_subexpression_precedence(right, table, count, node),
+        precedence: rightmost_subexpression_precedence(right, table, node),
         fixup: right,
     }
 }

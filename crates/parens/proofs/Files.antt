@@ -6,7 +6,9 @@ use native.Mathlib.Omega.{arith}
 use lib.ListN.{length, take, replicate, length-replicate}
 use Rattle.tree.specs.Sizes.{node_cells, row_cells, most_nodes}
 use Rattle.tree_rules.specs.Refusals.{refusal}
-use Rattle.file_loader.specs.declared.Loaded.TheVariants.{Refused, Accepted}
+use Rattle.std.specs.Prelude.{Ok, Err}
+use Rattle.tree.specs.declared.refusal.Refusal.{Refusal}
+use Rattle.tree.specs.Replies.{number_of}
 use Rattle.file_loader.specs.Files.{loaded, loaded_table}
 use Rattle.file_loader.proofs.Loading.{count_most, stored_room, stored_cells, not_refused}
 use Rattle.expr.specs.declared.order.CalleeOrder.TheVariants.{Ours}
@@ -33,11 +35,11 @@ room : length zeros ≡ node_cells * most_nodes
 room = length-replicate {A = ℕ} (node_cells * most_nodes) 0
 
 module _ (file after : List ℕ) (stores : after ≡ loaded_table file zeros) where
-  pub printed_refusal : (n : ℕ) → Refused n ≡ loaded file (length zeros) → no_line n ≡ printed file
+  pub printed_refusal : (r : Refusal) → Err r ≡ loaded file (length zeros) → no_line (number_of r) ≡ printed file
   unfolding printed answered
-  printed_refusal n e = rw (← room, ← e)
+  printed_refusal r e = rw (← room, ← e)
 
-  module _ (context count : ℕ) (e : Accepted context count ≡ loaded file (length zeros)) where
+  module _ (context count : ℕ) (e : Ok (record { context = context; count = count }) ≡ loaded file (length zeros)) where
     -- the file's numbers are within the table
     pub cells_within : node_cells * count ≤ length after
     cells_within = rw stores (stored_room file zeros context count e (omega (arith, room)))

@@ -1,12 +1,13 @@
 -- Document 01, 'Decisions': what `parens` prints for a file, as ASCII codes.
-use Rattle.std.specs.Prelude.{List, [], ◌++◌, ℕ, ◌*◌, eqb, replicate}
+use Rattle.std.specs.Prelude.{List, [], ◌++◌, ℕ, ◌*◌, eqb, replicate, Result, Ok, Err}
 use Rattle.laws.specs.Choice.{pick}
 use Rattle.tree.specs.Sizes.{node_cells, row_cells, most_nodes}
 use Rattle.tree.specs.Forms.{an_expression, class_of}
 use Rattle.tree.specs.Operands.{form_in}
 use Rattle.tree.specs.Trees.{tree_at}
 use Rattle.file_loader.specs.declared.Loaded.{Loaded}
-use Rattle.file_loader.specs.declared.Loaded.TheVariants.{Refused, Accepted}
+use Rattle.tree.specs.declared.refusal.Refusal.{Refusal}
+use Rattle.tree.specs.Replies.{number_of}
 use Rattle.file_loader.specs.Files.{cells_in, loaded}
 use Rattle.expr.specs.declared.order.CalleeOrder.TheVariants.{Ours}
 use Rattle.row.specs.Rows.{rows_of}
@@ -33,9 +34,9 @@ unfoldable pub accepted_text : ℕ → ℕ → List ℕ → List ℕ
 accepted_text context count cells = all_lines count cells (rows_in context count cells)
 
 -- "on refusal only "no" and the number"
-unfoldable pub answered : List ℕ → Loaded → List ℕ
-answered cells (Refused n) = no_line n
-answered cells (Accepted context count) = accepted_text context count cells
+unfoldable pub answered : List ℕ → Result Loaded Refusal → List ℕ
+answered cells (Err refusal) = no_line (number_of refusal)
+answered cells (Ok loaded) = accepted_text loaded.context loaded.count cells
 
 -- what is printed for a file, with a table of 4,096 nodes lent to the loader
 unfoldable pub printed : List ℕ → List ℕ

@@ -9,12 +9,11 @@ ghost use Rattle.text.specs.Counts.{IsPrefixLen};
 ghost use Rattle.text.specs.Growth.{Grown, Added};
 ghost use Rattle.parens.specs.Text.{node_text, lines_of, all_lines, accepted_text, printed};
 
-use file_loader::Loaded;
 use std::io;
 use text::input::read_full;
 use text::{put_no, put_ok, put_row};
 use tree::sizes;
-use tree::table::form_at;
+use tree::table::Table;
 use tree_labels::form::class_of;
 
 // One byte more than the longest file, so that a longer one shows.
@@ -34,34 +33,32 @@ const TEXT: usize = 9 + 6 * (sizes::ROW_CELLS + 1) * (sizes::MOST_NODES as usize
 // ---- lines
 
 // The line of an expression, its number and the five cells of its row; nothing for another node.
-fn put_node(out: &mut [u8], end: usize, count: u16, table: &[u16], rows: &[u16], node: u16) -> usize
-    ensures { Grown out.old end (node_text count table.now rows.now node) out.new result }
+fn put_node(out: &mut [u8], end: usize, table: &Table, rows: &[u16], node: u16) -> usize
+    ensures { Grown out.old end (node_text table.now.count table.now.cells.now rows.now node) out.new result }
 {
-    if class_of(form_at(table, count, node)) != 1 {
+    if class_of(table.form_number(node)) != 1 {
         return end;
     }
     put_row(out, end, node, WIDTH, rows)
 }
 
-fn put_lines(out: &mut [u8], end: usize, count: u16, table: &[u16], rows: &[u16]) -> usize
-    ensures { Grown out.old end (lines_of count table.now rows.now count) out.new result }
+fn put_lines(out: &mut [u8], end: usize, table: &Table, rows: &[u16]) -> usize
+    ensures { Grown out.old end (lines_of table.now.count table.now.cells.now rows.now table.now.count) out.new result }
 {
     let mut at = end;
-    let mut node = 0;
-    while node < count {
-        node += 1;
-        at = put_node(out, at, count, table, rows, node);
+    for done in 0..table.count {
+        at = put_node(out, at, table, rows, done + 1);
     }
     at
 }
 
 // The first line, and the lines of all nodes.
-fn put_all(out: &mut [u8], count: u16, table: &[u16], rows: &[u16]) -> usize
-    requires { (count ≤ most_nodes) × (9 + 6 * (row_cells + 1) * most_nodes ≤ length out.old) }
-    ensures { Added out.old 0 (all_lines count table.now rows.now) out.new result }
+fn put_all(out: &mut [u8], table: &Table, rows: &[u16]) -> usize
+    requires { (table.now.count ≤ most_nodes) × (9 + 6 * (row_cells + 1) * most_nodes ≤ length out.old) }
+    ensures { Added out.old 0 (all_lines table.now.count table.now.cells.now rows.now) out.new result }
 {
-    let end = put_ok(out, count);
-    put_lines(out, end, count, table, rows)
+    let end = put_ok(out, table.count);
+    put_lines(out, end, table, rows)
 }
 
 // ---- files
@@ -72,8 +69,12 @@ fn put_rows(out: &mut [u8], context: u16, count: u16, table: &[u16]) -> usize
     ensures { Added out.old 0 (accepted_text context count table.now) out.new result }
 {
     let mut rows = [0u16; ROWS];
-    row_walk::decide(context, count, table, &mut rows);
-    put_all(out, count, table, &rows)
+    let _ = row_walk::decide(context, count, table, &mut rows);
+    let table = Table {
+        cells: table,
+        count,
+    };
+    put_all(out, &table, &rows)
 }
 
 // What is printed for a file, at the start of `out`.
@@ -83,10 +84,10 @@ fn report(file: &[u8], out: &mut [u8; TEXT]) -> usize
 {
     let mut table = [0u16; CELLS];
     match file_loader::load(file, &mut table) {
-        Loaded::Refused(why) => put_no(out, why),
-        Loaded::Accepted(context, count) => {
-            let cells = sizes::NODE_CELLS * (count as usize);
-            put_rows(out, context, count, &table[..cells])
+        Err(refusal) => put_no(out, refusal.number()),
+        Ok(loaded) => {
+            let cells = sizes::NODE_CELLS * ((loaded.count as usize));
+            put_rows(out, loaded.context, loaded.count, &table[..cells])
         }
     }
 }

@@ -1,16 +1,13 @@
 -- The answers for the operators are the Rust Reference's table: its levels, and its associativity. Assumes nothing.
-use mathlib.Core.Path.{◌≡◌, refl, sym, ap, ap₂, ◌∙◌}
-use mathlib.Core.Bool.{Bool, true, false}
-use mathlib.Core.List.{List}
+use mathlib.Core.Path.{◌≡◌, refl, sym, ap₂, ◌∙◌}
 use Prim.Native.Nat.{ℕ, ◌<◌}
 use native.Mathlib.Omega.{arith}
-use lib.Dec.{T, eqb, ltb}
+use lib.Dec.{T, eqb}
 use lib.ListN.{length}
 use borrow.Author.Tests.{ne_eqb}
 use Rattle.laws.specs.Choice.{pick, lookup}
 use Rattle.laws.proofs.Choice.{alike, alike_same}
 use Rattle.laws.proofs.Each.{all, all_at}
-use Rattle.precedence.specs.declared.Precedence.{Precedence}
 use Rattle.precedence.specs.declared.Lean.{Lean}
 use Rattle.precedence.specs.declared.Lean.TheVariants.{Left, Right, Neither}
 use Rattle.precedence.specs.declared.Binding.{Binding}

@@ -1,3 +1,2 @@
 pub mod Precedences
-pub mod Steps
 pub mod Reference

@@ -2,19 +2,18 @@
 #![tactic(auto)]
 
 ghost use Rattle.std.specs.Prelude.{◌≡◌};
-ghost use Rattle.tree.specs.Table.{attributes_at};
-ghost use Rattle.tree.specs.Operands.{form_in};
 ghost use Rattle.tree.specs.Trees.{tree_at};
-ghost use Rattle.tree.specs.Steps.{is_present, into};
+ghost use Rattle.tree.specs.Steps.{asked_at};
+ghost use Rattle.tree.specs.Asks.{asked};
 ghost use Rattle.precedence.specs.declared.Precedence.TheVariants.{Unambiguous};
-ghost use Rattle.precedence.specs.Precedences.{rank_of, lean_number, below, at_most, same, binding, assigns, ranges, binop_binding, binding_of, of_binop, prefix_attrs, closed_by, precedence_of};
-ghost use Rattle.precedence.specs.Steps.{jump_by, closure_by, of_step, level_by};
+ghost use Rattle.precedence.specs.Precedences.{rank_of, lean_number, below, at_most, same, binop_binding, assigns, ranges, binding_of, of_binop, prefix_attrs, of_lines, closed_by, precedence_of};
 
-use tree::table::{Operand, cell, form_at};
-use tree::{columns, forms};
-use tree_shapes::first_at;
+use tree::columns;
+use tree::form::Form;
+use tree::question::{Asked, Question, walk};
+use tree::table::Table;
 
-#[derive(Clone, Copy)]
+#[derive(Clone, Copy, Debug, PartialEq, Eq, PartialOrd, Ord)]
 pub enum Precedence {
     // return, break, closures
     Jump,
@@ -51,7 +50,7 @@ pub enum Precedence {
 }
 
 // Which way an operator leans: a chain of its level is read from the left, from the right, or not at all.
-#[derive(Clone, Copy)]
+#[derive(Clone, Copy, Debug, PartialEq, Eq)]
 pub enum Lean {
     Left,
     Right,
@@ -59,29 +58,14 @@ pub enum Lean {
 }
 
 // How an operator binds: its level, and which way it leans.
-#[derive(Clone, Copy)]
+#[derive(Clone, Copy, Debug, PartialEq, Eq)]
 pub struct Binding {
     pub level: Precedence,
     pub lean: Lean,
 }
 
-// What a node says of its precedence: the precedence, or the number of a Group's content, which has it.
-#[derive(Clone, Copy)]
-enum Level {
-    Of(Precedence),
-    Content(u16),
-}
-
-fn leaning(lean: Lean, level: Precedence) -> Binding
-    ensures { result ≡ binding level lean }
-{
-    Binding {
-        level: level,
-        lean: lean,
-    }
-}
-
 // Precedence::of for a closed form: its outer attributes bind like a prefix.
+#[tactic(auto, unfolding(crate::specs::Precedences::prefix_attrs, laws::specs::Choice::pick))]
 fn prefix_attrs(attributes: u16) -> Precedence
     ensures { result ≡ prefix_attrs attributes }
 {
@@ -92,70 +76,74 @@ fn prefix_attrs(attributes: u16) -> Precedence
     }
 }
 
-// Precedence::of for Break, Return and Yield: the value, if there is one.
-fn jump_of(value: Operand) -> Precedence
-    ensures { result ≡ jump_by (is_present value) }
-{
-    let Operand::Present(_) = value else {
-        return Precedence::Unambiguous;
-    };
-    Precedence::Jump
-}
+// Precedence::of. Verbatim has no attributes, and neither has what is no expression.
+// The walk asks only of nodes that are there, so that a form is read without the count.
+struct PrecedenceOf;
 
-fn content_of(operand: Operand) -> Level
-    ensures { result ≡ level_by (into Unambiguous operand) }
-{
-    match operand {
-        Operand::Present(number) => Level::Content(number),
-        Operand::Absent => Level::Of(Precedence::Unambiguous),
-    }
-}
+impl Question for PrecedenceOf {
+    type Answer = Precedence;
 
-// Precedence::of for a Closure: without a written output, or with one.
-fn closure_of(detail: u16, attributes: u16) -> Precedence
-    ensures { result ≡ closure_by detail attributes }
-{
-    if detail == 0 {
-        return Precedence::Jump;
-    }
-    prefix_attrs(attributes)
-}
+    ghost lines = { of_lines };
 
-// Precedence::of for the forms that are left: a closed expression but Verbatim, which has no attributes.
-fn closed_of(table: &[u16], count: u16, node: u16) -> Precedence
-    ensures { result ≡ closed_by (form_in table.now count node) (attributes_at table.now node) }
-{
-    let form = form_at(table, count, node);
-    if tree_labels::form::class_of(form) != 1 {
-        return Precedence::Unambiguous;
-    }
-    if form == forms::EXPR_VERBATIM {
-        return Precedence::Unambiguous;
-    }
-    prefix_attrs(cell(table, node, columns::ATTRIBUTES))
-}
+    ghost other = { λ l. closed_by l.form l.attributes };
 
-// One step of Precedence::of.
-fn level_at(table: &[u16], count: u16, node: u16) -> Level
-    ensures { result ≡ level_by (of_step table.now count node) }
-{
-    match form_at(table, count, node) {
-        forms::EXPR_CLOSURE => Level::Of(closure_of(
-            cell(table, node, columns::DETAIL),
-            cell(table, node, columns::ATTRIBUTES),
-        )),
-        forms::EXPR_BREAK | forms::EXPR_RETURN | forms::EXPR_YIELD => {
-            Level::Of(jump_of(first_at(table, count, node)))
+    ghost absent = { Unambiguous };
+
+    fn absent() -> Precedence {
+        Precedence::Unambiguous
+    }
+
+    #[tactic(auto, unfolding(crate::specs::Precedences::of_lines, crate::specs::Precedences::closed_by, tree::specs::Forms::class_of, laws::specs::Choice::lookup, laws::specs::Choice::pick, tree::specs::Trees::label_at), using(tree::proofs::Walks::there))]
+    fn ask(table: &Table, node: u16) -> Asked<Precedence> {
+        let Ok(form) = Form::try_from(table.cell(node, columns::FORM)) else {
+            return Asked::Answer(Precedence::Unambiguous);
+        };
+        match form {
+            Form::ExprClosure => match table.detail(node) {
+                0 => Asked::Answer(Precedence::Jump),
+                _ => Asked::Answer(prefix_attrs(table.attributes(node))),
+            },
+            Form::ExprBreak | Form::ExprReturn | Form::ExprYield => match table.first(node) {
+                Some(_) => Asked::Answer(Precedence::Jump),
+                None => Asked::Answer(Precedence::Unambiguous),
+            },
+            Form::ExprAssign => Asked::Answer(Precedence::Assign),
+            Form::ExprRange => Asked::Answer(Precedence::Range),
+            Form::ExprBinary => Asked::Answer(Precedence::of_binop(table.detail(node))),
+            Form::ExprLet => Asked::Answer(Precedence::Let),
+            Form::ExprCast => Asked::Answer(Precedence::Cast),
+            Form::ExprRawAddr | Form::ExprReference | Form::ExprUnary => {
+                Asked::Answer(Precedence::Prefix)
+            }
+            Form::ExprGroup => Asked::First,
+            Form::ExprArray
+            | Form::ExprAsync
+            | Form::ExprAwait
+            | Form::ExprBlock
+            | Form::ExprCall
+            | Form::ExprConst
+            | Form::ExprContinue
+            | Form::ExprField
+            | Form::ExprForLoop
+            | Form::ExprIf
+            | Form::ExprIndex
+            | Form::ExprInfer
+            | Form::ExprLit
+            | Form::ExprLoop
+            | Form::ExprMacro
+            | Form::ExprMatch
+            | Form::ExprMethodCall
+            | Form::ExprParen
+            | Form::ExprPath
+            | Form::ExprRepeat
+            | Form::ExprStruct
+            | Form::ExprTry
+            | Form::ExprTryBlock
+            | Form::ExprTuple
+            | Form::ExprUnsafe
+            | Form::ExprWhile => Asked::Answer(prefix_attrs(table.attributes(node))),
+            _ => Asked::Answer(Precedence::Unambiguous),
         }
-        forms::EXPR_ASSIGN => Level::Of(Precedence::Assign),
-        forms::EXPR_RANGE => Level::Of(Precedence::Range),
-        forms::EXPR_BINARY => Level::Of(Precedence::of_binop(cell(table, node, columns::DETAIL))),
-        forms::EXPR_LET => Level::Of(Precedence::Let),
-        forms::EXPR_CAST => Level::Of(Precedence::Cast),
-        forms::EXPR_RAW_ADDR | forms::EXPR_UNARY => Level::Of(Precedence::Prefix),
-        forms::EXPR_REFERENCE => Level::Of(Precedence::Prefix),
-        forms::EXPR_GROUP => content_of(first_at(table, count, node)),
-        _ => Level::Of(closed_of(table, count, node)),
     }
 }
 
@@ -166,118 +154,105 @@ impl Precedence {
     pub fn rank(self) -> u16
         ensures { result ≡ rank_of self }
     {
-        match self {
-            Precedence::Jump => 0,
-            Precedence::Assign => 1,
-            Precedence::Range => 2,
-            Precedence::Or => 3,
-            Precedence::And => 4,
-            Precedence::Let => 5,
-            Precedence::Compare => 6,
-            Precedence::BitOr => 7,
-            Precedence::BitXor => 8,
-            Precedence::BitAnd => 9,
-            Precedence::Shift => 10,
-            Precedence::Sum => 11,
-            Precedence::Product => 12,
-            Precedence::Cast => 13,
-            Precedence::Prefix => 14,
-            Precedence::Unambiguous => 15,
-        }
+        self as u16
     }
 
-    // self < other
     pub fn is_below(self, other: Precedence) -> bool
         ensures { result ≡ below self other }
     {
-        self.rank() < other.rank()
+        self < other
     }
 
-    // self <= other
     pub fn is_at_most(self, other: Precedence) -> bool
         ensures { result ≡ at_most self other }
     {
-        self.rank() <= other.rank()
+        self <= other
     }
 
-    // self == other
     pub fn is_same(self, other: Precedence) -> bool
         ensures { result ≡ same self other }
     {
-        self.rank() == other.rank()
+        self == other
     }
 
     // The precedence of a binary operator, by its number.
+    #[tactic(auto, unfolding(crate::specs::Precedences::of_binop))]
     pub fn of_binop(op: u16) -> Precedence
         ensures { result ≡ of_binop op }
     {
-        let operator = Binding::of_binop(op);
-        operator.level
+        Binding::of_binop(op).level
     }
 
     // The precedence of a node of a table.
-    pub fn of(table: &[u16], count: u16, node: u16) -> Precedence
-        ensures { result ≡ precedence_of (tree_at table.now count node) }
+    #[tactic(auto, unfolding(crate::specs::Precedences::precedence_of))]
+    pub fn of(table: &Table, node: u16) -> Precedence
+        ensures { result ≡ precedence_of (tree_at table.now.cells.now table.now.count node) }
     {
-        let mut at = node;
-        loop {
-            let level = level_at(table, count, at);
-            match level {
-                Level::Of(precedence) => break precedence,
-                Level::Content(next) => at = next,
-            }
-        }
+        walk::<PrecedenceOf>(table, node)
+    }
+}
+
+// 0, 1 or 2, in the enum's order.
+impl From<Lean> for u16 {
+    ghost from_gives = { λ lean number. number ≡ lean_number lean };
+
+    fn from(lean: Lean) -> u16 {
+        lean as u16
     }
 }
 
 impl Lean {
-    // 0, 1 or 2, in the enum's order.
     pub fn number(self) -> u16
         ensures { result ≡ lean_number self }
     {
-        match self {
-            Lean::Left => 0,
-            Lean::Right => 1,
-            Lean::Neither => 2,
-        }
+        u16::from(self)
     }
 }
 
 impl Binding {
     // The operator of a Binary, by its number.
+    #[tactic(auto, unfolding(crate::specs::Precedences::operators, laws::specs::Choice::lookup, laws::specs::Choice::pick))]
     pub fn of_binop(op: u16) -> Binding
         ensures { result ≡ binop_binding op }
     {
-        match op {
-            0..=1 => leaning(Lean::Left, Precedence::Sum),
-            2..=4 => leaning(Lean::Left, Precedence::Product),
-            5 => leaning(Lean::Left, Precedence::And),
-            6 => leaning(Lean::Left, Precedence::Or),
-            7 => leaning(Lean::Left, Precedence::BitXor),
-            8 => leaning(Lean::Left, Precedence::BitAnd),
-            9 => leaning(Lean::Left, Precedence::BitOr),
-            10..=11 => leaning(Lean::Left, Precedence::Shift),
-            12..=17 => leaning(Lean::Neither, Precedence::Compare),
-            18..=27 => leaning(Lean::Right, Precedence::Assign),
-            _ => leaning(Lean::Left, Precedence::MIN),
-        }
+        let (level, lean) = match op {
+            0..=1 => (Precedence::Sum, Lean::Left),
+            2..=4 => (Precedence::Product, Lean::Left),
+            5 => (Precedence::And, Lean::Left),
+            6 => (Precedence::Or, Lean::Left),
+            7 => (Precedence::BitXor, Lean::Left),
+            8 => (Precedence::BitAnd, Lean::Left),
+            9 => (Precedence::BitOr, Lean::Left),
+            10..=11 => (Precedence::Shift, Lean::Left),
+            12..=17 => (Precedence::Compare, Lean::Neither),
+            18..=27 => (Precedence::Assign, Lean::Right),
+            _ => (Precedence::MIN, Lean::Left),
+        };
+        Binding { level, lean }
     }
 
     // The `=` of an Assign.
     pub fn of_assign() -> Binding
         ensures { result ≡ assigns }
     {
-        leaning(Lean::Right, Precedence::Assign)
+        Binding {
+            level: Precedence::Assign,
+            lean: Lean::Right,
+        }
     }
 
     // The `..` or `..=` of a Range.
     pub fn of_range() -> Binding
         ensures { result ≡ ranges }
     {
-        leaning(Lean::Neither, Precedence::Range)
+        Binding {
+            level: Precedence::Range,
+            lean: Lean::Neither,
+        }
     }
 
     // Any operator: 0 to 27 those of Binary, 28 `=`, 29 Range's.
+    #[tactic(auto, unfolding(crate::specs::Precedences::binding_of, laws::specs::Choice::lookup, laws::specs::Choice::pick))]
     pub fn of(operator: u16) -> Binding
         ensures { result ≡ binding_of operator }
     {

@@ -9,8 +9,7 @@ use lib.Seq.{take-suc-set}
 use borrow.Author.Tests.{le-leb, lt-leb}
 use Rattle.laws.specs.Choice.{pick}
 use Rattle.laws.proofs.Choice.{pick_true, pick_false}
-use Rattle.file_numbers.specs.declared.Number.{Number}
-use Rattle.file_numbers.specs.declared.Number.TheVariants.{Malformed, Value}
+use Rattle.std.specs.Prelude.{Option, None, Some}
 use Rattle.file_numbers.specs.Numbers.{followed, value_of, malformed}
 use Rattle.file_numbers.specs.Standing.{stands_at}
 use Rattle.reading.specs.Text.{Numbers, broken, numbers, before, numbers_from, numbers_in, tokens_in}
@@ -29,8 +28,8 @@ behind_one : (l : List ℕ) (n : ℕ) (x : Numbers) → behind l (before n x) �
 behind_one l n broken = refl
 behind_one l n (numbers ns) = ap numbers (sym (append_assoc l (n ∷ []) ns))
 
-abbrev by : ℕ → List ℕ → Number → Numbers
-by most file x = elim x [ Malformed ↦ broken | Value n next ↦ before n (numbers_from most file next) ]
+abbrev by : ℕ → List ℕ → Option (ℕ × ℕ) → Numbers
+by most file x = elim x [ None ↦ broken | Some p ↦ before p.0 (numbers_from most file p.1) ]
 
 one_more : (most : ℕ) (file : List ℕ) (at : ℕ) → at < length file → numbers_from (suc most) file at ≡ by most file (stands_at file at)
 unfolding numbers_from
@@ -41,14 +40,19 @@ unfolding numbers_from
 no_more zero file at h = refl
 no_more (suc most) file at h = pick_true _ _ (le-leb (length file) at h)
 
+-- the place after a number
+place : Option (ℕ × ℕ) → ℕ
+place None = 0
+place (Some p) = p.1
+
 -- a number has a byte at least
-pub further : (file : List ℕ) (at n next : ℕ) → Value n next ≡ stands_at file at → at < next
-unfolding stands_at pick
+pub further : (file : List ℕ) (at n next : ℕ) → Some (n, next) ≡ stands_at file at → at < next
+unfolding stands_at pick place
 further file at n next e = go (malformed (drop at file)) e
   where
-    go : (b : Bool) → Value n next ≡ pick b Malformed (Value (value_of (drop at file)) (at + suc (followed (drop at file)))) → at < next
+    go : (b : Bool) → ◌≡◌ {A = Option (ℕ × ℕ)} (Some (n, next)) (pick b None (Some (value_of (drop at file), at + suc (followed (drop at file))))) → at < next
     go true q = absurd (let z : ◌≡◌ {A = ℕ} 0 1 = cc in omega arith)
-    go false q = let z : next ≡ at + suc (followed (drop at file)) = cc in omega arith
+    go false q = let z : next ≡ at + suc (followed (drop at file)) = ap place q in omega arith
 
 -- what was gathered so far
 pub record Until (file : List ℕ) (start : ℕ) (old new : List ℕ) (at count : ℕ) : Type 0 where
@@ -73,10 +77,10 @@ module _ {file : List ℕ} {start : ℕ} {old new : List ℕ} {at count : ℕ} (
       let e : length file - count ≡ suc (length file - suc count) = omega (arith, u.few) in
       u.left ∙ ap (λ n. behind (take count new) (numbers_from n file at)) e ∙ ap (behind (take count new)) (one_more (length file - suc count) file at h)
 
-  pub until_bad : at < length file → Malformed ≡ stands_at file at → numbers_in file start ≡ broken
+  pub until_bad : at < length file → None ≡ stands_at file at → numbers_in file start ≡ broken
   until_bad h e = step h ∙ ap (λ x. behind (take count new) (by (length file - suc count) file x)) (sym e)
 
-  pub until_next : (n next : ℕ) → at < length file → count < length new → Value n next ≡ stands_at file at → Until file start old (set new count n) next (count + 1)
+  pub until_next : (n next : ℕ) → at < length file → count < length new → Some (n, next) ≡ stands_at file at → Until file start old (set new count n) next (count + 1)
   until_next n next h k e =
       let s : count + 1 ≡ suc count = omega arith in
       record {
@@ -97,7 +101,7 @@ module _ {file : List ℕ} {start : ℕ} {old new : List ℕ} {at count : ℕ} (
   gathered h = record { few = u.within; cells = ap tokens_in (sym (whole h)); room = u.room }
 
   -- a cell by itself
-  pub gathered_bad : at < length file → 0 < length new → Malformed ≡ stands_at file at → Gathered file start old (set new 0 0) 1
+  pub gathered_bad : at < length file → 0 < length new → None ≡ stands_at file at → Gathered file start old (set new 0 0) 1
   gathered_bad h k e =
       record {
         few = omega arith;

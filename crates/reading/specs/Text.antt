@@ -1,11 +1,10 @@
 -- What `reading` prints for a file of numbers, the context and then a code and a symbol for each token, as ASCII codes.
-use Rattle.std.specs.Prelude.{◌≡◌, List, [], ◌∷◌, ◌++◌, ℕ, zero, suc, ◌*◌, leb, length, replicate}
+use Rattle.std.specs.Prelude.{◌≡◌, List, [], ◌∷◌, ◌++◌, ℕ, zero, suc, ◌*◌, leb, length, replicate, Option, None, Some, Result, Ok, Err}
 use Rattle.laws.specs.Choice.{pick}
 use Rattle.tree.specs.Sizes.{node_cells, most_nodes}
-use Rattle.file_numbers.specs.declared.Number.TheVariants.{Malformed, Value}
 use Rattle.file_numbers.specs.Standing.{stands_at}
-use Rattle.token_reader.specs.declared.Reply.{Reply}
-use Rattle.token_reader.specs.declared.Reply.TheVariants.{Refused, Nodes}
+use Rattle.tree.specs.declared.refusal.Refusal.{Refusal}
+use Rattle.tree.specs.Replies.{number_of}
 use Rattle.token_reader.specs.Reading.{Answers}
 use Rattle.text.specs.Numbers.{row_line, joined, ok_line, no_line}
 
@@ -18,13 +17,13 @@ unfoldable pub table_text : List ℕ → ℕ → List ℕ
 table_text cells n = ok_line n ++ nodes_text cells n
 
 -- what is printed for the reader's answer and the table afterwards: on a refusal "no" and the number
-unfoldable pub answer_text : Reply → List ℕ → List ℕ
-answer_text (Refused n) cells = no_line n
-answer_text (Nodes n) cells = table_text cells n
+unfoldable pub answer_text : Result ℕ Refusal → List ℕ → List ℕ
+answer_text (Err e) cells = no_line (number_of e)
+answer_text (Ok n) cells = table_text cells n
 
 -- the text is what is printed for the answer to the cells in a context, with a table of 4,096 nodes lent to the reader
 pub record Answered (context : ℕ) (cells text : List ℕ) : Type 0 where
-  pub reply : Reply
+  pub reply : Result ℕ Refusal
   pub after : List ℕ
   pub answers : Answers context cells (replicate (node_cells * most_nodes) 0) reply after
   pub prints : text ≡ answer_text reply after
@@ -43,7 +42,7 @@ before n (numbers ns) = numbers (n ∷ ns)
 unfoldable pub numbers_from : ℕ → List ℕ → ℕ → Numbers
 numbers_from zero file at = numbers []
 numbers_from (suc most) file at =
-    pick (leb (length file) at) (numbers []) (elim (stands_at file at) [ Malformed ↦ broken | Value n next ↦ before n (numbers_from most file next) ])
+    pick (leb (length file) at) (numbers []) (elim (stands_at file at) [ None ↦ broken | Some p ↦ before p.0 (numbers_from most file p.1) ])
 
 -- a number has a byte at least
 abbrev pub numbers_in : List ℕ → ℕ → Numbers
@@ -57,5 +56,5 @@ tokens_in (numbers cells) = cells
 
 -- what is printed for a file: 14 where its first number, the context, is malformed or missing
 pub record Printed (file text : List ℕ) : Type 0 where
-  pub bad : stands_at file 0 ≡ Malformed → text ≡ no_line 14
-  pub good : (context next : ℕ) → stands_at file 0 ≡ Value context next → Answered context (tokens_in (numbers_in file next)) text
+  pub bad : stands_at file 0 ≡ None → text ≡ no_line 14
+  pub good : (context next : ℕ) → stands_at file 0 ≡ Some (context, next) → Answered context (tokens_in (numbers_in file next)) text

@@ -10,11 +10,10 @@ ghost use Rattle.text.specs.Growth.{Grown, Added};
 ghost use Rattle.reading.specs.Text.{numbers_in, tokens_in, nodes_text, table_text, Answered, Printed};
 ghost use Rattle.reading.specs.Gathering.{Gathered};
 
-use file_numbers::{Number, number_at};
+use file_numbers::number_at;
 use std::io;
 use text::input::read_full;
 use text::{put_no, put_ok, put_row};
-use token_reader::Reply;
 use tree::sizes;
 
 // One byte more than a context that the reader takes and the longest token list, so that a longer one shows: of each
@@ -41,11 +40,11 @@ fn gather(file: &[u8], start: usize, cells: &mut [u16]) -> usize
     let mut count = 0;
     while at < file.len() {
         match number_at(file, at) {
-            Number::Malformed => {
+            None => {
                 cells[0] = 0;
                 return 1;
             }
-            Number::Value(value, next) => {
+            Some((value, next)) => {
                 cells[count] = value;
                 count += 1;
                 at = next;
@@ -60,10 +59,8 @@ fn put_nodes(out: &mut [u8], end: usize, count: u16, table: &[u16]) -> usize
     ensures { Grown out.old end (nodes_text table.now count) out.new result }
 {
     let mut at = end;
-    let mut node = 0;
-    while node < count {
-        node += 1;
-        at = put_row(out, at, node, WIDTH, table);
+    for done in 0..count {
+        at = put_row(out, at, done + 1, WIDTH, table);
     }
     at
 }
@@ -84,8 +81,8 @@ fn put_reply(context: u16, cells: &[u16], out: &mut [u8; TEXT]) -> usize
 {
     let mut table = [0u16; CELLS];
     match token_reader::read(context, cells, &mut table) {
-        Reply::Refused(why) => put_no(out, why),
-        Reply::Nodes(count) => put_table(out, count, &table),
+        Err(refusal) => put_no(out, refusal.number()),
+        Ok(count) => put_table(out, count, &table),
     }
 }
 
@@ -107,8 +104,8 @@ fn report(file: &[u8], out: &mut [u8; TEXT]) -> usize
     ensures printed { Printed file.now (take result out.new) }
 {
     match number_at(file, 0) {
-        Number::Malformed => put_no(out, 14),
-        Number::Value(context, next) => put_tokens(context, file, next, out),
+        None => put_no(out, 14),
+        Some((context, next)) => put_tokens(context, file, next, out),
     }
 }
 

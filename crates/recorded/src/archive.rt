@@ -7,13 +7,13 @@ use crate::cells::{BYTE, BYTES, TABLE};
 use crate::lists::CODES;
 use crate::record::{FILE, Header, Sizes};
 use crate::{cells, lists, record};
-use file_order::{Compared, Order};
-use file_save::Saved;
+use std::cmp::Ordering;
+use tree::refusal::Refusal;
 
 // ---- saving
 
 // The answer to `n` numbers, a context, a count and the cells of a table, with the first `lent` bytes of a buffer lent.
-fn save_parts(numbers: &[u16], n: usize, own: &mut [u8], lent: usize) -> Saved
+fn save_parts(numbers: &[u16], n: usize, own: &mut [u8], lent: usize) -> Result<u16, Refusal>
     requires le_n { 2 ≤ n }
     requires n_in_bounds { n ≤ length numbers.now }
     requires lent_in_bounds { lent ≤ length own.old }
@@ -21,8 +21,13 @@ fn save_parts(numbers: &[u16], n: usize, own: &mut [u8], lent: usize) -> Saved
     file_save::save(numbers[0], numbers[1], &numbers[2..n], &mut own[0..lent])
 }
 
-// The answer to the numbers in the first `size` bytes; where there are not even two, a refusal that no record has.
-fn save(file: &[u8; FILE], size: usize, own: &mut [u8; TABLE], lent: usize) -> Saved
+// The answer to the numbers in the first `size` bytes; none where there are not even two.
+fn save(
+    file: &[u8; FILE],
+    size: usize,
+    own: &mut [u8; TABLE],
+    lent: usize,
+) -> Option<Result<u16, Refusal>>
     requires size_bound { size ≤ 100_000 }
     requires lent_bound { lent ≤ 65_535 }
 {
@@ -30,16 +35,16 @@ fn save(file: &[u8; FILE], size: usize, own: &mut [u8; TABLE], lent: usize) -> S
     let n = size / 2;
     lists::gather(file, &mut numbers, n);
     if n < 2 {
-        return Saved::Refused(0);
+        return None;
     }
-    save_parts(&numbers, n, own, lent)
+    Some(save_parts(&numbers, n, own, lent))
 }
 
 // Whether the answer is the recorded one, apart from the bytes.
-pub(crate) fn saved(answer: Saved, h: Header) -> bool {
+pub(crate) fn saved(answer: Result<u16, Refusal>, h: Header) -> bool {
     match answer {
-        Saved::Refused(why) => record::refuses(h, why),
-        Saved::Bytes(n) => record::counts(h, n),
+        Err(refusal) => record::refuses(h, refusal.number()),
+        Ok(n) => record::counts(h, n),
     }
 }
 
@@ -48,14 +53,16 @@ pub(crate) fn saves(file: &[u8; FILE], h: Header, bytes: &[u8; BYTES], s: Sizes)
     requires { (s.file ≤ 100_000) × (s.lent ≤ 65_535) × (s.written ≤ 2 * token_cells * most_tokens) }
 {
     let mut own = [BYTE; TABLE];
-    let answer = save(file, s.file, &mut own, s.lent);
+    let Some(answer) = save(file, s.file, &mut own, s.lent) else {
+        return false;
+    };
     saved(answer, h) && cells::saved(&own, bytes, s.written)
 }
 
 // ---- comparing
 
 // How what stands in `file` from place 4 up to `first` stands to what stands behind it up to `size`.
-fn compare_parts(file: &[u8], first: usize, size: usize) -> Compared
+fn compare_parts(file: &[u8], first: usize, size: usize) -> Result<Ordering, Refusal>
     requires le_first { 4 ≤ first }
     requires first_le_size { first ≤ size }
     requires size_in_bounds { size ≤ length file.now }
@@ -63,9 +70,8 @@ fn compare_parts(file: &[u8], first: usize, size: usize) -> Compared
     file_order::compare(&file[4..first], &file[first..size])
 }
 
-// The answer to the first `size` bytes: the length of the first file, and both files; a refusal that no record has where
-// there are fewer.
-fn compare(file: &[u8; FILE], size: usize) -> Compared
+// The answer to the first `size` bytes: the length of the first file, and both files; none where there are fewer.
+fn compare(file: &[u8; FILE], size: usize) -> Option<Result<Ordering, Refusal>>
     requires { size ≤ 100_000 }
 {
     let long = record::long(
@@ -74,17 +80,17 @@ fn compare(file: &[u8; FILE], size: usize) -> Compared
     );
     let first = 4 + long;
     if size < first {
-        return Compared::Refused(0);
+        return None;
     }
-    compare_parts(file, first, size)
+    Some(compare_parts(file, first, size))
 }
 
 // The number of an order in a record.
-fn number(order: Order) -> u16 {
+fn number(order: Ordering) -> u16 {
     match order {
-        Order::Before => 0,
-        Order::Equal => 1,
-        Order::After => 2,
+        Ordering::Less => 0,
+        Ordering::Equal => 1,
+        Ordering::Greater => 2,
     }
 }
 
@@ -93,7 +99,8 @@ pub(crate) fn orders(file: &[u8; FILE], h: Header, size: usize) -> bool
     requires { size ≤ 100_000 }
 {
     match compare(file, size) {
-        Compared::Refused(why) => record::refuses(h, why),
-        Compared::Ordered(order) => record::counts(h, number(order)),
+        None => false,
+        Some(Err(refusal)) => record::refuses(h, refusal.number()),
+        Some(Ok(order)) => record::counts(h, number(order)),
     }
 }

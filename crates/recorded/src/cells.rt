@@ -21,21 +21,17 @@ fn pattern(i: usize) -> u16 {
 
 // Fills a buffer with the pattern.
 pub(crate) fn fill(table: &mut [u16; TABLE]) {
-    let mut i = 0;
-    while i < TABLE {
+    for i in 0..TABLE {
         table[i] = pattern(i);
-        i += 1;
     }
 }
 
 // Whether all cells from `from` on keep the pattern.
 fn keeps(table: &[u16; TABLE], from: usize) -> bool {
-    let mut i = from;
-    while i < TABLE {
+    for i in from..TABLE {
         if table[i] != pattern(i) {
             return false;
         }
-        i += 1;
     }
     true
 }
@@ -44,12 +40,10 @@ fn keeps(table: &[u16; TABLE], from: usize) -> bool {
 fn same(table: &[u16; TABLE], cells: &[u8; BYTES], n: usize) -> bool
     requires { n ≤ token_cells * most_tokens }
 {
-    let mut i = 0;
-    while i < n {
+    for i in 0..n {
         if table[i] != record::pair(cells[2 * i], cells[2 * i + 1]) {
             return false;
         }
-        i += 1;
     }
     true
 }
@@ -68,13 +62,11 @@ pub(crate) const BYTE: u8 = 165;
 pub(crate) fn saved(file: &[u8; TABLE], bytes: &[u8; BYTES], n: usize) -> bool
     requires { n ≤ 2 * token_cells * most_tokens }
 {
-    let mut i = 0;
-    while i < TABLE {
+    for i in 0..TABLE {
         let meant = if i < n { bytes[i] } else { BYTE };
         if file[i] != meant {
             return false;
         }
-        i += 1;
     }
     true
 }

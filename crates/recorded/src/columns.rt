@@ -6,10 +6,10 @@ ghost use Rattle.tree.specs.Sizes.{token_cells, most_tokens};
 use crate::cells::{BYTE, BYTES, TABLE};
 use crate::record::{FILE, Header, Sizes};
 use crate::{archive, cells};
-use file_save::Saved;
+use tree::refusal::Refusal;
 
 // The answer to the first `size` bytes of a tree file, with the first `lent` bytes of a buffer lent.
-fn rearrange(file: &[u8], size: usize, own: &mut [u8], lent: usize) -> Saved
+fn rearrange(file: &[u8], size: usize, own: &mut [u8], lent: usize) -> Result<u16, Refusal>
     requires size_in_bounds { size ≤ length file.now }
     requires lent_in_bounds { lent ≤ length own.old }
 {
@@ -17,7 +17,7 @@ fn rearrange(file: &[u8], size: usize, own: &mut [u8], lent: usize) -> Saved
 }
 
 // The same of a rearranged file.
-fn restore(file: &[u8], size: usize, own: &mut [u8], lent: usize) -> Saved
+fn restore(file: &[u8], size: usize, own: &mut [u8], lent: usize) -> Result<u16, Refusal>
     requires size_in_bounds { size ≤ length file.now }
     requires lent_in_bounds { lent ≤ length own.old }
 {

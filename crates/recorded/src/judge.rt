@@ -11,7 +11,7 @@ use std::io::Read;
 use tree::sizes;
 
 // What records hold.
-#[derive(Clone, Copy)]
+#[derive(Clone, Copy, Debug)]
 pub enum Kind {
     // Tree files, and their tables.
     Files,
@@ -34,7 +34,7 @@ pub enum Kind {
 }
 
 // What came of one record, with the number of the recorded reply.
-#[derive(Drop)]
+#[derive(Clone, Copy, Debug)]
 pub enum Step {
     Agrees(usize),
     Differs(usize),
@@ -82,10 +82,10 @@ fn agrees(kind: Kind, file: &[u8; FILE], h: Header, cells: &[u8; BYTES], s: Size
 
 // Reads the rest of the record of a header, answers it anew, and compares.
 fn replay(reader: &mut impl Read, h: Header, kind: Kind) -> io::Result<Step> {
-    let lent = record::wide(h.lent);
+    let lent = usize::from(h.lent);
     let size = h.length;
-    let reply = record::wide(h.reply);
-    let written = bytes_of(kind, h.reply, record::wide(h.count));
+    let reply = usize::from(h.reply);
+    let written = bytes_of(kind, h.reply, usize::from(h.count));
     if lent > TABLE || size > FILE || reply >= REPLIES || written > BYTES {
         return Ok(Step::Damaged);
     }
@@ -99,8 +99,8 @@ fn replay(reader: &mut impl Read, h: Header, kind: Kind) -> io::Result<Step> {
     }
     let s = Sizes {
         file: size,
-        lent: lent,
-        written: written,
+        lent,
+        written,
     };
     if agrees(kind, &file, h, &cells, s) {
         Ok(Step::Agrees(reply))

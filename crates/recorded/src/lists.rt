@@ -5,7 +5,7 @@ ghost use Rattle.tree.specs.Sizes.{token_cells, most_tokens};
 use crate::cells::{BYTES, TABLE};
 use crate::record::{FILE, Header, Sizes};
 use crate::{cells, record};
-use token_reader::Reply;
+use tree::refusal::Refusal;
 
 // The most cells of a list: two bytes of a file each.
 pub(crate) const CODES: usize = 50_000;
@@ -15,15 +15,19 @@ pub(crate) fn gather(file: &[u8; FILE], codes: &mut [u16], n: usize)
     requires n_bound { n ≤ 50_000 }
     requires n_in_bounds { n ≤ length codes.old }
 {
-    let mut i = 0;
-    while i < n {
-        codes[i] = record::pair(file[2 * i], file[2 * i + 1]);
-        i += 1;
+    for at in 0..n {
+        codes[at] = record::pair(file[2 * at], file[2 * at + 1]);
     }
 }
 
 // The answer to the first `n` codes in a context, with the first `lent` cells of a table lent.
-fn read_parts(context: u16, codes: &[u16], n: usize, table: &mut [u16], lent: usize) -> Reply
+fn read_parts(
+    context: u16,
+    codes: &[u16],
+    n: usize,
+    table: &mut [u16],
+    lent: usize,
+) -> Result<u16, Refusal>
     requires n_in_bounds { n ≤ length codes.now }
     requires lent_in_bounds { lent ≤ length table.old }
 {
@@ -31,7 +35,13 @@ fn read_parts(context: u16, codes: &[u16], n: usize, table: &mut [u16], lent: us
 }
 
 // The answer to the codes in the first `size` bytes, in the header's context.
-fn read(h: Header, file: &[u8; FILE], size: usize, table: &mut [u16; TABLE], lent: usize) -> Reply
+fn read(
+    h: Header,
+    file: &[u8; FILE],
+    size: usize,
+    table: &mut [u16; TABLE],
+    lent: usize,
+) -> Result<u16, Refusal>
     requires size_bound { size ≤ 100_000 }
     requires lent_bound { lent ≤ 65_535 }
 {
@@ -42,10 +52,10 @@ fn read(h: Header, file: &[u8; FILE], size: usize, table: &mut [u16; TABLE], len
 }
 
 // Whether the reader's answer is the recorded one, apart from the table.
-fn found(answer: Reply, h: Header) -> bool {
+fn found(answer: Result<u16, Refusal>, h: Header) -> bool {
     match answer {
-        Reply::Refused(why) => record::refuses(h, why),
-        Reply::Nodes(count) => record::counts(h, count),
+        Err(refusal) => record::refuses(h, refusal.number()),
+        Ok(count) => record::counts(h, count),
     }
 }
 

@@ -38,9 +38,8 @@ fn bump(counts: &mut [u64; REPLIES], reply: usize) {
 fn run(rt: &impl Print, reader: &mut impl Read, kind: Kind) -> io::Result<()> {
     let mut met = [0u64; REPLIES];
     let mut agreed = [0u64; REPLIES];
-    let mut files: u64 = 0;
     let mut different: u64 = 0;
-    while files <= MOST {
+    for files in 0..=MOST {
         match judge::next(reader, kind)? {
             Step::End => {
                 return report::all(rt, &met, &agreed, files, different);
@@ -57,7 +56,6 @@ fn run(rt: &impl Print, reader: &mut impl Read, kind: Kind) -> io::Result<()> {
                 different += 1;
             }
         }
-        files += 1;
     }
     print::damaged(rt)
 }

@@ -12,7 +12,7 @@ pub const FILE: usize = 100_000;
 pub const REPLIES: usize = 23;
 
 // What a header says, with its numbers as they stand there.
-#[derive(Clone, Copy)]
+#[derive(Clone, Copy, Debug)]
 pub struct Header {
     pub lent: u16,
     pub length: usize,
@@ -22,7 +22,7 @@ pub struct Header {
 }
 
 // How many bytes are read, how many cells or bytes are lent, and how many bytes of the record are what the reply writes.
-#[derive(Drop)]
+#[derive(Clone, Copy, Debug)]
 pub struct Sizes {
     pub file: usize,
     pub lent: usize,
@@ -40,7 +40,7 @@ pub(crate) fn counts(h: Header, count: u16) -> bool {
 }
 
 // What stands at the start of a record: nothing where the data ends.
-#[derive(Drop)]
+#[derive(Clone, Copy, Debug)]
 pub enum Start {
     Record(Header),
     End,
@@ -49,21 +49,14 @@ pub enum Start {
 
 // The number of two bytes, the low one first.
 pub(crate) fn pair(low: u8, high: u8) -> u16 {
-    low as u16 + 256 * (high as u16)
-}
-
-// A number of 16 bits as one to count with.
-pub(crate) fn wide(x: u16) -> usize
-    ensures { result ≤ 65_535 }
-{
-    x as usize
+    u16::from_le_bytes([low, high])
 }
 
 // The number of two halves of 16 bits, the low one first.
 pub(crate) fn long(low: u16, high: u16) -> usize
     ensures { result ≤ 4_294_967_295 }
 {
-    low as usize + 65536 * (high as usize)
+    usize::from(low) + 65536 * usize::from(high)
 }
 
 // The header that stands in 12 bytes.

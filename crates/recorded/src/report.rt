@@ -12,12 +12,10 @@ fn refused(rt: &impl Print, reply: u64, agreed: u64) -> io::Result<()> {
 
 // The lines of the numbers of refusal that occurred.
 fn refusals(rt: &impl Print, met: &[u64; REPLIES], agreed: &[u64; REPLIES]) -> io::Result<()> {
-    let mut i = 1;
-    while i < REPLIES {
+    for i in 1..REPLIES {
         if met[i] > 0 {
             refused(rt, i as u64, agreed[i])?;
         }
-        i += 1;
     }
     Ok(())
 }

@@ -9,9 +9,10 @@ use crate::{cells, record};
 use expr::order::CalleeOrder;
 use file_loader::Loaded;
 use token_writer::Written;
+use tree::refusal::Refusal;
 
 // The answer to the first `size` bytes of a file, with the first `lent` cells of a table lent.
-fn load_parts(file: &[u8], size: usize, table: &mut [u16], lent: usize) -> Loaded
+fn load_parts(file: &[u8], size: usize, table: &mut [u16], lent: usize) -> Result<Loaded, Refusal>
     requires size_in_bounds { size ≤ length file.now }
     requires lent_in_bounds { lent ≤ length table.old }
 {
@@ -19,7 +20,12 @@ fn load_parts(file: &[u8], size: usize, table: &mut [u16], lent: usize) -> Loade
 }
 
 // The same with the arrays as they stand in what follows.
-fn load(file: &[u8; FILE], size: usize, table: &mut [u16; TABLE], lent: usize) -> Loaded
+fn load(
+    file: &[u8; FILE],
+    size: usize,
+    table: &mut [u16; TABLE],
+    lent: usize,
+) -> Result<Loaded, Refusal>
     requires size_bound { size ≤ 100_000 }
     requires lent_bound { lent ≤ 65_535 }
 {
@@ -29,10 +35,10 @@ fn load(file: &[u8; FILE], size: usize, table: &mut [u16; TABLE], lent: usize) -
 // ---- files
 
 // Whether the loader's answer is the recorded one, apart from the table.
-fn loaded(answer: Loaded, h: Header) -> bool {
+fn loaded(answer: Result<Loaded, Refusal>, h: Header) -> bool {
     match answer {
-        Loaded::Refused(why) => record::refuses(h, why),
-        Loaded::Accepted(context, count) => context == h.context && record::counts(h, count),
+        Err(refusal) => record::refuses(h, refusal.number()),
+        Ok(loaded) => loaded.context == h.context && record::counts(h, loaded.count),
     }
 }
 
@@ -51,7 +57,7 @@ pub(crate) fn loads(file: &[u8; FILE], h: Header, cells: &[u8; BYTES], s: Sizes)
 // The reply to deciding the rows of a loaded table in a callee order.
 fn decide_loaded(
     order: CalleeOrder,
-    loaded: Loaded,
+    loaded: Result<Loaded, Refusal>,
     table: &[u16; TABLE],
     rows: &mut [u16],
     lent: usize,
@@ -59,9 +65,15 @@ fn decide_loaded(
     requires { lent ≤ length rows.old }
 {
     match loaded {
-        Loaded::Refused(why) => why,
-        Loaded::Accepted(context, count) => {
-            row_walk::decide_by(order, context, count, table, &mut rows[0..lent])
+        Err(refusal) => refusal.number(),
+        Ok(Loaded { context, count }) => {
+            row_walk::reply_number(row_walk::decide_by(
+                order,
+                context,
+                count,
+                table,
+                &mut rows[0..lent],
+            ))
         }
     }
 }
@@ -101,19 +113,25 @@ pub(crate) fn decides(
 // ---- tokens
 
 // The writer's answer for a loaded table.
-fn write_loaded(loaded: Loaded, table: &[u16; TABLE], tokens: &mut [u16], lent: usize) -> Written
+fn write_loaded(
+    loaded: Result<Loaded, Refusal>,
+    table: &[u16; TABLE],
+    tokens: &mut [u16],
+    lent: usize,
+) -> Result<Written, Refusal>
     requires { lent ≤ length tokens.old }
 {
-    match loaded {
-        Loaded::Refused(why) => Written::Refused(why),
-        Loaded::Accepted(context, count) => {
-            token_writer::write(context, count, table, &mut tokens[0..lent])
-        }
-    }
+    let Loaded { context, count } = loaded?;
+    token_writer::write(context, count, table, &mut tokens[0..lent])
 }
 
 // The writer's answer for a file, with `lent` cells of tokens lent.
-fn write(file: &[u8; FILE], size: usize, tokens: &mut [u16; TABLE], lent: usize) -> Written
+fn write(
+    file: &[u8; FILE],
+    size: usize,
+    tokens: &mut [u16; TABLE],
+    lent: usize,
+) -> Result<Written, Refusal>
     requires size_bound { size ≤ 100_000 }
     requires lent_bound { lent ≤ 65_535 }
 {
@@ -123,10 +141,10 @@ fn write(file: &[u8; FILE], size: usize, tokens: &mut [u16; TABLE], lent: usize)
 }
 
 // Whether the writer's answer is the recorded one, apart from the tokens.
-fn wrote(answer: Written, h: Header) -> bool {
+fn wrote(answer: Result<Written, Refusal>, h: Header) -> bool {
     match answer {
-        Written::Refused(why) => record::refuses(h, why),
-        Written::Tokens(_, n) => record::counts(h, n),
+        Err(refusal) => record::refuses(h, refusal.number()),
+        Ok(written) => record::counts(h, written.tokens),
     }
 }
 

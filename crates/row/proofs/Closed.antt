@@ -2,16 +2,23 @@
 use mathlib.Core.Path.{◌≡◌, refl, sym, ◌∙◌}
 use mathlib.Core.Bool.{Bool, true, false, not, ◌&&◌, ◌||◌}
 use mathlib.Core.List.{List}
-use Prim.Native.Nat.{◌<◌}
+use Prim.Native.Nat.{ℕ, ◌≤◌, ◌<◌}
 use native.Mathlib.Omega.{arith}
+use native.Mathlib.Decide.{dec_le}
+use Rattle.std.proofs.Common.{◌⊎◌}
+use Rattle.std.proofs.lemmas.Grind.{common_steps}
 use lib.Dec.{T, eqb}
 use mir.Val.{has_key}
 use borrow.Author.Tests.{le-ltb, lt-leb, not-true}
-use Rattle.laws.specs.Choice.{pick, Line, lookup}
+use Rattle.laws.specs.Choice.{pick, is_one_of, Line, lookup}
 use Rattle.laws.proofs.Choice.{pick_false, true_not_false}
 use Rattle.laws.proofs.Keys.{apart_from, not_found}
 use Rattle.tree.specs.Forms.{expr_verbatim, an_expression, class_of}
-use Rattle.tree.specs.Trees.{Label, Tree, none, node}
+use Rattle.tree.specs.Table.{form_at, attributes_at}
+use Rattle.tree.specs.Operands.{form_in}
+use Rattle.tree.specs.Trees.{Label, Tree, none, node, label_at, tree_at}
+use Rattle.tree.proofs.Unfold.{unfolds, tree_zero, tree_past}
+use Rattle.tree.proofs.Matches.{form_in_lem}
 use Rattle.tree.specs.Walks.{at_root, answer, walk, follow}
 use Rattle.fixup_look.specs.Looks.{is_bare_jump, is_open_ahead, is_cast_to_path}
 use Rattle.precedence.specs.declared.Precedence.TheVariants.{Assign, Let, Prefix, Unambiguous}
@@ -110,3 +117,20 @@ module _ (t : Tree) (closed : is_closed t ≡ true) where
   pub closed_right : (x : FixupContext) → rank_of x.previous_operator < 15 → rightmost_precedence t x ≡ Unambiguous
   unfolding rightmost_precedence right_by
   closed_right x h = rw (closed_effective x, not_loose x h) (pick_false Prefix Unambiguous refl)
+
+-- ---- of a node in a table
+
+pub closed_at : (cells : List ℕ) (count i : ℕ) → 1 ≤ i → i ≤ count
+    → is_closed (tree_at cells count i) ≡ pick (is_one_of closed_forms (form_at cells i)) (not (eqb (attributes_at cells i) 2)) false
+unfolding at_root closed_lines lookup label_at
+closed_at cells count i h k = rw (unfolds cells count i h k)
+
+-- a node without a form
+pub unlisted : (cells : List ℕ) (count i : ℕ) → (form_in cells count i ≡ 0) ⊎ (56 < form_in cells count i) → is_closed (tree_at cells count i) ≡ false
+unfolding at_root closed_lines lookup pick label_at
+unlisted cells count i e = go (dec_le 1 i) (dec_le i count)
+  where
+    go : Dec (1 ≤ i) → Dec (i ≤ count) → is_closed (tree_at cells count i) ≡ false
+    go (yes h) (yes k) = let q = form_in_lem cells count i h k in rw (unfolds cells count i h k) (grind (arith, common_steps, q, e))
+    go (yes h) (no k) = rw (tree_past cells count i (omega arith))
+    go (no h) d = let z : i ≡ 0 = omega arith in rw (z, tree_zero cells count)

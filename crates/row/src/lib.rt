@@ -4,21 +4,22 @@
 pub mod hand; // hand.rt: what an owner hands down, in one number
 
 ghost use Rattle.std.specs.Prelude.{◌≡◌};
+ghost use Rattle.laws.specs.Choice.{is_one_of};
+ghost use Rattle.tree.specs.FormNumbers.{number_of};
 ghost use Rattle.tree.specs.Trees.{tree_at};
 ghost use Rattle.fixup.specs.Contexts.{none_context};
 ghost use Rattle.row.specs.Rows.{inner_pair, pair_by, row_by, expression_row};
 ghost use Rattle.row.specs.Steps.{decision_of, alone};
-ghost use Rattle.row.specs.Closed.{is_closed};
+ghost use Rattle.row.specs.Closed.{closed_forms, is_closed};
 ghost use Rattle.row.specs.Hands.{handed_of};
 
-use bools::{bit, either};
 use fixup::context::FixupContext;
 use hand::{CONTEXTS, is_grouped, is_parenthesized};
 use precedence::Precedence;
-use tree::table::{cell, form_at};
-use tree::{columns, forms};
+use tree::form::Form;
+use tree::table::Table;
 
-#[derive(Drop)]
+#[derive(Clone, Copy, Debug, PartialEq, Eq)]
 pub struct Row {
     pub pair: u16,
     pub precedence: u16,
@@ -27,19 +28,20 @@ pub struct Row {
     pub flags: u16,
 }
 
-#[derive(Drop)]
+#[derive(Clone, Copy, Debug, PartialEq, Eq)]
 pub struct Decision {
     pub row: Row,
     pub outer: bool,
 }
 
 // The parentheses behind the attributes of an operator with two sides.
-fn has_inner_pair(table: &[u16], count: u16, node: u16) -> bool
-    ensures { result ≡ inner_pair (tree_at table.now count node) }
+#[tactic(auto, unfolding(crate::specs::Rows::inner_lines, laws::specs::Choice::pick, laws::specs::Choice::lookup, tree::specs::Walks::at_root, tree::specs::Operands::form_in, tree::specs::Trees::label_at), using(tree::proofs::Unfold::unfolds, tree::proofs::Unfold::tree_zero, tree::proofs::Unfold::tree_past))]
+fn has_inner_pair(table: &Table, node: u16) -> bool
+    ensures { result ≡ inner_pair (tree_at table.now.cells.now table.now.count node) }
 {
-    match form_at(table, count, node) {
-        forms::EXPR_ASSIGN | forms::EXPR_BINARY | forms::EXPR_CAST | forms::EXPR_RANGE => {
-            cell(table, node, columns::ATTRIBUTES) != 0
+    match table.form(node) {
+        Some(Form::ExprAssign | Form::ExprBinary | Form::ExprCast | Form::ExprRange) => {
+            table.attributes(node) != 0
         }
         _ => false,
     }
@@ -48,7 +50,7 @@ fn has_inner_pair(table: &[u16], count: u16, node: u16) -> bool
 fn pair(outer: bool, inner: bool) -> u16
     ensures { result ≡ pair_by outer inner }
 {
-    bit(outer) + 2 * bit(inner)
+    u16::from(outer) + 2 * u16::from(inner)
 }
 
 // A row with what an owner handed down.
@@ -56,7 +58,7 @@ fn row_of(pair: u16, hand: u32) -> Row
     ensures { result ≡ row_by pair (handed_of hand).precedence (handed_of hand).fixup }
 {
     Row {
-        pair: pair,
+        pair,
         precedence: (hand / CONTEXTS % 16) as u16,
         previous: (hand % 16) as u16,
         next: (hand / 16 % 16) as u16,
@@ -65,51 +67,63 @@ fn row_of(pair: u16, hand: u32) -> Row
 }
 
 // What is decided of an expression: the outer pair by the owner's grouping test, or parenthesize.
-pub fn decision_of(hand: u32, table: &[u16], count: u16, node: u16) -> Decision
-    ensures { result ≡ decision_of (handed_of hand) (tree_at table.now count node) }
+pub fn decision_of(hand: u32, table: &Table, node: u16) -> Decision
+    ensures { result ≡ decision_of (handed_of hand) (tree_at table.now.cells.now table.now.count node) }
 {
-    let outer = either(is_grouped(hand), is_parenthesized(hand, table, count, node));
-    let inner = has_inner_pair(table, count, node);
+    let outer = is_grouped(hand) || is_parenthesized(hand, table, node);
+    let inner = has_inner_pair(table, node);
     Decision {
         row: row_of(pair(outer, inner), hand),
-        outer: outer,
+        outer,
     }
 }
 
-// Whether a node closes itself and has no outer attributes: its precedence is then Unambiguous in every context.
-pub fn is_closed(table: &[u16], count: u16, node: u16) -> bool
-    ensures { result ≡ is_closed (tree_at table.now count node) }
+// Whether a form closes itself.
+#[tactic(auto, unfolding(laws::specs::Choice::pick, laws::specs::Choice::lookup))]
+fn closes_itself(form: Form) -> bool
+    ensures { result ≡ is_one_of closed_forms (number_of form) }
 {
-    match form_at(table, count, node) {
-        forms::EXPR_ARRAY
-        | forms::EXPR_ASYNC
-        | forms::EXPR_BLOCK
-        | forms::EXPR_CALL
-        | forms::EXPR_CONST
-        | forms::EXPR_FIELD
-        | forms::EXPR_IF
-        | forms::EXPR_INFER
-        | forms::EXPR_LIT
-        | forms::EXPR_MACRO
-        | forms::EXPR_METHOD_CALL
-        | forms::EXPR_PATH
-        | forms::EXPR_REPEAT
-        | forms::EXPR_STRUCT
-        | forms::EXPR_TRY_BLOCK
-        | forms::EXPR_UNSAFE
-        | forms::EXPR_WHILE => cell(table, node, columns::ATTRIBUTES) != 2,
-        forms::EXPR_AWAIT
-        | forms::EXPR_CONTINUE
-        | forms::EXPR_FOR_LOOP
-        | forms::EXPR_INDEX
-        | forms::EXPR_LOOP
-        | forms::EXPR_MATCH
-        | forms::EXPR_PAREN
-        | forms::EXPR_TRY
-        | forms::EXPR_TUPLE
-        | forms::EXPR_VERBATIM => cell(table, node, columns::ATTRIBUTES) != 2,
-        _ => false,
-    }
+    matches!(
+        form,
+        Form::ExprArray
+            | Form::ExprAsync
+            | Form::ExprAwait
+            | Form::ExprBlock
+            | Form::ExprCall
+            | Form::ExprConst
+            | Form::ExprContinue
+            | Form::ExprField
+            | Form::ExprForLoop
+            | Form::ExprIf
+            | Form::ExprIndex
+            | Form::ExprInfer
+            | Form::ExprLit
+            | Form::ExprLoop
+            | Form::ExprMacro
+            | Form::ExprMatch
+            | Form::ExprMethodCall
+            | Form::ExprParen
+            | Form::ExprPath
+            | Form::ExprRepeat
+            | Form::ExprStruct
+            | Form::ExprTry
+            | Form::ExprTryBlock
+            | Form::ExprTuple
+            | Form::ExprUnsafe
+            | Form::ExprVerbatim
+            | Form::ExprWhile
+    )
+}
+
+// Whether a node closes itself and has no outer attributes: its precedence is then Unambiguous in every context.
+#[tactic(auto, unfolding(laws::specs::Choice::pick), using(crate::proofs::Closed::closed_at, crate::proofs::Closed::unlisted))]
+pub fn is_closed(table: &Table, node: u16) -> bool
+    ensures { result ≡ is_closed (tree_at table.now.cells.now table.now.count node) }
+{
+    let Some(form) = table.form(node) else {
+        return false;
+    };
+    closes_itself(form) && table.attributes(node) != 2
 }
 
 // A row in NONE.
@@ -117,7 +131,7 @@ fn row_in_none(pair: u16, precedence: Precedence) -> Row
     ensures { result ≡ row_by pair precedence none_context }
 {
     Row {
-        pair: pair,
+        pair,
         precedence: precedence.rank(),
         previous: 0,
         next: 0,
@@ -126,14 +140,14 @@ fn row_in_none(pair: u16, precedence: Precedence) -> Row
 }
 
 // The row of an expression that no owner tests, in NONE: it has no outer pair.
-pub fn lone_row(table: &[u16], count: u16, node: u16) -> Row
-    ensures { result ≡ expression_row (alone (tree_at table.now count node)) (tree_at table.now count node) }
+pub fn lone_row(table: &Table, node: u16) -> Row
+    ensures { result ≡ expression_row (alone (tree_at table.now.cells.now table.now.count node)) (tree_at table.now.cells.now table.now.count node) }
 {
-    if is_closed(table, count, node) {
+    if is_closed(table, node) {
         return row_in_none(0, Precedence::Unambiguous);
     }
     let none = FixupContext::none();
-    let precedence = none.precedence(table, count, node);
-    let inner = has_inner_pair(table, count, node);
+    let precedence = none.precedence(table, node);
+    let inner = has_inner_pair(table, node);
     row_in_none(pair(false, inner), precedence)
 }

@@ -1,8 +1,8 @@
 -- The replies of `decide_open`, and what they leave in the answers. Assumes nothing.
-use mathlib.Core.Path.{◌≡◌, sym, ap, ◌∙◌}
+use mathlib.Core.Path.{◌≡◌, refl, sym, ap, ◌∙◌}
 use mathlib.Core.Bool.{false}
 use mathlib.Core.List.{List}
-use Prim.Native.Nat.{ℕ, ◌*◌, ◌≤◌}
+use Prim.Native.Nat.{ℕ, ◌*◌, ◌≤◌, ◌<◌}
 use native.Mathlib.Omega.{arith}
 use lib.Dec.{ltb}
 use lib.ListN.{length, take, replicate, length-replicate}
@@ -11,13 +11,18 @@ use borrow.Author.Tests.{eq-eqb, ne_eqb, ltb-false}
 use Rattle.laws.specs.Lists.{over}
 use Rattle.laws.proofs.Choice.{pick_true, pick_false, or_false}
 use Rattle.laws.proofs.Lists.{length_over}
+use Rattle.std.proofs.Common.{Err}
+use Rattle.tree.specs.declared.refusal.Refusal.{Refusal}
+use Rattle.tree.specs.Replies.{replied}
 use Rattle.tree.specs.Sizes.{node_cells}
-use Rattle.tree_rules.specs.Refusals.{refusal, Accepted}
+use Rattle.tree_rules.specs.Refusals.{refusal, refusal_then, Accepted}
 use Rattle.tree_rules.proofs.First.{passed, table_refused, table_passed}
 use Rattle.tree_rules.proofs.Accepted.{count_bounds}
 use Rattle.expr.specs.declared.order.CalleeOrder.{CalleeOrder}
+use Rattle.row_walk.proofs.Numbers.{choice_small, first_small, refusal_small}
+use Rattle.row_walk.proofs.Replies.{replied_err, refused_as}
 use Rattle.row_walk.proofs.Room.{entries_bound}
-use Rattle.row_open.specs.Open.{entry_cells, entries_in, open_refusal12, refusal21, refusal22, entry_refusal, draft_of, open_refusal, answers_of, answers_after}
+use Rattle.row_open.specs.Open.{entry_cells, entries_in, open_refusal12, refusal21, refusal22, entry_refusal, Draft, draft_of, open_refusal, answers_of, answers_after}
 use Rattle.row_open.specs.Steps.{unasked, Within, Room, Taken}
 use Rattle.row_open.proofs.Choices.{Good, checked, good_within}
 
@@ -41,32 +46,40 @@ length_asked count answers start h e = ap length e ∙ length_over (replicate co
 
 -- ---- replies
 
+pub open_small : (d : Draft) (answers : ℕ) → open_refusal d answers < 23
+unfolding open_refusal refusal_then entry_refusal
+open_small d answers = choice_small _ _ _ (first_small _ tt) (refusal_small d.context d.count d.cells)
+
 module _ (order : CalleeOrder) (context count : ℕ) (cells : List ℕ) (entered : ℕ) (numbers answers : List ℕ) where
-  -- what the two clauses of the contract say of a reply and of the answers afterwards
-  abbrev pub Opens : ℕ → List ℕ → Type 0
-  Opens r after =
-      (r ≡ open_refusal (draft_of order context count cells entered numbers) (length answers))
-      × (after ≡ answers_after (draft_of order context count cells entered numbers) answers)
+  abbrev pub draft : Draft
+  draft = draft_of order context count cells entered numbers
 
-  refuses : (r : ℕ) → r ≡ open_refusal (draft_of order context count cells entered numbers) (length answers) → (r ≡ 0 → ⊥) → Opens r answers
-  unfolding answers_after
-  refuses r e n = (e, sym (pick_false _ _ (rw (← e) (ne_eqb r 0 n))))
-
-  pub refused : (r : ℕ) → r ≡ refusal context count cells → (r ≡ 0 → ⊥) → Opens r answers
-  unfolding open_refusal
-  refused r e n = refuses r (table_refused context count cells _ r e n) n
+  -- a refused table is refused as such, and a refused entry; the answers stay
+  pub refused : {A B : Type 0} (u : A) (a : B) (r : Refusal) → Err r ≡ replied (refusal context count cells) u
+      → (Err r ≡ replied (open_refusal draft (length answers)) a) × (answers ≡ answers_after draft answers)
+  unfolding open_refusal answers_after
+  refused u a r e =
+      let n = replied_err _ u r e in
+      let d : refusal context count cells ≡ open_refusal draft (length answers) = table_refused context count cells _ _ refl n in
+      (rw (← d) (refused_as _ u a r e), sym (pick_false _ _ (rw (← d) (ne_eqb _ 0 n))))
 
   module _ (ok : Accepted context count cells) where
-    pub wrong : (r : ℕ) → r ≡ entry_refusal count cells entered numbers (length answers) → (r ≡ 0 → ⊥) → Opens r answers
-    unfolding open_refusal
-    wrong r e n = refuses r (e ∙ sym (table_passed context count cells _ ok)) n
+    pub wrong : {A B : Type 0} (u : A) (a : B) (r : Refusal) → Err r ≡ replied (entry_refusal count cells entered numbers (length answers)) u
+        → (Err r ≡ replied (open_refusal draft (length answers)) a) × (answers ≡ answers_after draft answers)
+    unfolding open_refusal answers_after
+    wrong u a r e =
+        let n = replied_err _ u r e in
+        let d : open_refusal draft (length answers) ≡ entry_refusal count cells entered numbers (length answers) = table_passed context count cells _ ok in
+        (rw d (refused_as _ u a r e), sym (pick_false _ _ (rw d (ne_eqb _ 0 n))))
 
     module _ (right : entry_refusal count cells entered numbers (length answers) ≡ 0) where
-      pub opened : (after : List ℕ) → after ≡ answers_of (draft_of order context count cells entered numbers) answers → Opens 0 after
-      unfolding open_refusal answers_after
-      opened after e =
-          let z : open_refusal (draft_of order context count cells entered numbers) (length answers) ≡ 0 = table_passed context count cells _ ok ∙ right in
-          (sym z, e ∙ sym (pick_true _ _ (eq-eqb _ 0 z)))
+      pub not_refused : open_refusal draft (length answers) ≡ 0
+      unfolding open_refusal
+      not_refused = table_passed context count cells _ ok ∙ right
+
+      pub opened : (after : List ℕ) → after ≡ answers_of draft answers → after ≡ answers_after draft answers
+      unfolding answers_after
+      opened after e = e ∙ sym (pick_true _ _ (eq-eqb _ 0 not_refused))
 
       checks : (open_refusal12 count entered (length numbers) (length answers) ≡ false) × (refusal21 cells count (entries_in entered numbers) ≡ false) × (refusal22 (entries_in entered numbers) ≡ false)
       unfolding entry_refusal

@@ -10,7 +10,8 @@ use bools::bit;
 use fixup::context::FixupContext;
 use precedence::Precedence;
 
-// The ten flags, bit 0 up in source order.
+// The ten flags, bit 0 up in source order. `bit` says that it is at most 1: of u16::from the sum's bounds stay open.
+#[tactic(auto, unfolding(crate::specs::Cells::flags_of, crate::specs::Cells::of_bits))]
 pub fn flags(fixup: FixupContext) -> u16
     ensures { result ≡ flags_of fixup }
 {
@@ -27,6 +28,7 @@ pub fn flags(fixup: FixupContext) -> u16
 }
 
 // The precedence with a rank; Jump for a number that is none.
+#[tactic(auto, unfolding(crate::specs::FromCells::of_rank, crate::specs::FromCells::ranks, laws::specs::Choice::lookup, laws::specs::Choice::pick))]
 pub fn precedence_of(rank: u16) -> Precedence
     ensures { result ≡ of_rank rank }
 {
@@ -51,14 +53,15 @@ pub fn precedence_of(rank: u16) -> Precedence
 }
 
 // The context that three cells hold.
+#[tactic(auto, unfolding(crate::specs::FromCells::context_of))]
 pub fn context_of(previous: u16, next: u16, flags: u16) -> FixupContext
     ensures { result ≡ context_of previous next flags }
 {
     let previous_operator = precedence_of(previous);
     let next_operator = precedence_of(next);
     FixupContext {
-        previous_operator: previous_operator,
-        next_operator: next_operator,
+        previous_operator,
+        next_operator,
         stmt: flags % 2 == 1,
         leftmost_subexpression_in_stmt: flags / 2 % 2 == 1,
         match_arm: flags / 4 % 2 == 1,
@@ -76,10 +79,11 @@ pub fn context_of(previous: u16, next: u16, flags: u16) -> FixupContext
 pub fn packed(previous: u16, next: u16, flags: u16) -> u32
     ensures { result ≡ packed_cells previous next flags }
 {
-    (previous as u32) + 16 * (next as u32) + 256 * (flags as u32)
+    u32::from(previous) + 16 * u32::from(next) + 256 * u32::from(flags)
 }
 
 // The context that such a number holds.
+#[tactic(auto, unfolding(crate::specs::Packs::unpacked_of))]
 pub fn unpacked(number: u32) -> FixupContext
     ensures { result ≡ unpacked_of number }
 {

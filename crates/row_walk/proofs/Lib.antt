@@ -11,3 +11,4 @@ pub mod Paths
 pub mod Alike
 pub mod Erase
 pub mod Settled
+pub mod Numbers

@@ -4,16 +4,18 @@ use mathlib.Core.Bool.{Bool, true, false}
 use mathlib.Core.List.{List, [], ◌∷◌}
 use Prim.Native.Nat.{ℕ, ◌+◌, ◌*◌, ◌/◌, ◌%◌, ◌≤◌, ◌<◌}
 use native.Mathlib.Omega.{arith}
-use native.Mathlib.Decide.{dec_le}
 use lib.Dec.{eqb}
 use mir.Val.{has_key}
-use borrow.Author.Tests.{eqb-true}
 use Rattle.laws.specs.Choice.{pick, Line, line, lookup}
-use Rattle.laws.proofs.Choice.{true_of}
-use Rattle.laws.proofs.Each.{all_at}
-use Rattle.laws.proofs.Keys.{Give, apart, past_rows}
+use Rattle.laws.proofs.Choice.{true_not_false}
+use Rattle.laws.proofs.Keys.{Give, apart}
+use Rattle.tree.specs.declared.form.Form.{Form}
+use Rattle.tree.specs.FormNumbers.{number_of}
 use Rattle.tree.specs.Forms.{expr_field, expr_group}
-use Rattle.tree.specs.Trees.{Tree, none, node}
+use Rattle.tree.specs.Table.{form_at}
+use Rattle.tree.specs.Operands.{form_in}
+use Rattle.tree.specs.Trees.{Tree, none, node, label_at, tree_at}
+use Rattle.tree.proofs.Unfold.{unfolds}
 use Rattle.tree.specs.Walks.{at_root, follow, walk}
 use Rattle.precedence.specs.declared.Precedence.{Precedence}
 use Rattle.precedence.specs.declared.Precedence.TheVariants.{Jump, Unambiguous}
@@ -27,7 +29,8 @@ use Rattle.fixup_subexpression.specs.Subexpressions.{leftmost_with_operator, lef
 use Rattle.expr.specs.declared.order.CalleeOrder.{CalleeOrder}
 use Rattle.expr.specs.declared.order.CalleeOrder.TheVariants.{Crates, Ours}
 use Rattle.expr.specs.Handed.{grouped_by, ungrouped, neither}
-use Rattle.expr.specs.Expr.{left_needs_group, right_needs_group, can_begin_expr, can_begin_generics, callee_lines, named_field, call_needs_group}
+use Rattle.expr.specs.Expr.{left_needs_group, right_needs_group, callee_lines, named_field, call_needs_group, first_lines, second_lines}
+use Rattle.expr.specs.Steps.{given_first, given_second}
 use Rattle.row_pack.specs.Cells.{of_bits, flags_of}
 use Rattle.row_pack.specs.FromCells.{context_of}
 use Rattle.row_pack.specs.Packs.{packed_of, unpacked_of}
@@ -37,7 +40,7 @@ use Rattle.row.specs.Closed.{closed_forms, is_closed}
 use Rattle.row.specs.Hands.{hand_of, is_quiet}
 use Rattle.row.proofs.Closed.{closed_key, closed_effective, closed_left, closed_right}
 use Rattle.row.proofs.Quiet.{Quiet, quiet}
-use Rattle.row_walk.specs.Settled.{settled_in, flags_before, settled_number, left_number, right_number}
+use Rattle.row_walk.specs.Settled.{is_field, settled_in, flags_before, settled_number, left_number, right_number}
 
 -- ---- operators
 
@@ -66,29 +69,6 @@ binop_looser op =
   where
     by : {o : Binding} → left_needs_group o.lean o.level Unambiguous ≡ false → right_needs_group o.lean o.level Unambiguous ≡ false → rank_of o.level < 15 → Looser o
     by p q r = record { left_free = p; right_free = q; looser = r }
-
--- the flags before an operator, as a table
-abbrev pub flag_lines : List (Line ℕ)
-flag_lines = line (1 ∷ 5 ∷ 8 ∷ []) 384 ∷ line (2 ∷ 6 ∷ 9 ∷ []) 384 ∷ line (10 ∷ 13 ∷ []) 896 ∷ []
-
-pub flags_before_lem : (op : ℕ) → lookup flag_lines 256 op ≡ flags_before (can_begin_expr op) (can_begin_generics op)
-unfolding lookup pick can_begin_expr can_begin_generics
-flags_before_lem op = go (dec_le 14 op)
-  where
-    go : Dec (14 ≤ op) → lookup flag_lines 256 op ≡ flags_before (can_begin_expr op) (can_begin_generics op)
-    go (yes h) =
-        rw (
-          past_rows flag_lines 256 14 op tt h,
-          past_rows (line (1 ∷ 2 ∷ 5 ∷ 6 ∷ 8 ∷ 9 ∷ 10 ∷ 13 ∷ []) true ∷ []) false 14 op tt h,
-          past_rows (line (10 ∷ 13 ∷ []) true ∷ []) false 14 op tt h,
-        )
-    go (no h) = eqb-true _ _ (true_of (all_at (λ n. eqb (lookup flag_lines 256 n) (flags_before (can_begin_expr n) (can_begin_generics n))) 14 tt op (omega arith)))
-
-pub flags_small : (begins generics : Bool) → flags_before begins generics < 1024
-flags_small true true = omega arith
-flags_small true false = omega arith
-flags_small false true = omega arith
-flags_small false false = omega arith
 
 -- ---- contexts
 
@@ -160,7 +140,7 @@ alone_settled a closed = sym (settled_hand none_context ∙ rw none_packed) ∙ 
 -- ---- what is called
 
 -- a closed expression that is no Field
-no_field : (t : Tree) → is_closed t ≡ true → false ≡ at_root (λ l a b. line (expr_field ∷ []) true ∷ []) false t → named_field t ≡ false
+no_field : (t : Tree) → is_closed t ≡ true → false ≡ is_field t → named_field t ≡ false
 unfolding named_field walk callee_lines follow lookup at_root pick
 no_field none closed e = refl
 no_field (node l a b) closed e =
@@ -173,7 +153,37 @@ no_field (node l a b) closed e =
     key true h = h
     key false h = refl
 
-pub called : (order : CalleeOrder) (t : Tree) → is_closed t ≡ true → false ≡ at_root (λ l a b. line (expr_field ∷ []) (eqb l.detail 0) ∷ []) false t → false ≡ at_root (λ l a b. line (expr_field ∷ []) true ∷ []) false t → call_needs_group order t Unambiguous ≡ false
+-- whatever is asked of a Field
+no_line : (t : Tree) → false ≡ is_field t → false ≡ at_root (λ l a b. line (expr_field ∷ []) (eqb l.detail 0) ∷ []) false t
+unfolding at_root lookup pick
+no_line none e = refl
+no_line (node l a b) e = go (has_key (expr_field ∷ []) l.form) e
+  where
+    go : (k : Bool) → false ≡ pick k true false → false ≡ pick k (eqb l.detail 0) false
+    go true h = absurd (true_not_false (sym h))
+    go false h = refl
+
+pub called : (order : CalleeOrder) (t : Tree) → is_closed t ≡ true → false ≡ is_field t → call_needs_group order t Unambiguous ≡ false
 unfolding call_needs_group
-called Crates t closed e d = sym e
-called Ours t closed e d = no_field t closed d
+called Crates t closed d = sym (no_line t d)
+called Ours t closed d = no_field t closed d
+
+-- ---- the line of a node's form
+
+-- what is known of a node with a form
+abbrev pub Has : List ℕ → ℕ → ℕ → Form → Type 0
+Has cells count i form = (1 ≤ i) × (i ≤ count) × (number_of form ≡ form_at cells i) × (number_of form ≡ form_in cells count i)
+
+module _ (cells : List ℕ) (count i : ℕ) (form at : Form) (h : Has cells count i form) (e : form ≡ at) where
+  number : form_at cells i ≡ number_of at
+  number = sym h.2 ∙ ap number_of e
+
+  pub first_arm : (order : CalleeOrder) (x : FixupContext) (operand : Tree)
+      → lookup (first_lines order x (label_at cells i) operand) (neither none_context operand) (number_of at) ≡ given_first order x (tree_at cells count i) operand
+  unfolding given_first at_root label_at
+  first_arm order x operand = rw (unfolds cells count i h.0 h.1, number)
+
+  pub second_arm : (x : FixupContext) (operand : Tree)
+      → lookup (second_lines x (label_at cells i) operand) (neither none_context operand) (number_of at) ≡ given_second x (tree_at cells count i) operand
+  unfolding given_second at_root label_at
+  second_arm x operand = rw (unfolds cells count i h.0 h.1, number)

@@ -1,16 +1,13 @@
 -- Each turn of the walk's loop keeps what the rows will be once all is done, and leaves fewer nodes. Assumes nothing.
 use mathlib.Core.Path.{◌≡◌, refl, sym, ap, ◌∙◌}
-use mathlib.Core.Bool.{Bool, true, false, not, ◌&&◌}
+use mathlib.Core.Bool.{Bool, true, false}
 use mathlib.Core.List.{List}
 use Prim.Native.Nat.{ℕ, zero, suc, ◌+◌, ◌-◌, ◌≤◌, ◌<◌}
 use native.Mathlib.Omega.{arith}
 use native.Mathlib.Decide.{ℕ_discrete, dec_le}
 use native.Mathlib.Numerals.{add-one}
-use lib.Dec.{eqb, ltb}
 use lib.ListN.{length, get_or, set, length-set}
 use lib.Seq.{get_or-set_same, get_or-set_other}
-use borrow.Author.Tests.{eqb-false, ltb-true, lt-ltb, ne_eqb, not-true}
-use Rattle.laws.proofs.Choice.{and_true, true_not_false}
 use Rattle.tree.specs.Sizes.{most_levels}
 use Rattle.tree.specs.Table.{cell_at, first_column, second_column}
 use Rattle.tree.specs.Trees.{operand_at, tree_at}
@@ -28,15 +25,6 @@ use Rattle.row_walk.specs.Steps.{placed_within, finish, nodes_in, to_do}
 use Rattle.row_walk.proofs.Decisions.{rows_other}
 use Rattle.row_walk.proofs.Placed.{length_stored}
 use Rattle.row_walk.proofs.Reach.{both_reached, first_reached, only_first, only_second, no_operand}
-
--- whether a second operand gets an entry
-pub entered_on : (second depth : ℕ) → (not (eqb second 0) && ltb depth most_levels) ≡ true → (second ≡ 0 → ⊥) × (depth < most_levels)
-entered_on second depth e =
-    let t = and_true (not (eqb second 0)) (ltb depth most_levels) e in
-    (eqb-false second 0 (not-true _ t.0), ltb-true depth most_levels t.1)
-
-pub entered_not : (second depth : ℕ) → (not (eqb second 0) && ltb depth most_levels) ≡ false → (second ≡ 0 → ⊥) → depth < most_levels → ⊥
-entered_not second depth e n d = true_not_false (rw (ne_eqb second 0 n, lt-ltb depth most_levels d) at e)
 
 module _ (order : CalleeOrder) (cells : List ℕ) (count : ℕ) where
   -- what is handed down counts only where an owner tests the operand

@@ -4,3 +4,4 @@ pub mod Steps
 pub mod Cases
 pub mod Paths
 pub mod Settled
+pub mod Numbers

@@ -1,6 +1,10 @@
 -- The hands of closed operands in quiet contexts, as numbers. Nothing here is to be believed.
-use Rattle.std.specs.Prelude.{Bool, false, ℕ, ◌+◌, ◌*◌, ◌/◌, ◌%◌, ◌^◌}
+use Rattle.std.specs.Prelude.{Bool, true, false, [], ◌∷◌, ℕ, ◌+◌, ◌*◌, ◌/◌, ◌%◌, ◌^◌}
 use Rattle.bools.specs.Bits.{bit_of}
+use Rattle.laws.specs.Choice.{line}
+use Rattle.tree.specs.Forms.{expr_field}
+use Rattle.tree.specs.Trees.{Tree}
+use Rattle.tree.specs.Walks.{at_root}
 use Rattle.precedence.specs.declared.Precedence.{Precedence}
 use Rattle.precedence.specs.declared.Precedence.TheVariants.{Unambiguous}
 use Rattle.precedence.specs.Precedences.{rank_of}
@@ -27,3 +31,6 @@ left_number own flags level = own % 16 + 16 * rank_of level + 256 * flags + sett
 -- right of an operator: this one before, what the owner has behind
 abbrev pub right_number : ℕ → Precedence → ℕ
 right_number own level = rank_of level + 16 * (own / 16 % 16384) + settled_number
+
+abbrev pub is_field : Tree → Bool
+is_field t = at_root (λ l a b. line (expr_field ∷ []) true ∷ []) false t

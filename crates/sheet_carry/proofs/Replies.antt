@@ -6,16 +6,17 @@ use native.Mathlib.Omega.{arith}
 use lib.ListN.{length}
 use borrow.Author.Tests.{eq-eqb, ne_eqb, lt-ltb, le-ltb, ltb-false}
 use Rattle.laws.proofs.Choice.{pick_true, pick_false}
+use Rattle.std.proofs.Common.{Err}
+use Rattle.tree.specs.declared.refusal.Refusal.{Refusal}
+use Rattle.tree.specs.Replies.{replied}
 use Rattle.tree.specs.Sizes.{row_cells}
 use Rattle.tree_rules.specs.Refusals.{refusal, Accepted}
 use Rattle.tree_rules.proofs.First.{stop, skip, no_more, passed, table_refused, table_passed, none_applied}
 use Rattle.expr.specs.declared.order.CalleeOrder.{CalleeOrder}
 use Rattle.expr.specs.declared.order.CalleeOrder.TheVariants.{Crates, Ours}
 use Rattle.row_walk.specs.Walk.{walked_after}
-use Rattle.row_walk.proofs.Replies.{walked}
-use Rattle.sheet_carry.specs.declared.Carried.{Carried}
-use Rattle.sheet_carry.specs.declared.Carried.TheVariants.{Refused, Done}
-use Rattle.sheet_carry.specs.Carries.{carry_refusal12, carry_refusal, carry_reply, carried_over, carried_rows}
+use Rattle.row_walk.proofs.Replies.{walked, replied_err, refused_as}
+use Rattle.sheet_carry.specs.Carries.{carry_refusal12, carry_refusal, carried_over, carried_rows}
 
 module _ (context count : ℕ) (cells rows : List ℕ) where
   -- where nothing is refused
@@ -37,27 +38,22 @@ module _ (context count : ℕ) (cells rows : List ℕ) where
   -- ---- what the two clauses of the contract say of a reply and of the rows afterwards
 
   module _ (order : CalleeOrder) where
-    abbrev pub Carries : Carried → List ℕ → Type 0
-    Carries r after = (r ≡ carry_reply context count cells (length rows)) × (after ≡ carried_rows context count order cells rows)
+    -- a refused table is refused as such, and its rows stay
+    pub refused : {A B : Type 0} (u : A) (a : B) (r : Refusal) → Err r ≡ replied (refusal context count cells) u
+        → (Err r ≡ replied (carry_refusal context count cells (length rows)) a) × (rows ≡ carried_rows context count order cells rows)
+    unfolding carry_refusal carried_rows
+    refused u a r e =
+        let n = replied_err _ u r e in
+        let d : refusal context count cells ≡ carry_refusal context count cells (length rows) = table_refused context count cells _ _ refl n in
+        (rw (← d) (refused_as _ u a r e), sym (pick_false _ _ (rw (← d) (ne_eqb _ 0 n))))
 
-    stays : (r : ℕ) → r ≡ carry_refusal context count cells (length rows) → (r ≡ 0 → ⊥) → Carries (Refused r) rows
-    unfolding carry_reply carried_rows
-    stays r q n =
-        let f = ne_eqb (carry_refusal context count cells (length rows)) 0 (λ z. n (q ∙ z)) in
-        (ap Refused q ∙ sym (pick_false _ _ f), sym (pick_false _ _ f))
+    pub short_rows : Accepted context count cells → length rows < row_cells * count → (12 ≡ carry_refusal context count cells (length rows)) × (rows ≡ carried_rows context count order cells rows)
+    unfolding carried_rows
+    short_rows ok h = (too_short ok h, sym (pick_false _ _ (rw (← too_short ok h))))
 
-    pub refused : (r : ℕ) → r ≡ refusal context count cells → (r ≡ 0 → ⊥) → Carries (Refused r) rows
-    unfolding carry_refusal
-    refused r q n = stays r (table_refused context count cells _ r q n) n
-
-    pub short_rows : Accepted context count cells → length rows < row_cells * count → Carries (Refused 12) rows
-    short_rows ok h = stays 12 (too_short ok h) (λ z. omega arith)
-
-    pub done : Accepted context count cells → row_cells * count ≤ length rows → (after : List ℕ) → after ≡ carried_over context count order cells rows → Carries Done after
-    unfolding carry_reply carried_rows
-    done ok room after e =
-        let f = eq-eqb (carry_refusal context count cells (length rows)) 0 (takes ok room) in
-        (sym (pick_true _ _ f), e ∙ sym (pick_true _ _ f))
+    pub done : Accepted context count cells → row_cells * count ≤ length rows → (after : List ℕ) → after ≡ carried_over context count order cells rows → after ≡ carried_rows context count order cells rows
+    unfolding carried_rows
+    done ok room after e = e ∙ sym (pick_true _ _ (eq-eqb _ 0 (takes ok room)))
 
 -- by the order
 module _ (context count : ℕ) (cells rows : List ℕ) where

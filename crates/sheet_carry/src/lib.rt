@@ -3,22 +3,15 @@
 
 ghost use Rattle.std.specs.Prelude.{◌≡◌, ◌*◌, ◌≤◌, length};
 ghost use Rattle.tree.specs.Sizes.{row_cells};
-ghost use Rattle.tree_rules.specs.Refusals.{Accepted};
+ghost use Rattle.tree.specs.Replies.{replied};
+ghost use Rattle.tree_rules.specs.Refusals.{refusal, Accepted};
 ghost use Rattle.sheet_carry.specs.Carries.{carry_reply, carried_over, carried_rows};
 
 use expr::order::CalleeOrder;
 use row_walk::walk;
+use tree::refusal::Refusal;
 use tree::sizes;
 use tree_one_pass::check;
-
-// What carrying answers.
-#[derive(Drop)]
-pub enum Carried {
-    // The number of the first refusal that applies.
-    Refused(u16),
-    // The sheet holds our order now.
-    Done,
-}
 
 // The rows of a checked sheet: a fresh walk's where it holds the crate's order, otherwise as they are.
 fn carry_over(context: u16, count: u16, order: CalleeOrder, table: &[u16], rows: &mut [u16])
@@ -38,17 +31,14 @@ pub fn carry(
     order: CalleeOrder,
     table: &[u16],
     rows: &mut [u16],
-) -> Carried
+) -> Result<(), Refusal>
     ensures reply { result ≡ carry_reply context count table.now (length rows.old) }
     ensures rows { rows.new ≡ carried_rows context count order table.now rows.old }
 {
-    let refused = check(context, count, table);
-    if refused != 0 {
-        return Carried::Refused(refused);
-    }
-    if rows.len() < sizes::ROW_CELLS * (count as usize) {
-        return Carried::Refused(12);
+    check(context, count, table)?;
+    if rows.len() < sizes::ROW_CELLS * usize::from(count) {
+        return Err(Refusal::Short);
     }
     carry_over(context, count, order, table, rows);
-    Carried::Done
+    Ok(())
 }

@@ -1,5 +1,6 @@
 -- The first refusal of an edit, and what follows where there is none. Assumes nothing.
-use mathlib.Core.Path.{◌≡◌, sym, ap, ◌∙◌}
+use Rattle.std.specs.Prelude.{Option, Some, unwrap_or}
+use mathlib.Core.Path.{◌≡◌, refl, sym, ap, ◌∙◌}
 use mathlib.Core.Bool.{Bool, true, false, not, ◌&&◌}
 use mathlib.Core.List.{List, [], ◌∷◌, append-nil}
 use Prim.Native.Nat.{ℕ, ◌+◌, ◌*◌, ◌-◌, ◌≤◌, ◌<◌}
@@ -11,6 +12,9 @@ use borrow.Author.Tests.{eq-eqb, ne_eqb, lt-ltb, le-ltb, ltb-false}
 use Rattle.laws.specs.Each.{some}
 use Rattle.laws.specs.Lists.{over}
 use Rattle.laws.proofs.Choice.{pick_true, pick_false, or_false, or_here, or_next}
+use Rattle.std.proofs.Common.{Ok, Err}
+use Rattle.tree.specs.declared.refusal.Refusal.{Refusal}
+use Rattle.tree.specs.Replies.{replied}
 use Rattle.tree.specs.Sizes.{node_cells, row_cells, most_nodes, most_levels}
 use Rattle.tree.specs.Forms.{an_expression, class_of}
 use Rattle.tree.specs.Operands.{form_in}
@@ -23,9 +27,7 @@ use Rattle.tree_numbering.proofs.Sizes.{size_accepted}
 use Rattle.tree_numbering.proofs.Holds.{length_numbered, over_numbered}
 use Rattle.expr.specs.declared.order.CalleeOrder.{CalleeOrder}
 use Rattle.row_walk.specs.Walk.{walked_after}
-use Rattle.row_walk.proofs.Replies.{walked}
-use Rattle.sheet_edit.specs.declared.Edited.{Edited}
-use Rattle.sheet_edit.specs.declared.Edited.TheVariants.{Refused, Nodes}
+use Rattle.row_walk.proofs.Replies.{walked, replied_err, refused_as}
 use Rattle.sheet_edit.specs.Edits.{refusal17, refusal18, edit_refusal12, Edit, result, edit_refusal, edit_reply, result_table, result_rows}
 use Rattle.sheet_edit.specs.Steps.{owns_output, Numbers}
 use Rattle.tree_sound.proofs.Tables.{plain_block_lem}
@@ -33,6 +35,10 @@ use Rattle.tree_sound.proofs.Accepts.{numbered_10, numbered_11, accepted_ordered
 use Rattle.sheet_edit.proofs.Replaced.{named_here, over_accepted}
 use Rattle.sheet_edit.proofs.Outputs.{edited_output}
 use Rattle.sheet_edit.proofs.Sizes.{part_size, edited_size}
+
+-- a refusal's number and what it says
+pub says : {n m : ℕ} → n ≡ m → replied n (tt {0}) ≡ replied m (tt {0})
+says e = ap (λ (k : ℕ). replied k (tt {0})) e
 
 module _ (e : Edit) (table rows : ℕ) where
   -- what the code finds out of 10
@@ -42,16 +48,20 @@ module _ (e : Edit) (table rows : ℕ) where
   abbrev pub later_refusal : ℕ
   later_refusal = first_of (refuse 17 (refusal17 e.cells e.count e.place) ∷ refuse 18 (refusal18 (result e)) ∷ refuse 12 (edit_refusal12 (result e) table rows) ∷ [])
 
-  pub sheet_refused : (r : ℕ) → r ≡ refusal e.context e.count e.cells → (r ≡ 0 → ⊥) → r ≡ edit_refusal e table rows
+  pub sheet_refused : {A B : Type 0} (u : A) (a : B) (r : Refusal) → Err r ≡ replied (refusal e.context e.count e.cells) u → Err r ≡ replied (edit_refusal e table rows) a
   unfolding edit_refusal
-  sheet_refused r q n = table_refused e.context e.count e.cells (refusal_then e.second_context e.second_count e.second later_refusal) r q n
+  sheet_refused u a r q =
+      let d : refusal e.context e.count e.cells ≡ edit_refusal e table rows = table_refused e.context e.count e.cells (refusal_then e.second_context e.second_count e.second later_refusal) _ refl (replied_err _ u r q) in
+      rw (← d) (refused_as _ u a r q)
 
   module _ (sheet : Accepted e.context e.count e.cells) where
-    pub other_refused : (r : ℕ) → r ≡ refusal e.second_context e.second_count e.second → (r ≡ 0 → ⊥) → r ≡ edit_refusal e table rows
+    pub other_refused : {A B : Type 0} (u : A) (a : B) (r : Refusal) → Err r ≡ replied (refusal e.second_context e.second_count e.second) u → Err r ≡ replied (edit_refusal e table rows) a
     unfolding edit_refusal
-    other_refused r q n =
-        table_refused e.second_context e.second_count e.second later_refusal r q n
-        ∙ sym (table_passed e.context e.count e.cells (refusal_then e.second_context e.second_count e.second later_refusal) sheet)
+    other_refused u a r q =
+        let d : refusal e.second_context e.second_count e.second ≡ edit_refusal e table rows =
+        table_refused e.second_context e.second_count e.second later_refusal _ refl (replied_err _ u r q)
+        ∙ sym (table_passed e.context e.count e.cells (refusal_then e.second_context e.second_count e.second later_refusal) sheet) in
+        rw (← d) (refused_as _ u a r q)
 
     module _ (other : Accepted e.second_context e.second_count e.second) where
       pub both_accepted : edit_refusal e table rows ≡ later_refusal
@@ -141,6 +151,10 @@ pub start : (t : Tree) (cells : List ℕ) → take (node_cells * size t) (over (
 unfolding over
 start t cells = take_at (numbered t) _ (node_cells * size t) (length_numbered t)
 
+-- how many nodes the result has, where it is numbered
+pub counted_nodes : (t : Tree) (base after : List ℕ) (o : Option ℕ) (n : ℕ) → (o ≡ Some (size t)) × (after ≡ over (numbered t) base) → n ≡ unwrap_or o 0 → Numbers t base n after
+counted_nodes t base after o n w e = (e ∙ ap (λ p. unwrap_or p 0) w.0, w.1)
+
 -- an array that holds the result, copied over the table
 pub copied : (t : Tree) (base cells : List ℕ) (n : ℕ) (own : List ℕ) → Numbers t base n own → (table : List ℕ) → table ≡ over (take (node_cells * n) own) cells → Numbers t cells n table
 copied t base cells n own w table e = (w.0, e ∙ rw (w.0, w.1, start t base))
@@ -148,15 +162,13 @@ copied t base cells n own w table e = (w.0, e ∙ rw (w.0, w.1, start t base))
 -- ---- a refused edit, and an edit that is done
 
 module _ (e : Edit) (long wide : ℕ) where
-  -- what the three clauses of the contract say of an answer, the table and the rows
-  abbrev pub Gives : CalleeOrder → List ℕ → List ℕ → Edited → List ℕ → List ℕ → Type 0
-  Gives order cells rows r table after = (r ≡ edit_reply e long wide) × ((table ≡ result_table e long wide cells) × (after ≡ result_rows order e long wide cells rows))
-
-  pub refused : (order : CalleeOrder) (cells rows : List ℕ) (r : ℕ) → r ≡ edit_refusal e long wide → (r ≡ 0 → ⊥) → Gives order cells rows (Refused r) cells rows
-  unfolding edit_reply result_table result_rows
-  refused order cells rows r q n =
-      let f = ne_eqb (edit_refusal e long wide) 0 (λ z. n (q ∙ z)) in
-      (ap Refused q ∙ sym (pick_false _ _ f), (sym (pick_false _ _ f), sym (pick_false _ _ f)))
+  -- a refused edit changes nothing
+  pub refused : (order : CalleeOrder) (cells rows : List ℕ) {A B : Type 0} (u : A) (a : B) (r : Refusal) → Err r ≡ replied (edit_refusal e long wide) u
+      → (Err r ≡ replied (edit_refusal e long wide) a) × (cells ≡ result_table e long wide cells) × (rows ≡ result_rows order e long wide cells rows)
+  unfolding result_table result_rows
+  refused order cells rows u a r q =
+      let f = ne_eqb (edit_refusal e long wide) 0 (replied_err _ u r q) in
+      (refused_as _ u a r q, sym (pick_false _ _ f), sym (pick_false _ _ f))
 
   pub record Allowed : Type 0 where
     pub sheet : Accepted e.context e.count e.cells
@@ -198,16 +210,15 @@ module _ (e : Edit) (long wide : ℕ) where
           omega arith
 
   -- where nothing is refused: the result numbered over the table, and the rows that the walk writes from it
-  pub done : (order : CalleeOrder) (cells rows : List ℕ) → edit_refusal e long wide ≡ 0 → wide ≤ length rows → (n : ℕ) (table after : List ℕ) → Numbers (result e) cells n table → after ≡ walked_after order e.context n table rows → Gives order cells rows (Nodes n) table after
-  unfolding edit_reply result_table result_rows
+  pub done : (order : CalleeOrder) (cells rows : List ℕ) → edit_refusal e long wide ≡ 0 → wide ≤ length rows → (n : ℕ) (table after : List ℕ) → Numbers (result e) cells n table → after ≡ walked_after order e.context n table rows
+      → (Ok n ≡ edit_reply e long wide) × (table ≡ result_table e long wide cells) × (after ≡ result_rows order e long wide cells rows)
+  unfolding replied result_table result_rows
   done order cells rows z lent n table after w q =
       let f = eq-eqb (edit_refusal e long wide) 0 z in
       let a = allowed z in
       let few = a.few in
       let r = a.rows_room in (
         rw w.0 (sym (pick_true _ _ f)),
-        (
-          w.1 ∙ sym (pick_true _ _ f),
-          q ∙ rw (w.0, w.1) (walked order e.context (size (result e)) (over (numbered (result e)) cells) rows (a.accepted cells) (omega arith) ∙ rw (over_numbered (result e) cells (omega arith))) ∙ sym (pick_true _ _ f),
-        ),
+        w.1 ∙ sym (pick_true _ _ f),
+        q ∙ rw (w.0, w.1) (walked order e.context (size (result e)) (over (numbered (result e)) cells) rows (a.accepted cells) (omega arith) ∙ rw (over_numbered (result e) cells (omega arith))) ∙ sym (pick_true _ _ f),
       )

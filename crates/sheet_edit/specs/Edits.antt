@@ -1,7 +1,9 @@
 -- Document 02, Paper 6: the expression at a named node of an open sheet is replaced by another accepted tree's root and all under it.
-use Rattle.std.specs.Prelude.{Bool, not, ◌||◌, List, [], ◌∷◌, ℕ, ◌*◌, eqb, ltb, length}
+use Rattle.std.specs.Prelude.{Bool, not, ◌||◌, List, [], ◌∷◌, ℕ, ◌*◌, eqb, ltb, length, Result, Ok, Err}
 use Rattle.laws.specs.Choice.{pick}
 use Rattle.laws.specs.Lists.{over}
+use Rattle.tree.specs.declared.refusal.Refusal.{Refusal}
+use Rattle.tree.specs.Replies.{number_of, replied}
 use Rattle.tree.specs.Sizes.{node_cells, row_cells, most_nodes}
 use Rattle.tree.specs.Forms.{an_expression, class_of}
 use Rattle.tree.specs.Operands.{form_in}
@@ -11,8 +13,6 @@ use Rattle.tree_numbering.specs.Numbered.{size, numbered}
 use Rattle.tree_numbering.specs.Replaced.{replaced_at}
 use Rattle.expr.specs.declared.order.CalleeOrder.{CalleeOrder}
 use Rattle.row_walk.specs.Walk.{tree_rows}
-use Rattle.sheet_edit.specs.declared.Edited.{Edited}
-use Rattle.sheet_edit.specs.declared.Edited.TheVariants.{Refused, Nodes}
 
 -- ---- the tree
 
@@ -66,8 +66,8 @@ edit_refusal e table rows =
 -- ---- the answer, and the buffers afterwards
 
 -- how many nodes the result has, or the refusal
-unfoldable pub edit_reply : Edit → ℕ → ℕ → Edited
-edit_reply e table rows = pick (eqb (edit_refusal e table rows) 0) (Nodes (size (result e))) (Refused (edit_refusal e table rows))
+abbrev pub edit_reply : Edit → ℕ → ℕ → Result ℕ Refusal
+edit_reply e table rows = replied (edit_refusal e table rows) (size (result e))
 
 -- the rows of a tree in a callee order under a context, worked out afresh, in the cells of the nodes that a table gives it
 abbrev pub fresh_rows : CalleeOrder → ℕ → Tree → List ℕ → List ℕ → List ℕ
@@ -91,6 +91,6 @@ abbrev pub edited_rows : CalleeOrder → Edit → List ℕ → List ℕ
 edited_rows order e rows = result_rows order e (length e.cells) (length rows) e.cells rows
 
 -- "When an answer is an enum, a definition gives this paper's number and values for each of its cases." The reply number, 0 for done, and behind it the value
-abbrev pub edited_in_numbers : Edited → List ℕ
-edited_in_numbers (Refused n) = n ∷ []
-edited_in_numbers (Nodes n) = 0 ∷ n ∷ []
+abbrev pub edited_in_numbers : Result ℕ Refusal → List ℕ
+edited_in_numbers (Err refusal) = number_of refusal ∷ []
+edited_in_numbers (Ok n) = 0 ∷ n ∷ []

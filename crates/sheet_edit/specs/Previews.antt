@@ -1,7 +1,7 @@
 -- Document 02, Paper 7: what an edit would give, in buffers of the caller's. The open sheet is only read.
-use Rattle.std.specs.Prelude.{List, ℕ, min, length}
+use Rattle.std.specs.Prelude.{List, ℕ, min, length, Result}
 use Rattle.expr.specs.declared.order.CalleeOrder.{CalleeOrder}
-use Rattle.sheet_edit.specs.declared.Edited.{Edited}
+use Rattle.tree.specs.declared.refusal.Refusal.{Refusal}
 use Rattle.sheet_edit.specs.Edits.{Edit, edit_reply, result_table, result_rows}
 
 -- "the rows, or the refusal, that the edit would give on a copy of the sheet in buffers as long as its own. .. Refusal 12 is also given, last, where a buffer lent to the preview is too short":
@@ -9,7 +9,7 @@ use Rattle.sheet_edit.specs.Edits.{Edit, edit_reply, result_table, result_rows}
 abbrev pub long : Edit → ℕ → ℕ
 long e table = min (length e.cells) table
 
-abbrev pub preview_reply : Edit → ℕ → ℕ → ℕ → Edited
+abbrev pub preview_reply : Edit → ℕ → ℕ → ℕ → Result ℕ Refusal
 preview_reply e rows table lent = edit_reply e (long e table) (min rows lent)
 
 -- the lent table and the lent rows afterwards, these in the sheet's callee order

@@ -23,7 +23,7 @@ fn with_tree(digest: u64, cells: &[u16; CELLS], count: usize) -> u64
 {
     let mut rows = [0u16; ROWS];
     let reply = row_walk::decide_by(CalleeOrder::Crates, 0, count as u16, cells, &mut rows);
-    if reply != 0 {
+    if reply.is_err() {
         return digest::add(digest, 1_000);
     }
     digest::add_rows(digest, &rows, count)
@@ -36,11 +36,9 @@ fn with_ends(digest: u64, stems: &[u8; BYTES], cells: &mut [u16; CELLS], before:
     ensures { result < 70_368_744_177_643 }
 {
     let mut sum = digest;
-    let mut end = 0;
-    while end < ENDS {
+    for end in 0..ENDS {
         let count = stems::lay(stems, NEXTS + end, cells, before);
         sum = with_tree(sum, cells, count);
-        end += 1;
     }
     sum
 }
@@ -72,12 +70,10 @@ pub(crate) fn digest_of(stems: &[u8; BYTES], forms: Forms) -> u64
 {
     let mut cells = [0u16; CELLS];
     let mut sum = 0;
-    let mut next = 0;
-    while next < NEXTS {
+    for next in 0..NEXTS {
         let above = stems::lay(stems, next, &mut cells, 0);
         let before = lay_forms(stems, forms, &mut cells, above);
         sum = with_ends(sum, stems, &mut cells, before);
-        next += 1;
     }
     sum
 }

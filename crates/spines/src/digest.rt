@@ -7,13 +7,6 @@ use tree::sizes;
 // A prime below 2^46, so that no step passes 64 bits.
 const PRIME: u64 = 70_368_744_177_643;
 
-// A cell as a number to count with.
-fn wide(cell: u16) -> u64
-    ensures { result ≤ 65_535 }
-{
-    cell as u64
-}
-
 // The digest with one more number.
 pub(crate) fn add(digest: u64, number: u64) -> u64
     requires digest_bound { digest < 70_368_744_177_643 }
@@ -41,11 +34,11 @@ fn row_at(rows: &[u16; ROWS], at: usize) -> u64
     ensures { result ≤ 140_000_000_000_000 }
 {
     row(
-        wide(rows[at]),
-        wide(rows[at + 1]),
-        wide(rows[at + 2]),
-        wide(rows[at + 3]),
-        wide(rows[at + 4]),
+        u64::from(rows[at]),
+        u64::from(rows[at + 1]),
+        u64::from(rows[at + 2]),
+        u64::from(rows[at + 3]),
+        u64::from(rows[at + 4]),
     )
 }
 
@@ -56,10 +49,8 @@ pub(crate) fn add_rows(digest: u64, rows: &[u16; ROWS], count: usize) -> u64
     ensures { result < 70_368_744_177_643 }
 {
     let mut sum = add(digest, count as u64);
-    let mut i = 0;
-    while i < count {
-        sum = add(sum, row_at(rows, sizes::ROW_CELLS * i));
-        i += 1;
+    for node in 0..count {
+        sum = add(sum, row_at(rows, sizes::ROW_CELLS * node));
     }
     sum
 }

@@ -25,17 +25,11 @@ const DIGEST: usize = 6;
 // Each so many-th block is gone through.
 const STEP: usize = 50;
 
-// A byte as a number to count with.
-fn wide(b: u8) -> u64
-    ensures { result ≤ 255 }
-{
-    b as u64
-}
-
 // The number of six bytes, the low one first.
-fn number(b: &[u8; DIGEST]) -> u64 {
-    let high = wide(b[3]) + 256 * wide(b[4]) + 65_536 * wide(b[5]);
-    wide(b[0]) + 256 * wide(b[1]) + 65_536 * wide(b[2]) + 16_777_216 * high
+fn number(bytes: &[u8; DIGEST]) -> u64 {
+    u64::from_le_bytes([
+        bytes[0], bytes[1], bytes[2], bytes[3], bytes[4], bytes[5], 0, 0,
+    ])
 }
 
 // The last digit of a number in some base.
@@ -58,7 +52,7 @@ fn forms_of(length: usize, block: usize, from: usize, size: usize) -> Forms
 {
     let rest = block / size;
     Forms {
-        length: length,
+        length,
         first: from + digit(block, size),
         second: from + digit(rest, size),
         third: from + digit(rest / size, size),
@@ -72,11 +66,7 @@ fn differs(stems: &[u8; BYTES], forms: Forms, digest: u64) -> u64
     requires third_bound { forms.third ≤ 1_000 }
     ensures { result ≤ 1 }
 {
-    if block::digest_of(stems, forms) == digest {
-        0
-    } else {
-        1
-    }
+    u64::from(block::digest_of(stems, forms) != digest)
 }
 
 // Goes through the blocks of so many forms out of `size` from `from` on, whose digests are in a file, and prints what came
@@ -102,8 +92,7 @@ fn run(
     };
     let mut done: u64 = 0;
     let mut different: u64 = 0;
-    let mut block = 0;
-    while block < blocks {
+    for block in 0..blocks {
         let mut bytes = [0u8; DIGEST];
         if read_full(&mut file, &mut bytes)? != DIGEST {
             return print::damaged(rt);
@@ -112,7 +101,6 @@ fn run(
             different += differs(stems, forms_of(length, block, from, size), number(&bytes));
             done += 1;
         }
-        block += 1;
     }
     report::all(rt, length as u64, done, different)
 }

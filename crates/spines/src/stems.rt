@@ -29,18 +29,11 @@ pub const CELLS: usize = sizes::NODE_CELLS * NODES;
 
 pub const ROWS: usize = sizes::ROW_CELLS * NODES;
 
-// A byte as a number to count with.
-fn wide(b: u8) -> usize
-    ensures { result ≤ 255 }
-{
-    b as usize
-}
-
 // A byte of the stems; 0 behind them.
 fn byte(stems: &[u8; BYTES], at: usize) -> usize
     ensures { result ≤ 255 }
 {
-    if at < BYTES { wide(stems[at]) } else { 0 }
+    stems.get(at).copied().map_or(0, usize::from)
 }
 
 // The number of an operand, where its stem of so many nodes stands behind others.
@@ -86,8 +79,7 @@ fn nodes_of(stems: &[u8; BYTES], stem: usize) -> usize
     requires { stem ≤ 1_000 }
     ensures { result ≤ 4 }
 {
-    let nodes = byte(stems, STEM * stem);
-    if nodes < 4 { nodes } else { 4 }
+    byte(stems, STEM * stem).min(4)
 }
 
 // Lays a stem behind the nodes that stand in the table, and answers how many then do.
@@ -102,17 +94,15 @@ pub(crate) fn lay(
     ensures { result ≤ before + 4 }
 {
     let nodes = nodes_of(stems, stem);
-    let mut i = 0;
-    while i < nodes {
+    for node in 0..nodes {
         lay_node(
             stems,
-            STEM * stem + 1 + sizes::NODE_CELLS * i,
+            STEM * stem + 1 + sizes::NODE_CELLS * node,
             cells,
-            sizes::NODE_CELLS * (before + i),
+            sizes::NODE_CELLS * (before + node),
             nodes,
             before,
         );
-        i += 1;
     }
     before + nodes
 }

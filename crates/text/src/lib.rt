@@ -41,11 +41,9 @@ pub fn put_spaced(out: &mut [u8], end: usize, numbers: &[u16]) -> usize
     ensures { Grown out.old end (spaced numbers.now) out.new result }
 {
     let mut at = end;
-    let mut done = 0;
-    while done < numbers.len() {
+    for &number in numbers {
         let next = put_byte(out, at, b' ');
-        at = put_number(out, next, numbers[done]);
-        done += 1;
+        at = put_number(out, next, number);
     }
     at
 }
@@ -63,31 +61,17 @@ pub fn put_line(out: &mut [u8], end: usize, n: u16, numbers: &[u16]) -> usize
 fn part(numbers: &[u16], from: usize, most: usize) -> &[u16]
     ensures { result.now ≡ take most (drop from numbers.now) }
 {
-    if numbers.len() < from {
-        return &numbers[..0];
-    }
-    let rest = &numbers[from..];
-    if rest.len() < most {
-        return rest;
-    }
-    &rest[..most]
-}
-
-fn one_less(n: u16) -> u16
-    ensures { result ≡ n - 1 }
-{
-    if n == 0 {
-        return 0;
-    }
-    n - 1
+    let rest = numbers.get(from..).unwrap_or_default();
+    rest.get(..most).unwrap_or(rest)
 }
 
 // The line of a row: its number, counted from 1, and its cells, of which each row of the table has so many.
+#[tactic(auto, unfolding(crate::specs::Numbers::row_line))]
 pub fn put_row(out: &mut [u8], end: usize, n: u16, width: u16, table: &[u16]) -> usize
     ensures { Grown out.old end (row_line width table.now n) out.new result }
 {
-    let cells = width as usize;
-    let from = cells * (one_less(n) as usize);
+    let cells = usize::from(width);
+    let from = cells * usize::from(n.saturating_sub(1));
     put_line(out, end, n, part(table, from, cells))
 }
 

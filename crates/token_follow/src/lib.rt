@@ -5,26 +5,14 @@ ghost use Rattle.std.specs.Prelude.{◌≡◌};
 ghost use Rattle.token_grammar.specs.Codes.{sign_of};
 ghost use Rattle.token_grammar.specs.Next.{next_of, level_at};
 ghost use Rattle.token_follow.specs.Follow.{goes_on_by};
-ghost use Rattle.token_follow.specs.Tables.{level_past, before_of, barred};
+ghost use Rattle.token_follow.specs.Tables.{level_of, before_of, barred};
 
 use token_grammar::{codes, level};
 
-// The level of what a token but an operator makes that follows an expression: a cast, a postfix form, or 0 for nothing.
-fn level_past(code: u16) -> u16
-    ensures { result ≡ level_past code }
-{
-    match code {
-        codes::AS => level::CASTS,
-        codes::DOT => level::POSTFIXES,
-        codes::LEFT_PAREN => level::POSTFIXES,
-        codes::LEFT_BRACKET | codes::QUESTION => level::POSTFIXES,
-        _ => 0,
-    }
-}
-
-// The level of what a token makes that follows an expression.
-pub fn level_of(code: u16) -> u16
-    ensures { result ≡ level_at (next_of (sign_of code)) }
+// The level of what a token makes that follows an expression, 0 for nothing.
+#[tactic(auto, unfolding(crate::specs::Tables::level_of, crate::specs::Tables::level_lines, crate::specs::Tables::level_past, crate::specs::Tables::past_lines, laws::specs::Choice::lookup, laws::specs::Choice::pick))]
+fn level_in(code: u16) -> u16
+    ensures { result ≡ level_of code }
 {
     match code {
         codes::ADD..=codes::SUB => level::SUMS,
@@ -37,8 +25,18 @@ pub fn level_of(code: u16) -> u16
         codes::SHL..=codes::SHR => level::SHIFTS,
         codes::EQ..=codes::GT => level::COMPARISONS,
         codes::ADD_ASSIGN..=codes::ASSIGN => level::ASSIGNMENTS,
-        _ => level_past(code),
+        codes::AS => level::CASTS,
+        codes::DOT => level::POSTFIXES,
+        codes::LEFT_PAREN | codes::LEFT_BRACKET | codes::QUESTION => level::POSTFIXES,
+        _ => 0,
     }
+}
+
+// The same, said of the grammar's tokens.
+pub fn level_of(code: u16) -> u16
+    ensures { result ≡ level_at (next_of (sign_of code)) }
+{
+    level_in(code)
 }
 
 // The levels straight above those that don't lean left: assignments lean right, comparisons to neither side.
@@ -47,6 +45,7 @@ const ABOVE_ASSIGNMENTS: u16 = level::ASSIGNMENTS + 1;
 const ABOVE_COMPARISONS: u16 = level::COMPARISONS + 1;
 
 // The lowest level of an operand that stands before.
+#[tactic(auto, unfolding(crate::specs::Tables::before_of, laws::specs::Choice::lookup, laws::specs::Choice::pick))]
 fn lowest_before(made: u16) -> u16
     ensures { result ≡ before_of made }
 {
@@ -58,6 +57,7 @@ fn lowest_before(made: u16) -> u16
 }
 
 // Whether a token can't go on straight after an expression: `<` or `<<` after a type name, `(` after a dot and a name.
+#[tactic(auto, unfolding(crate::specs::Tables::barred, laws::specs::Choice::lookup, laws::specs::Choice::pick))]
 fn is_barred(named: bool, dotted: bool, code: u16) -> bool
     ensures { result ≡ barred named dotted code }
 {

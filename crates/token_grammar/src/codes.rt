@@ -1,4 +1,5 @@
 // The codes of the tokens, in document 01's order, under the names that the definitions give them (specs/Tokens.antt).
+// Numbers, no enum: a code lies in a cell, which may hold any number, and an enum would be made of it and turned back at each match.
 pub const ADD: u16 = 0;
 
 pub const SUB: u16 = 1;

@@ -1,4 +1,5 @@
 // The levels of the grammar's kinds, loosest first, under the names that the definitions give them (specs/Levels.antt).
+// Numbers, no enum: what an operand must have is one more than a level, which is no level at 2 and 16, and it lies in cells and places.
 pub const ASSIGNMENTS: u16 = 1;
 
 pub const ORS: u16 = 3;

@@ -22,8 +22,10 @@ use Rattle.token_reader.specs.declared.piece.Parsed.{Parsed}
 use Rattle.token_reader.specs.declared.piece.Reading.{Reading}
 use Rattle.token_reader.specs.Tables.{past_comma, level_of, after_of, goes_on_with, operator_form, operator_detail}
 use Rattle.token_reader.specs.Pieces.{many, stands_in, Kept, Stored, Ready, Tells, from, IsExpr, step_by, Postfix, ExprAt, ArgumentsAt, OperandAt, StepAt}
-use Rattle.token_reader.specs.Waiting.{WANTED, READ, LISTED, ENDED, what_at, one_at, two_at, least_at, place_at, Laid, Stays}
-use Rattle.token_reader.specs.Turns.{PREFIX, GROUP, BINARY, INDEX, CALL, METHOD, ARGUMENT, IsCall, a_call, a_method, call_form, Turnable, begins, pop_to, Lost, Wanted, absent, whole, prefixed, grouped, Calling, Stepped, lost, step, operates, indexes, calls, top_at, one_on, two_on, IsItem, Took, ungrouped, operated, indexed, unindexed, last, another, unclosed, Gone, on, all, part, Listed, more, called, Turned, wanting, going, listing}
+use Rattle.token_reader.specs.Kinds.{WANTED, READ, LISTED, ENDED, mode_number, PREFIX, GROUP, BINARY, INDEX, CALL, METHOD, ARGUMENT}
+use Rattle.token_reader.specs.declared.piece.Mode.TheVariants as mode
+use Rattle.token_reader.specs.Waiting.{what_at, one_at, two_at, least_at, place_at, Laid, Stays}
+use Rattle.token_reader.specs.Turns.{IsCall, a_call, a_method, call_form, Turnable, begins, pop_to, Lost, Wanted, absent, whole, prefixed, grouped, Calling, Stepped, lost, step, operates, indexes, calls, top_at, one_on, two_on, IsItem, Took, ungrouped, operated, indexed, unindexed, last, another, unclosed, Gone, on, all, part, Listed, more, called, Turned, wanting, going, listing}
 use Rattle.token_reader.proofs.First.{there, past_tokens}
 use Rattle.token_reader.proofs.Lists.{closed_past, comma_there, passed_none}
 use Rattle.token_reader.proofs.Tables.{after_least}
@@ -282,15 +284,15 @@ module _ (tokens own₀ : List ℕ) (at₀ free₀ least₀ : ℕ) (condition₀
     pub under : Under (stands_in b.condition) tokens mid own b.least first left
 
   pub data On (own : List ℕ) (s : Reading) : Type 0 where
-    wanted : (ws : List Waiter) → length ws ≡ s.depth → Held ws own → Waits ws (begin_on own s) → Begun ws (begin_on own s) → s.mode ≡ WANTED → On own s
-    read : (ws : List Waiter) (b : Begin) → length ws ≡ s.depth → Held ws own → Waits ws b → Begun ws b → b.least ≡ s.least → b.condition ≡ s.condition → Reads b own s.left → s.left.at ≤ many tokens → s.mode ≡ READ → On own s
-    listed : (ws : List Waiter) (b : Begin) → length ws ≡ s.depth → Held ws own → Waits ws b → Begun ws b → IsList ws → ArgumentsAt tokens b.own own b.at b.free (no_piece s.left) → s.left.at ≤ many tokens → s.mode ≡ LISTED → On own s
-    ended : ExprAt (stands_in condition₀) tokens own₀ own at₀ free₀ least₀ s.left → s.mode ≡ ENDED → On own s
+    wanted : (ws : List Waiter) → length ws ≡ s.depth → Held ws own → Waits ws (begin_on own s) → Begun ws (begin_on own s) → mode_number s.mode ≡ WANTED → On own s
+    read : (ws : List Waiter) (b : Begin) → length ws ≡ s.depth → Held ws own → Waits ws b → Begun ws b → b.least ≡ s.least → b.condition ≡ s.condition → Reads b own s.left → s.left.at ≤ many tokens → mode_number s.mode ≡ READ → On own s
+    listed : (ws : List Waiter) (b : Begin) → length ws ≡ s.depth → Held ws own → Waits ws b → Begun ws b → IsList ws → ArgumentsAt tokens b.own own b.at b.free (no_piece s.left) → s.left.at ≤ many tokens → mode_number s.mode ≡ LISTED → On own s
+    ended : ExprAt (stands_in condition₀) tokens own₀ own at₀ free₀ least₀ s.left → mode_number s.mode ≡ ENDED → On own s
 
-  pub on_start : (s : Reading) → Ready tokens own₀ at₀ free₀ → 1 ≤ least₀ → s ≡ record { left = begins at₀ free₀; depth = 0; mode = WANTED; least = least₀; condition = condition₀ } → On own₀ s
+  pub on_start : (s : Reading) → Ready tokens own₀ at₀ free₀ → 1 ≤ least₀ → s ≡ record { left = begins at₀ free₀; depth = 0; mode = mode.Wanted; least = least₀; condition = condition₀ } → On own₀ s
   on_start s rd l e = rw e (wanted [] refl tt (refl, refl, refl, refl, refl) (rd, omega (arith, rd.room), l) refl)
 
-  pub on_end : {own : List ℕ} {s : Reading} → On own s → s.mode ≡ ENDED → ExprAt (stands_in condition₀) tokens own₀ own at₀ free₀ least₀ s.left
+  pub on_end : {own : List ℕ} {s : Reading} → On own s → mode_number s.mode ≡ ENDED → ExprAt (stands_in condition₀) tokens own₀ own at₀ free₀ least₀ s.left
   on_end (wanted ws l h w b m) e = absurd (omega arith)
   on_end (read ws b l h w bg el ec rd k m) e = absurd (omega arith)
   on_end (listed ws b l h w bg i t k m) e = absurd (omega arith)
@@ -305,7 +307,7 @@ module _ (tokens own₀ : List ℕ) (at₀ free₀ least₀ : ℕ) (condition₀
       let f = under_there rd d.first left d.operand d.under k in
       (under_ready rd d.first left d.operand d.under k, omega (arith, (d.operand.grew f).room, (d.under.grew f k).room))
 
-  pub on_turnable : {own : List ℕ} {s : Reading} → On own s → (s.mode ≡ ENDED → ⊥) → Turnable tokens own s
+  pub on_turnable : {own : List ℕ} {s : Reading} → On own s → (mode_number s.mode ≡ ENDED → ⊥) → Turnable tokens own s
   on_turnable (wanted ws l h w b m) n = record { able = record { ready = b.0; deep = omega (arith, b.1) }; least = λ q. b.2; listed = λ p q. absurd (p m) }
   on_turnable {own} {s} (read ws b l h w bg el ec d k m) n =
       let r = reads_ready b bg.0 d k in
@@ -638,7 +640,7 @@ module _ (tokens own₀ : List ℕ) (at₀ free₀ least₀ : ℕ) (condition₀
         (arguments_more w.1.0 first w.5 refl (no_piece s.left) w.6 w.7 k (arguments_alike w.8 (rw (w.9, w.10) at t)) u) k refl)
     on_listed (argument q mid first ∷ ws) b l h w bg i t k (called left₂ left c st px x) = let e : length ws ≡ s.depth - 1 = omega arith in absurd (c (rw e at h.0))
 
-    pub on_turned : On own s → (s.mode ≡ ENDED → ⊥) → Turned tokens own now s r → On now r
+    pub on_turned : On own s → (mode_number s.mode ≡ ENDED → ⊥) → Turned tokens own now s r → On now r
     on_turned (wanted ws l h w b m) n (wanting e t) = on_wanted ws l h w b t
     on_turned (wanted ws l h w b m) n (going e t) = absurd (omega arith)
     on_turned (wanted ws l h w b m) n (listing p q t) = absurd (p m)
@@ -653,7 +655,7 @@ module _ (tokens own₀ : List ℕ) (at₀ free₀ least₀ : ℕ) (condition₀
 -- ---- each turn leaves less to do
 
 abbrev pub left_to_do : List ℕ → Reading → ℕ
-left_to_do tokens s = 4 * (many tokens + 1 - s.left.at) + 2 * s.depth + (ENDED - s.mode)
+left_to_do tokens s = 4 * (many tokens + 1 - s.left.at) + 2 * s.depth + (ENDED - mode_number s.mode)
 
 -- what is not there is not there by another answer
 tells_lost : {A : Type 0} (Is Be : A → Type 0) (tokens : List ℕ) (to to₂ : ℕ) (o : Out A) → many tokens < to → many tokens < to₂ → Tells Is tokens to o → Tells Be tokens to₂ o
@@ -668,20 +670,20 @@ lost_less : {tokens : List ℕ} (s : Reading) {r : Reading} → s.left.at ≤ ma
 lost_less s k lo = let a = lo.past in let b = lo.none in let c = lo.over in omega arith
 
 module _ {tokens own now : List ℕ} {s r : Reading} (within : s.left.at ≤ many tokens) where
-  less_wanted : s.mode ≡ WANTED → Wanted tokens own now s r → left_to_do tokens r < left_to_do tokens s
+  less_wanted : mode_number s.mode ≡ WANTED → Wanted tokens own now s r → left_to_do tokens r < left_to_do tokens s
   less_wanted e (absent t lo) = lost_less s within lo
   less_wanted e (whole left t k st z) = let p = t.past k in rw z (omega arith)
   less_wanted e (prefixed p form detail hh st lb la z) = rw z (omega arith)
   less_wanted e (grouped hh st la z) = rw z (omega arith)
 
-  less_stepped : s.mode ≡ READ → s.left.at < many tokens → Stepped tokens own now s r → left_to_do tokens r < left_to_do tokens s
+  less_stepped : mode_number s.mode ≡ READ → s.left.at < many tokens → Stepped tokens own now s r → left_to_do tokens r < left_to_do tokens s
   less_stepped e i (lost t lo) = lost_less s within lo
   less_stepped e i (step left t k st z) = let p = t.past k in rw z (omega arith)
   less_stepped e i (operates n c m la z) = rw z (omega arith)
   less_stepped e i (indexes c la z) = rw z (omega arith)
   less_stepped e i (calls to what symbol ic cg nr la z) = let f = cg.from in let j = cg.inside in rw z (omega arith)
 
-  less_took : s.mode ≡ READ → 1 ≤ s.depth → Took tokens own now s r → left_to_do tokens r < left_to_do tokens s
+  less_took : mode_number s.mode ≡ READ → 1 ≤ s.depth → Took tokens own now s r → left_to_do tokens r < left_to_do tokens s
   less_took e y (prefixed left c st z) = rw z (omega arith)
   less_took e y (grouped left c cc px u z) = let p = px.to in rw z (omega arith)
   less_took e y (ungrouped c n lo) = lost_less s within lo
@@ -696,22 +698,22 @@ module _ {tokens own now : List ℕ} {s r : Reading} (within : s.left.at ≤ man
   less_took e y (another end n is ng cm la z) = let p = comma_there tokens s.left.at right_paren (λ q. omega arith) is cm in rw z (omega arith)
   less_took e y (unclosed end n is ng cm lo) = lost_less s within lo
 
-  less_gone : 1 ≤ s.least → s.mode ≡ READ → Gone tokens own now s r → left_to_do tokens r < left_to_do tokens s
+  less_gone : 1 ≤ s.least → mode_number s.mode ≡ READ → Gone tokens own now s r → left_to_do tokens r < left_to_do tokens s
   less_gone l e (on g t) = less_stepped e (goes_inside tokens s.left.at s.least s.left.level s.left.named s.left.dotted l g) t
   less_gone l e (all n z q y m u) = let a = ap (λ (x : Parsed). x.at) q in omega arith
   less_gone l e (part n y x) = less_took e y x
 
-  less_listed : 1 ≤ s.depth → s.mode ≡ LISTED → Listed tokens own now s r → left_to_do tokens r < left_to_do tokens s
+  less_listed : 1 ≤ s.depth → mode_number s.mode ≡ LISTED → Listed tokens own now s r → left_to_do tokens r < left_to_do tokens s
   less_listed y e (more left c st z) = rw z (omega arith)
   less_listed y e (called left₂ left c st px z) = let p = px.to in rw z (omega arith)
 
-others_list : {tokens own₀ own : List ℕ} {at₀ free₀ least₀ : ℕ} {condition₀ : Bool} {s : Reading} → On tokens own₀ at₀ free₀ least₀ condition₀ own s → (s.mode ≡ ENDED → ⊥) → (s.mode ≡ WANTED → ⊥) → (s.mode ≡ READ → ⊥) → s.mode ≡ LISTED
+others_list : {tokens own₀ own : List ℕ} {at₀ free₀ least₀ : ℕ} {condition₀ : Bool} {s : Reading} → On tokens own₀ at₀ free₀ least₀ condition₀ own s → (mode_number s.mode ≡ ENDED → ⊥) → (mode_number s.mode ≡ WANTED → ⊥) → (mode_number s.mode ≡ READ → ⊥) → mode_number s.mode ≡ LISTED
 others_list (wanted ws l h w b m) n p q = absurd (p m)
 others_list (read ws b l h w bg el ec d k m) n p q = absurd (q m)
 others_list (listed ws b l h w bg i t k m) n p q = m
 others_list (ended t m) n p q = absurd (n m)
 
-pub on_less : {tokens own₀ own now : List ℕ} {at₀ free₀ least₀ : ℕ} {condition₀ : Bool} {s r : Reading} → On tokens own₀ at₀ free₀ least₀ condition₀ own s → (s.mode ≡ ENDED → ⊥) → Turned tokens own now s r → left_to_do tokens r < left_to_do tokens s
+pub on_less : {tokens own₀ own now : List ℕ} {at₀ free₀ least₀ : ℕ} {condition₀ : Bool} {s r : Reading} → On tokens own₀ at₀ free₀ least₀ condition₀ own s → (mode_number s.mode ≡ ENDED → ⊥) → Turned tokens own now s r → left_to_do tokens r < left_to_do tokens s
 on_less o n (wanting e t) = let v = on_turnable _ _ _ _ _ _ o n in less_wanted v.able.ready.within e t
 on_less o n (going e t) = let v = on_turnable _ _ _ _ _ _ o n in less_gone v.able.ready.within (v.least (λ q. let z = sym e ∙ q in omega arith)) e t
 on_less o n (listing p q t) = let v = on_turnable _ _ _ _ _ _ o n in less_listed v.able.ready.within (v.listed p q) (others_list o n p q) t

@@ -10,13 +10,14 @@ use Rattle.tree_rules.specs.Refusals.{refusal3}
 use Rattle.token_grammar.specs.Grammar.{Context}
 use Rattle.token_plain.specs.Reads.{Reads}
 use Rattle.token_plain.proofs.Readings.{read_or_not}
-use Rattle.token_reader.specs.declared.Reply.{Reply}
+use Rattle.std.specs.Prelude.{Result}
+use Rattle.tree.specs.declared.refusal.Refusal.{Refusal}
 use Rattle.token_reader.specs.Reading.{read_refusal12, refusal14, AnswersIn, read_refusal13, Answers}
 
-alike : {reply reply' r : Reply} {after after' t : List ℕ} → (reply ≡ r) × (after ≡ t) → (reply' ≡ r) × (after' ≡ t) → (reply ≡ reply') × (after ≡ after')
+alike : {reply reply' r : (Result ℕ Refusal)} {after after' t : List ℕ} → (reply ≡ r) × (after ≡ t) → (reply' ≡ r) × (after' ≡ t) → (reply ≡ reply') × (after ≡ after')
 alike p q = (p.0 ∙ sym q.0, p.1 ∙ sym q.1)
 
-in_one : {c : Context} {tokens table after after' : List ℕ} {reply reply' : Reply} → AnswersIn c tokens table reply after → AnswersIn c tokens table reply' after'
+in_one : {c : Context} {tokens table after after' : List ℕ} {reply reply' : (Result ℕ Refusal)} → AnswersIn c tokens table reply after → AnswersIn c tokens table reply' after'
     → (reply ≡ reply') × (after ≡ after')
 in_one {c} {tokens} {table} {after} {after'} {reply} {reply'} a b = short (read_refusal12 (length table)) refl
   where
@@ -32,7 +33,7 @@ in_one {c} {tokens} {table} {after} {after'} {reply} {reply'} a b = short (read_
     short true p = alike (a.short p) (b.short p)
     short false p = known p (refusal14 tokens) refl
 
-pub answers_one : {context : ℕ} {tokens table after after' : List ℕ} {reply reply' : Reply} → Answers context tokens table reply after → Answers context tokens table reply' after'
+pub answers_one : {context : ℕ} {tokens table after after' : List ℕ} {reply reply' : (Result ℕ Refusal)} → Answers context tokens table reply after → Answers context tokens table reply' after'
     → (reply ≡ reply') × (after ≡ after')
 answers_one {context} {tokens} {table} {after} {after'} {reply} {reply'} a b = above (refusal3 context) refl
   where

@@ -1,4 +1,5 @@
 pub mod Cells
+pub mod Modes
 pub mod Nodes
 pub mod Mirrored
 pub mod First

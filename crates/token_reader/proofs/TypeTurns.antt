@@ -16,7 +16,9 @@ use Rattle.token_reader.specs.declared.piece.Piece.{Piece}
 use Rattle.token_reader.specs.declared.piece.Typing.{Typing}
 use Rattle.token_reader.specs.Tables.{past_comma}
 use Rattle.token_reader.specs.Pieces.{many, Kept, Stored, Ready, TypeAt, TypesAt}
-use Rattle.token_reader.specs.Waiting.{WANTED, READ, LISTED, ENDED, POINTER, PATH, ITEM, what_at, one_at, two_at, Laid, Stays, piece_of, Able, Turnable, Wanted, absent, whole, points, applies, Took, pointed, last, another, unclosed, Taken, all, part, Listed, more, applied, Turned, wanting, taking, listing}
+use Rattle.token_reader.specs.Kinds.{WANTED, READ, LISTED, ENDED, mode_number, POINTER, PATH, ITEM}
+use Rattle.token_reader.specs.declared.piece.Mode.TheVariants as mode
+use Rattle.token_reader.specs.Waiting.{what_at, one_at, two_at, Laid, Stays, piece_of, Able, Turnable, Wanted, absent, whole, points, applies, Took, pointed, last, another, unclosed, Taken, all, part, Listed, more, applied, Turned, wanting, taking, listing}
 use Rattle.token_reader.proofs.First.{there, past_tokens}
 use Rattle.token_reader.proofs.Lists.{closed_past, comma_there, passed_none}
 use Rattle.token_reader.proofs.Tells.{ready_on, ready_grew}
@@ -134,15 +136,15 @@ module _ (tokens own₀ : List ℕ) (base at₀ free₀ : ℕ) where
   -- ---- what is known between turns
 
   pub data On (own : List ℕ) (s : Typing) : Type 0 where
-    wanted : (ws : List Waiter) → base + length ws ≡ s.depth → Held ws own → Waits ws own s.at s.free → Begun ws own s.at s.free → s.mode ≡ WANTED → On own s
-    read : (ws : List Waiter) (o : List ℕ) (a f : ℕ) → base + length ws ≡ s.depth → Held ws own → Waits ws o a f → Begun ws o a f → TypeAt tokens o own a f (piece_of s) → s.at ≤ many tokens → s.mode ≡ READ → On own s
-    listed : (ws : List Waiter) (o : List ℕ) (a f : ℕ) → base + length ws ≡ s.depth → Held ws own → Waits ws o a f → Begun ws o a f → TypesAt tokens o own a f (piece_of s) → s.at ≤ many tokens → s.mode ≡ LISTED → IsList ws → On own s
-    ended : TypeAt tokens own₀ own at₀ free₀ (piece_of s) → s.mode ≡ ENDED → On own s
+    wanted : (ws : List Waiter) → base + length ws ≡ s.depth → Held ws own → Waits ws own s.at s.free → Begun ws own s.at s.free → mode_number s.mode ≡ WANTED → On own s
+    read : (ws : List Waiter) (o : List ℕ) (a f : ℕ) → base + length ws ≡ s.depth → Held ws own → Waits ws o a f → Begun ws o a f → TypeAt tokens o own a f (piece_of s) → s.at ≤ many tokens → mode_number s.mode ≡ READ → On own s
+    listed : (ws : List Waiter) (o : List ℕ) (a f : ℕ) → base + length ws ≡ s.depth → Held ws own → Waits ws o a f → Begun ws o a f → TypesAt tokens o own a f (piece_of s) → s.at ≤ many tokens → mode_number s.mode ≡ LISTED → IsList ws → On own s
+    ended : TypeAt tokens own₀ own at₀ free₀ (piece_of s) → mode_number s.mode ≡ ENDED → On own s
 
-  pub on_start : (s : Typing) → Ready tokens own₀ at₀ free₀ → base + many tokens ≤ at₀ + free₀ → s ≡ record { at = at₀; depth = base; mode = WANTED; free = free₀; named = false } → On own₀ s
+  pub on_start : (s : Typing) → Ready tokens own₀ at₀ free₀ → base + many tokens ≤ at₀ + free₀ → s ≡ record { at = at₀; depth = base; mode = mode.Wanted; free = free₀; named = false } → On own₀ s
   on_start s rd d e = rw e (wanted [] (omega arith) tt (refl, refl, refl) (rd, omega arith) refl)
 
-  pub on_end : {own : List ℕ} {s : Typing} → On own s → s.mode ≡ ENDED → TypeAt tokens own₀ own at₀ free₀ (piece_of s)
+  pub on_end : {own : List ℕ} {s : Typing} → On own s → mode_number s.mode ≡ ENDED → TypeAt tokens own₀ own at₀ free₀ (piece_of s)
   on_end (wanted ws l h w b m) e = absurd (omega arith)
   on_end (read ws o a f l h w b t k m) e = absurd (omega arith)
   on_end (listed ws o a f l h w b t k m i) e = absurd (omega arith)
@@ -152,7 +154,7 @@ module _ (tokens own₀ : List ℕ) (base at₀ free₀ : ℕ) where
   lists_wait [] i = absurd i
   lists_wait (w ∷ ws) i = omega arith
 
-  pub on_turnable : {own : List ℕ} {s : Typing} → On own s → (s.mode ≡ ENDED → ⊥) → Turnable tokens own base s
+  pub on_turnable : {own : List ℕ} {s : Typing} → On own s → (mode_number s.mode ≡ ENDED → ⊥) → Turnable tokens own base s
   on_turnable (wanted ws l h w b m) n = record { able = record { ready = b.0; deep = omega (arith, b.1) }; above = omega arith; listed = λ p q. absurd (p m) }
   on_turnable {own} {s} (read ws o a f l h w b t k m) n =
       let g = t.grew k in
@@ -224,7 +226,7 @@ module _ (tokens own₀ : List ℕ) (base at₀ free₀ : ℕ) where
         let v = t.grew k in
         listed ws o a f (l ∙ sym (ap (λ x. x.depth) z)) (stored_held own now ws (omega (arith, b.1, v.room, st.fewer)) st h) w b
         (subst (λ x. TypesAt tokens o now a f x) (piece_is r (end + 1) false (ap (λ x. x.at) z) (ap (λ x. x.named) z)) (types_last b.0 (piece_of s) t is e st))
-        (let y = ap (λ (x : Typing). x.at) z in omega arith) (ap (λ x. x.mode) z) (is_list own ws l nb h n)
+        (let y = ap (λ (x : Typing). x.at) z in omega arith) (ap (λ (x : Typing). mode_number x.mode) z) (is_list own ws l nb h n)
     on_took ws o a f l h w b t k nb (another end i n is ng cm la z) =
         let p = comma_there tokens s.at (operator gt) (λ q. omega arith) is cm in
         let v = t.grew k in
@@ -262,7 +264,7 @@ module _ (tokens own₀ : List ℕ) (base at₀ free₀ : ℕ) where
         (type_at_path w.1.0 w.2 w.3 (path_stored w.1.0 (piece_of s) w.4 w.5 k (types_alike w.6 (rw (w.7, w.8) at t)) u)))
         (omega (arith, pop.1)) pop.2
 
-    pub on_turned : On own s → (s.mode ≡ ENDED → ⊥) → Turned tokens own now base s r → On now r
+    pub on_turned : On own s → (mode_number s.mode ≡ ENDED → ⊥) → Turned tokens own now base s r → On now r
     on_turned (wanted ws l h w b m) n (wanting e t) = on_wanted ws l h w b t
     on_turned (wanted ws l h w b m) n (taking e t) = absurd (omega arith)
     on_turned (wanted ws l h w b m) n (listing p q t) = absurd (p m)
@@ -277,16 +279,16 @@ module _ (tokens own₀ : List ℕ) (base at₀ free₀ : ℕ) where
 -- ---- each turn leaves less to do
 
 abbrev pub left_to_do : List ℕ → Typing → ℕ
-left_to_do tokens s = 4 * (many tokens + 1 - s.at) + 2 * s.depth + (ENDED - s.mode)
+left_to_do tokens s = 4 * (many tokens + 1 - s.at) + 2 * s.depth + (ENDED - mode_number s.mode)
 
 module _ {tokens own now : List ℕ} {s r : Typing} (within : s.at ≤ many tokens) where
-  less_wanted : s.mode ≡ WANTED → Wanted tokens own now s r → left_to_do tokens r < left_to_do tokens s
+  less_wanted : mode_number s.mode ≡ WANTED → Wanted tokens own now s r → left_to_do tokens r < left_to_do tokens s
   less_wanted e (absent st z y m u) = omega arith
   less_wanted e (whole t p k st y m) = omega arith
   less_wanted e (points p form detail hh st lb la z) = rw z (omega arith)
   less_wanted e (applies hh st is_lt is_gt la z) = let i = there tokens (s.at + 1) (number lt) is_lt (omega arith) in rw z (omega arith)
 
-  less_took : s.mode ≡ READ → Took tokens own now s r → left_to_do tokens r < left_to_do tokens s
+  less_took : mode_number s.mode ≡ READ → Took tokens own now s r → left_to_do tokens r < left_to_do tokens s
   less_took e (pointed c st nm pop) = omega (arith, pop.0, pop.1, pop.2)
   less_took e (last end i n is g st z) =
       let p = closed_past tokens s.at (operator gt) (λ q. omega arith) is g in
@@ -294,26 +296,26 @@ module _ {tokens own now : List ℕ} {s r : Typing} (within : s.at ≤ many toke
       let p₁ = p.1 in
       let a = ap (λ (x : Typing). x.at) z in
       let b = ap (λ (x : Typing). x.depth) z in
-      let c = ap (λ (x : Typing). x.mode) z in
+      let c = ap (λ (x : Typing). mode_number x.mode) z in
       omega arith
   less_took e (another end i n is ng cm la z) = let p = comma_there tokens s.at (operator gt) (λ q. omega arith) is cm in rw z (omega arith)
   less_took e (unclosed end i n is ng cm z y m u) = omega arith
 
-  less_taken : {base : ℕ} → s.mode ≡ READ → Taken tokens own now base s r → left_to_do tokens r < left_to_do tokens s
+  less_taken : {base : ℕ} → mode_number s.mode ≡ READ → Taken tokens own now base s r → left_to_do tokens r < left_to_do tokens s
   less_taken e (all z p n d m) = let a = ap (λ (x : Piece). x.at) p in omega arith
   less_taken e (part nb x) = less_took e x
 
-  less_listed : s.mode ≡ LISTED → Listed tokens own now s r → left_to_do tokens r < left_to_do tokens s
+  less_listed : mode_number s.mode ≡ LISTED → Listed tokens own now s r → left_to_do tokens r < left_to_do tokens s
   less_listed e (more c st nm pop) = omega (arith, pop.0, pop.1, pop.2)
   less_listed e (applied c st nm pop) = omega (arith, pop.0, pop.1, pop.2)
 
-others_list : {tokens own₀ own : List ℕ} {base at₀ free₀ : ℕ} {s : Typing} → On tokens own₀ base at₀ free₀ own s → (s.mode ≡ ENDED → ⊥) → (s.mode ≡ WANTED → ⊥) → (s.mode ≡ READ → ⊥) → s.mode ≡ LISTED
+others_list : {tokens own₀ own : List ℕ} {base at₀ free₀ : ℕ} {s : Typing} → On tokens own₀ base at₀ free₀ own s → (mode_number s.mode ≡ ENDED → ⊥) → (mode_number s.mode ≡ WANTED → ⊥) → (mode_number s.mode ≡ READ → ⊥) → mode_number s.mode ≡ LISTED
 others_list (wanted ws l h w b m) n p q = absurd (p m)
 others_list (read ws o a f l h w b t k m) n p q = absurd (q m)
 others_list (listed ws o a f l h w b t k m i) n p q = m
 others_list (ended t m) n p q = absurd (n m)
 
-pub on_less : {tokens own₀ own now : List ℕ} {base at₀ free₀ : ℕ} {s r : Typing} → On tokens own₀ base at₀ free₀ own s → (s.mode ≡ ENDED → ⊥) → Turned tokens own now base s r → left_to_do tokens r < left_to_do tokens s
+pub on_less : {tokens own₀ own now : List ℕ} {base at₀ free₀ : ℕ} {s r : Typing} → On tokens own₀ base at₀ free₀ own s → (mode_number s.mode ≡ ENDED → ⊥) → Turned tokens own now base s r → left_to_do tokens r < left_to_do tokens s
 on_less o n (wanting e t) = less_wanted (on_turnable _ _ _ _ _ o n).able.ready.within e t
 on_less o n (taking e t) = less_taken (on_turnable _ _ _ _ _ o n).able.ready.within e t
 on_less o n (listing p q t) = less_listed (on_turnable _ _ _ _ _ o n).able.ready.within (others_list o n p q) t
@@ -351,13 +353,13 @@ module _ {tokens own now : List ℕ} {base : ℕ} {s : Typing} (able : Able toke
   stays_listed h (more c st nm pop) = stored_stays h st
   stays_listed h (applied c st nm pop) = stored_stays h st
 
-lists_above : {tokens own₀ own : List ℕ} {base at₀ free₀ : ℕ} {s : Typing} → On tokens own₀ base at₀ free₀ own s → (s.mode ≡ ENDED → ⊥) → (s.mode ≡ WANTED → ⊥) → (s.mode ≡ READ → ⊥) → base < s.depth
+lists_above : {tokens own₀ own : List ℕ} {base at₀ free₀ : ℕ} {s : Typing} → On tokens own₀ base at₀ free₀ own s → (mode_number s.mode ≡ ENDED → ⊥) → (mode_number s.mode ≡ WANTED → ⊥) → (mode_number s.mode ≡ READ → ⊥) → base < s.depth
 lists_above (wanted ws l h w b m) n p q = absurd (p m)
 lists_above (read ws o a f l h w b t k m) n p q = absurd (q m)
 lists_above {tokens} {own₀} {own} {base} {at₀} {free₀} (listed ws o a f l h w b t k m i) n p q = let j = lists_wait tokens own₀ base at₀ free₀ ws i in omega arith
 lists_above (ended t m) n p q = absurd (n m)
 
-pub on_stays : {tokens own₀ own now : List ℕ} {base at₀ free₀ : ℕ} {s r : Typing} → On tokens own₀ base at₀ free₀ own s → (s.mode ≡ ENDED → ⊥) → Turned tokens own now base s r → Stays own now base
+pub on_stays : {tokens own₀ own now : List ℕ} {base at₀ free₀ : ℕ} {s r : Typing} → On tokens own₀ base at₀ free₀ own s → (mode_number s.mode ≡ ENDED → ⊥) → Turned tokens own now base s r → Stays own now base
 on_stays o n (wanting e t) = let v = on_turnable _ _ _ _ _ o n in stays_wanted v.able v.above t
 on_stays o n (taking e t) = let v = on_turnable _ _ _ _ _ o n in stays_taken v.able v.above t
 on_stays o n (listing p q t) = let v = on_turnable _ _ _ _ _ o n in stays_listed v.able v.above (lists_above o n p q) t

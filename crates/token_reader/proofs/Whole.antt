@@ -6,7 +6,8 @@ use Prim.Native.Nat.{ℕ, zero, suc, ◌+◌, ◌*◌, ◌≤◌, ◌<◌}
 use native.Mathlib.Omega.{arith}
 use lib.ListN.{length, drop, length-drop}
 use borrow.Author.Tests.{ltb-false, lt-ltb, le-ltb}
-use Rattle.laws.specs.Choice.{pick}
+use Rattle.laws.specs.Choice.{pick, lookup}
+use Rattle.tree.specs.Replies.{refusals, replied}
 use Rattle.laws.proofs.Choice.{true_not_false, of_true, or_false, or_here, or_next}
 use Rattle.tree.specs.Sizes.{node_cells, token_cells, most_nodes, most_tokens}
 use Rattle.tree.specs.Trees.{Tree, tree_at}
@@ -26,10 +27,10 @@ use Rattle.token_plain.proofs.Parens.{without_bare}
 use Rattle.token_plain.proofs.Readings.{one_reading, found, finds}
 use Rattle.tree_numbering.specs.Numbered.{size, too_large}
 use Rattle.tree_numbering.specs.Renumbering.{too_short, renumbered, renumbered_after}
-use Rattle.token_reader.specs.declared.Reply.{Reply}
-use Rattle.token_reader.specs.declared.Reply.TheVariants.{Refused}
+use Rattle.std.specs.Prelude.{Result}
+use Rattle.tree.specs.declared.refusal.Refusal.{Refusal}
 use Rattle.token_reader.specs.declared.piece.Parsed.{Parsed}
-use Rattle.token_reader.specs.Reading.{read_refusal12, refusal14, count_or_large, read_table, AnswersIn, read_refusal13, context_of, Answers}
+use Rattle.token_reader.specs.Reading.{refused, read_refusal12, refusal14, count_or_large, read_table, AnswersIn, read_refusal13, context_of, Answers}
 use Rattle.token_reader.specs.Pieces.{many, Tells, IsExpr, ExprAt, reply_of}
 use Rattle.token_reader.proofs.Nodes.{placed_tree}
 
@@ -76,7 +77,7 @@ unfolding too_large too_short
 long_enough t cells h e = le-ltb cells (node_cells * size t) (omega (arith, ltb-false most_nodes (size t) (or_false _ _ e).0))
 
 reply : (t : Tree) (cells : ℕ) → node_cells * most_nodes ≤ cells → reply_of (renumbered t cells) ≡ count_or_large t
-unfolding reply_of renumbered count_or_large pick
+unfolding reply_of renumbered count_or_large pick replied refusals lookup
 reply t cells h = go (too_large t) refl
   where
     go : (b : Bool) → too_large t ≡ b → reply_of (renumbered t cells) ≡ count_or_large t
@@ -92,7 +93,7 @@ after t table h = go (too_large t) refl
     go false e = rw (e, long_enough t (length table) h e)
 
 module _ (c : Context) (tokens table : List ℕ) where
-  pub answers_short : length table < node_cells * most_nodes → AnswersIn c tokens table (Refused 12) table
+  pub answers_short : length table < node_cells * most_nodes → AnswersIn c tokens table (refused 12) table
   unfolding read_refusal12
   answers_short h =
       let e = lt-ltb (length table) (node_cells * most_nodes) h in
@@ -103,7 +104,7 @@ module _ (c : Context) (tokens table : List ℕ) where
         read = λ p q t x. true_not_false (sym e ∙ p);
       }
 
-  answers_unknown : node_cells * most_nodes ≤ length table → refusal14 tokens ≡ true → AnswersIn c tokens table (Refused 14) table
+  answers_unknown : node_cells * most_nodes ≤ length table → refusal14 tokens ≡ true → AnswersIn c tokens table (refused 14) table
   unfolding read_refusal12
   answers_unknown h e =
       record {
@@ -113,11 +114,11 @@ module _ (c : Context) (tokens table : List ℕ) where
         read = λ p q t x. true_not_false (sym e ∙ q);
       }
 
-  pub answers_long : node_cells * most_nodes ≤ length table → token_cells * most_tokens < length tokens → AnswersIn c tokens table (Refused 14) table
+  pub answers_long : node_cells * most_nodes ≤ length table → token_cells * most_tokens < length tokens → AnswersIn c tokens table (refused 14) table
   unfolding refusal14
   answers_long h k = answers_unknown h (or_here _ (lt-ltb (token_cells * most_tokens) (length tokens) k))
 
-  pub answers_other : node_cells * most_nodes ≤ length table → length tokens ≤ token_cells * most_tokens → are_tokens tokens ≡ false → AnswersIn c tokens table (Refused 14) table
+  pub answers_other : node_cells * most_nodes ≤ length table → length tokens ≤ token_cells * most_tokens → are_tokens tokens ≡ false → AnswersIn c tokens table (refused 14) table
   unfolding refusal14
   answers_other h k e = answers_unknown h (or_next _ (le-ltb (token_cells * most_tokens) (length tokens) k) ∙ ap not e)
 
@@ -125,7 +126,7 @@ module _ (c : Context) (tokens table : List ℕ) where
   unfolding refusal14
   known_fits k e = or_next _ (le-ltb (token_cells * most_tokens) (length tokens) k) ∙ ap not e
 
-  pub answers_unread : node_cells * most_nodes ≤ length table → length tokens ≤ token_cells * most_tokens → are_tokens tokens ≡ true → ((t : Tree) → Reads c tokens t → ⊥) → AnswersIn c tokens table (Refused 15) table
+  pub answers_unread : node_cells * most_nodes ≤ length table → length tokens ≤ token_cells * most_tokens → are_tokens tokens ≡ true → ((t : Tree) → Reads c tokens t → ⊥) → AnswersIn c tokens table (refused 15) table
   unfolding read_refusal12
   answers_unread h k e n =
       record {
@@ -135,7 +136,7 @@ module _ (c : Context) (tokens table : List ℕ) where
         read = λ p q t x. absurd (n t x);
       }
 
-  pub answers_read : {own now out : List ℕ} {free : ℕ} {r : Reply} (x : Parsed) → node_cells * most_nodes ≤ length table → length tokens ≤ token_cells * most_tokens → are_tokens tokens ≡ true → ExprAt c tokens own now 0 free loosest x → x.at ≡ many tokens →
+  pub answers_read : {own now out : List ℕ} {free : ℕ} {r : Result ℕ Refusal} (x : Parsed) → node_cells * most_nodes ≤ length table → length tokens ≤ token_cells * most_tokens → are_tokens tokens ≡ true → ExprAt c tokens own now 0 free loosest x → x.at ≡ many tokens →
       r ≡ reply_of (renumbered (tree_at now most_tokens (x.free + 1)) (length table)) → out ≡ renumbered_after (tree_at now most_tokens (x.free + 1)) table → AnswersIn c tokens table r out
   unfolding read_refusal12
   answers_read {own} {now} {out} {free} {r} x h k e i z p q =
@@ -160,13 +161,13 @@ one_or_two (suc (suc (suc zero))) h n m = absurd (m refl)
 one_or_two (suc (suc (suc (suc k)))) h n m = absurd (omega arith)
 
 module _ {context : ℕ} {tokens table : List ℕ} where
-  pub answers_above : context_number CONDITION < context → Answers context tokens table (Refused 3) table
+  pub answers_above : context_number CONDITION < context → Answers context tokens table (refused 3) table
   unfolding refusal3
   answers_above h =
       let e = lt-ltb (context_number CONDITION) context h in
       record { above = λ p. (refl, refl); other = λ p q. true_not_false (sym e ∙ p); inside = λ p q. true_not_false (sym e ∙ p) }
 
-  module _ {after : List ℕ} {r : Reply} where
+  module _ {after : List ℕ} {r : Result ℕ Refusal} where
     pub answers_none : context ≡ context_number NONE → AnswersIn NONE tokens table r after → Answers context tokens table r after
     unfolding refusal3 read_refusal13 context_of pick
     answers_none e a = rw e (record { above = λ h. true_not_false (sym h); other = λ h k. true_not_false (sym k); inside = λ h k. a })
@@ -176,7 +177,7 @@ module _ {context : ℕ} {tokens table : List ℕ} where
     answers_condition e a = rw e (record { above = λ h. true_not_false (sym h); other = λ h k. true_not_false (sym k); inside = λ h k. a })
 
   -- the others are 1 and 2
-  pub answers_between : (context ≤ context_number CONDITION) → (context ≡ context_number NONE → ⊥) → (context ≡ context_number CONDITION → ⊥) → Answers context tokens table (Refused 13) table
+  pub answers_between : (context ≤ context_number CONDITION) → (context ≡ context_number NONE → ⊥) → (context ≡ context_number CONDITION → ⊥) → Answers context tokens table (refused 13) table
   unfolding refusal3 read_refusal13
   answers_between h n m =
       let e = le-ltb (context_number CONDITION) context h in

@@ -1,5 +1,5 @@
 -- What the reader's private functions answer, by the parser. Nothing here is to be believed: proofs/Whole says what it comes to.
-use Rattle.std.specs.Prelude.{◌≡◌, Bool, true, false, ◌&&◌, List, ℕ, ◌+◌, ◌*◌, ◌/◌, ◌≤◌, ◌<◌, length, drop, get_or}
+use Rattle.std.specs.Prelude.{◌≡◌, Bool, true, false, ◌&&◌, List, ℕ, ◌+◌, ◌*◌, ◌/◌, ◌≤◌, ◌<◌, length, drop, get_or, Result, Ok, Err}
 use Rattle.tree.specs.Sizes.{node_cells, token_cells, most_nodes, most_tokens}
 use Rattle.tree.specs.Table.{first_at, second_at}
 use Rattle.tree.specs.Trees.{Tree, none, node, label_at}
@@ -14,10 +14,10 @@ use Rattle.token_grammar.specs.Bare.{bare}
 use Rattle.token_grammar.specs.Parser.{Out, fail, ok, then, tail, is_first, Start, no_start, an_atom, a_prefix, a_group, start, AfterDot, no_member, a_member, after_dot, is_by_name, member_symbol, next, type_by, types_by, some_types_by, expr_by, arguments_by, some_arguments_by}
 use Rattle.token_grammar.specs.Next.{Next, stops, operates, casts_to, dots, calls, indexes, tries}
 use Rattle.token_plain.specs.Trees.{label_with, label, tree_of, tree_of_type, atom_label, prefix_label, member_label, type_prefix_label, type_sign_label}
-use Rattle.tree_numbering.specs.declared.Renumbered.{Renumbered}
-use Rattle.tree_numbering.specs.declared.Renumbered.TheVariants as renumbered
-use Rattle.token_reader.specs.declared.Reply.{Reply}
-use Rattle.token_reader.specs.declared.Reply.TheVariants.{Refused, Nodes}
+use Rattle.tree_numbering.specs.declared.Unfit.{Unfit}
+use Rattle.tree_numbering.specs.Renumbering.{refusal_of}
+use Rattle.tree.specs.declared.refusal.Refusal.{Refusal}
+use Rattle.token_reader.specs.Reading.{refused}
 use Rattle.token_reader.specs.declared.piece.Piece.{Piece}
 use Rattle.token_reader.specs.declared.piece.Parsed.{Parsed}
 
@@ -295,7 +295,6 @@ pub record CallAt (tokens own now : List ℕ) (at free form symbol : ℕ) (r : P
 
 -- ---- the reply
 
-unfoldable pub reply_of : Renumbered → Reply
-reply_of renumbered.TooLarge = Refused 16
-reply_of renumbered.TooShort = Refused 12
-reply_of (renumbered.Nodes n) = Nodes n
+unfoldable pub reply_of : Result ℕ Unfit → Result ℕ Refusal
+reply_of (Err u) = Err (refusal_of u)
+reply_of (Ok n) = Ok n

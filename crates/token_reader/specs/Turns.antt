@@ -13,31 +13,11 @@ use Rattle.token_grammar.specs.Parser.{a_prefix, a_group, start_by}
 use Rattle.token_plain.specs.Trees.{label, prefix_label}
 use Rattle.token_reader.specs.Tables.{past_comma, level_of, after_of, goes_on_with, operator_form, operator_detail}
 use Rattle.token_reader.specs.Pieces.{many, stands_in, Stored, Ready, Postfix, OperandAt, StepAt, CallAt}
-use Rattle.token_reader.specs.Waiting.{WANTED, READ, LISTED, ENDED, what_at, one_at, two_at, least_at, place_at, Laid, Stays}
+use Rattle.token_reader.specs.Kinds.{WANTED, READ, LISTED, ENDED, mode_number, PREFIX, GROUP, BINARY, INDEX, CALL, METHOD, ARGUMENT}
+use Rattle.token_reader.specs.declared.piece.Mode.TheVariants as mode
+use Rattle.token_reader.specs.Waiting.{what_at, one_at, two_at, least_at, place_at, Laid, Stays}
 use Rattle.token_reader.specs.declared.piece.Parsed.{Parsed}
 use Rattle.token_reader.specs.declared.piece.Reading.{Reading}
-
--- what waits
-abbrev pub PREFIX : ℕ
-PREFIX = 3
-
-abbrev pub GROUP : ℕ
-GROUP = 4
-
-abbrev pub BINARY : ℕ
-BINARY = 5
-
-abbrev pub INDEX : ℕ
-INDEX = 6
-
-abbrev pub CALL : ℕ
-CALL = 7
-
-abbrev pub METHOD : ℕ
-METHOD = 8
-
-abbrev pub ARGUMENT : ℕ
-ARGUMENT = 9
 
 pub data IsCall (what : ℕ) : Type 0 where
   a_call : what ≡ CALL → IsCall what
@@ -53,27 +33,27 @@ pub record Able (tokens own : List ℕ) (s : Reading) : Type 0 where
 
 pub record Turnable (tokens own : List ℕ) (s : Reading) : Type 0 where
   pub able : Able tokens own s
-  pub least : (s.mode ≡ LISTED → ⊥) → 1 ≤ s.least
-  pub listed : (s.mode ≡ WANTED → ⊥) → (s.mode ≡ READ → ⊥) → 1 ≤ s.depth
+  pub least : (mode_number s.mode ≡ LISTED → ⊥) → 1 ≤ s.least
+  pub listed : (mode_number s.mode ≡ WANTED → ⊥) → (mode_number s.mode ≡ READ → ⊥) → 1 ≤ s.depth
 
 abbrev pub begins : ℕ → ℕ → Parsed
 begins at free = record { at = at; free = free; level = 0; named = false; dotted = false }
 
 abbrev pub waits_with : Reading → ℕ → ℕ → Bool → Reading
-waits_with s at least condition = record { left = begins at s.left.free; depth = s.depth + 1; mode = WANTED; least = least; condition = condition }
+waits_with s at least condition = record { left = begins at s.left.free; depth = s.depth + 1; mode = mode.Wanted; least = least; condition = condition }
 
 abbrev pub came_to : Reading → Parsed → Reading
-came_to s left = record { left = left; depth = s.depth; mode = READ; least = s.least; condition = s.condition }
+came_to s left = record { left = left; depth = s.depth; mode = mode.Read; least = s.least; condition = s.condition }
 
 -- what waited goes on from there
 abbrev pub pop_to : List ℕ → Reading → Parsed → Reading
-pop_to own s left = record { left = left; depth = s.depth - 1; mode = READ; least = least_at own (s.depth - 1); condition = eqb (place_at own (s.depth - 1)) 1 }
+pop_to own s left = record { left = left; depth = s.depth - 1; mode = mode.Read; least = least_at own (s.depth - 1); condition = eqb (place_at own (s.depth - 1)) 1 }
 
 -- nothing is read
 pub record Lost (tokens : List ℕ) (r : Reading) : Type 0 where
   pub past : r.left.at ≡ many tokens + 1
   pub none : r.depth ≡ 0
-  pub over : r.mode ≡ ENDED
+  pub over : mode_number r.mode ≡ ENDED
 
 -- what waits from now on
 abbrev pub Waiting : List ℕ → List ℕ → Reading → ℕ → ℕ → ℕ → Type 0
@@ -127,7 +107,7 @@ pub data Took (tokens own now : List ℕ) (s r : Reading) : Type 0 where
       Postfix (s.left.at + 1) left₂ left → r ≡ pop_to own s left → Took tokens own now s r
   unindexed : top_at own s ≡ INDEX → (code_at tokens s.left.at ≡ code right_bracket → ⊥) → Lost tokens r → Took tokens own now s r
   last : (end left : ℕ) → IsItem (top_at own s) → end ≡ past_comma tokens s.left.at (code right_paren) → code_at tokens end ≡ code right_paren → Stored own now s.left.free left link 0 (s.left.free + 1) 0 0 →
-      r ≡ record { left = begins (end + 1) left; depth = s.depth; mode = LISTED; least = s.least; condition = s.condition } → Took tokens own now s r
+      r ≡ record { left = begins (end + 1) left; depth = s.depth; mode = mode.Listed; least = s.least; condition = s.condition } → Took tokens own now s r
   another : (end : ℕ) → IsItem (top_at own s) → end ≡ past_comma tokens s.left.at (code right_paren) → (code_at tokens end ≡ code right_paren → ⊥) → code_at tokens end ≡ code comma_token →
       Waiting own now s ARGUMENT (s.left.free + 1) 0 → r ≡ waits_with s (s.left.at + 1) loosest false → Took tokens own now s r
   unclosed : (end : ℕ) → IsItem (top_at own s) → end ≡ past_comma tokens s.left.at (code right_paren) → (code_at tokens end ≡ code right_paren → ⊥) → (code_at tokens end ≡ code comma_token → ⊥) → Lost tokens r → Took tokens own now s r
@@ -135,17 +115,17 @@ pub data Took (tokens own now : List ℕ) (s r : Reading) : Type 0 where
 -- an expression was read so far: it goes on, or ends
 pub data Gone (tokens own now : List ℕ) (s r : Reading) : Type 0 where
   on : goes_on_with s.least s.left.level s.left.named s.left.dotted (code_at tokens s.left.at) ≡ true → Stepped tokens own now s r → Gone tokens own now s r
-  all : goes_on_with s.least s.left.level s.left.named s.left.dotted (code_at tokens s.left.at) ≡ false → s.depth ≡ 0 → r.left ≡ s.left → r.depth ≡ 0 → r.mode ≡ ENDED → now ≡ own → Gone tokens own now s r
+  all : goes_on_with s.least s.left.level s.left.named s.left.dotted (code_at tokens s.left.at) ≡ false → s.depth ≡ 0 → r.left ≡ s.left → r.depth ≡ 0 → mode_number r.mode ≡ ENDED → now ≡ own → Gone tokens own now s r
   part : goes_on_with s.least s.left.level s.left.named s.left.dotted (code_at tokens s.left.at) ≡ false → 1 ≤ s.depth → Took tokens own now s r → Gone tokens own now s r
 
 -- a list of arguments was read: the one before it takes it, or the call
 pub data Listed (tokens own now : List ℕ) (s r : Reading) : Type 0 where
   more : (left : ℕ) → top_at own s ≡ ARGUMENT → Stored own now s.left.free left link 0 (one_on own s) (s.left.free + 1) 0 →
-      r ≡ record { left = begins s.left.at left; depth = s.depth - 1; mode = LISTED; least = s.least; condition = s.condition } → Listed tokens own now s r
+      r ≡ record { left = begins s.left.at left; depth = s.depth - 1; mode = mode.Listed; least = s.least; condition = s.condition } → Listed tokens own now s r
   called : (left₂ : ℕ) (left : Parsed) → (top_at own s ≡ ARGUMENT → ⊥) → Stored own now s.left.free left₂ (call_form (top_at own s)) 0 (one_on own s) (s.left.free + 1) (two_on own s) →
       Postfix s.left.at left₂ left → r ≡ pop_to own s left → Listed tokens own now s r
 
 pub data Turned (tokens own now : List ℕ) (s r : Reading) : Type 0 where
-  wanting : s.mode ≡ WANTED → Wanted tokens own now s r → Turned tokens own now s r
-  going : s.mode ≡ READ → Gone tokens own now s r → Turned tokens own now s r
-  listing : (s.mode ≡ WANTED → ⊥) → (s.mode ≡ READ → ⊥) → Listed tokens own now s r → Turned tokens own now s r
+  wanting : mode_number s.mode ≡ WANTED → Wanted tokens own now s r → Turned tokens own now s r
+  going : mode_number s.mode ≡ READ → Gone tokens own now s r → Turned tokens own now s r
+  listing : (mode_number s.mode ≡ WANTED → ⊥) → (mode_number s.mode ≡ READ → ⊥) → Listed tokens own now s r → Turned tokens own now s r

@@ -9,31 +9,10 @@ use Rattle.token_grammar.specs.Parser.{no_type, a_name, a_type_prefix, type_star
 use Rattle.token_plain.specs.Trees.{label, type_prefix_label}
 use Rattle.token_reader.specs.Tables.{past_comma}
 use Rattle.token_reader.specs.Pieces.{many, Stored, Ready, TypeAt}
+use Rattle.token_reader.specs.Kinds.{WANTED, READ, LISTED, ENDED, mode_number, POINTER, PATH, ITEM}
+use Rattle.token_reader.specs.declared.piece.Mode.TheVariants as mode
 use Rattle.token_reader.specs.declared.piece.Piece.{Piece}
 use Rattle.token_reader.specs.declared.piece.Typing.{Typing}
-
--- what is done next
-abbrev pub WANTED : ℕ
-WANTED = 0
-
-abbrev pub READ : ℕ
-READ = 1
-
-abbrev pub LISTED : ℕ
-LISTED = 2
-
-abbrev pub ENDED : ℕ
-ENDED = 3
-
--- what waits
-abbrev pub POINTER : ℕ
-POINTER = 0
-
-abbrev pub PATH : ℕ
-PATH = 1
-
-abbrev pub ITEM : ℕ
-ITEM = 2
 
 -- the cells of what waits behind `depth` others
 abbrev pub what_at : List ℕ → ℕ → ℕ
@@ -78,15 +57,15 @@ pub record Able (tokens own : List ℕ) (s : Typing) : Type 0 where
 pub record Turnable (tokens own : List ℕ) (base : ℕ) (s : Typing) : Type 0 where
   pub able : Able tokens own s
   pub above : base ≤ s.depth
-  pub listed : (s.mode ≡ WANTED → ⊥) → (s.mode ≡ READ → ⊥) → 1 ≤ s.depth
+  pub listed : (mode_number s.mode ≡ WANTED → ⊥) → (mode_number s.mode ≡ READ → ⊥) → 1 ≤ s.depth
 
 abbrev pub waits_for : Typing → ℕ → Typing
-waits_for s at = record { at = at; depth = s.depth + 1; mode = WANTED; free = s.free; named = false }
+waits_for s at = record { at = at; depth = s.depth + 1; mode = mode.Wanted; free = s.free; named = false }
 
 -- a type is wanted: there is none, or it is read, or it waits for another
 pub data Wanted (tokens own now : List ℕ) (s r : Typing) : Type 0 where
-  absent : type_start_by (code_at tokens s.at) (token_symbol_at tokens s.at) ≡ no_type → r.at ≡ many tokens + 1 → r.depth ≡ 0 → r.mode ≡ ENDED → now ≡ own → Wanted tokens own now s r
-  whole : TypeAt tokens own now s.at s.free (piece_of r) → s.at < r.at → r.at ≤ many tokens → Stays own now s.depth → r.depth ≡ s.depth → r.mode ≡ READ → Wanted tokens own now s r
+  absent : type_start_by (code_at tokens s.at) (token_symbol_at tokens s.at) ≡ no_type → r.at ≡ many tokens + 1 → r.depth ≡ 0 → mode_number r.mode ≡ ENDED → now ≡ own → Wanted tokens own now s r
+  whole : TypeAt tokens own now s.at s.free (piece_of r) → s.at < r.at → r.at ≤ many tokens → Stays own now s.depth → r.depth ≡ s.depth → mode_number r.mode ≡ READ → Wanted tokens own now s r
   points : (p : TypePrefix) (form detail : ℕ) → s.at < many tokens → type_start_by (code_at tokens s.at) (token_symbol_at tokens s.at) ≡ a_type_prefix p → label form detail ≡ type_prefix_label p →
       Laid own now s.depth POINTER form detail 0 0 → r ≡ waits_for s (s.at + 1) → Wanted tokens own now s r
   applies : s.at < many tokens → type_start_by (code_at tokens s.at) (token_symbol_at tokens s.at) ≡ a_name (token_symbol_at tokens s.at) → code_at tokens (s.at + 1) ≡ number lt → (code_at tokens (s.at + 2) ≡ number gt → ⊥) →
@@ -94,21 +73,21 @@ pub data Wanted (tokens own now : List ℕ) (s r : Typing) : Type 0 where
 
 -- one that waited is done
 abbrev pub Popped : Typing → Typing → ℕ → Type 0
-Popped s r mode = (r.depth + 1 ≡ s.depth) × (r.at ≡ s.at) × (r.mode ≡ mode)
+Popped s r mode = (r.depth + 1 ≡ s.depth) × (r.at ≡ s.at) × (mode_number r.mode ≡ mode)
 
 -- a type was read, and what waits takes it; behind an item a list closes, goes on, or does neither
 pub data Took (tokens own now : List ℕ) (s r : Typing) : Type 0 where
   pointed : what_at own (s.depth - 1) ≡ POINTER → Stored own now s.free r.free (one_at own (s.depth - 1)) (two_at own (s.depth - 1)) (s.free + 1) 0 0 → r.named ≡ s.named → Popped s r READ → Took tokens own now s r
   last : (end : ℕ) → 1 ≤ s.depth → (what_at own (s.depth - 1) ≡ POINTER → ⊥) → end ≡ past_comma tokens s.at (number gt) → code_at tokens end ≡ number gt →
-      Stored own now s.free r.free link 0 (s.free + 1) 0 0 → r ≡ record { at = end + 1; depth = s.depth; mode = LISTED; free = r.free; named = false } → Took tokens own now s r
+      Stored own now s.free r.free link 0 (s.free + 1) 0 0 → r ≡ record { at = end + 1; depth = s.depth; mode = mode.Listed; free = r.free; named = false } → Took tokens own now s r
   another : (end : ℕ) → 1 ≤ s.depth → (what_at own (s.depth - 1) ≡ POINTER → ⊥) → end ≡ past_comma tokens s.at (number gt) → (code_at tokens end ≡ number gt → ⊥) → code_at tokens end ≡ code comma_token →
       Laid own now s.depth ITEM (s.free + 1) 0 0 0 → r ≡ waits_for s (s.at + 1) → Took tokens own now s r
   unclosed : (end : ℕ) → 1 ≤ s.depth → (what_at own (s.depth - 1) ≡ POINTER → ⊥) → end ≡ past_comma tokens s.at (number gt) → (code_at tokens end ≡ number gt → ⊥) → (code_at tokens end ≡ code comma_token → ⊥) →
-      r.at ≡ many tokens + 1 → r.depth ≡ 0 → r.mode ≡ ENDED → now ≡ own → Took tokens own now s r
+      r.at ≡ many tokens + 1 → r.depth ≡ 0 → mode_number r.mode ≡ ENDED → now ≡ own → Took tokens own now s r
 
 -- or that was all
 pub data Taken (tokens own now : List ℕ) (base : ℕ) (s r : Typing) : Type 0 where
-  all : s.depth ≡ base → piece_of r ≡ piece_of s → now ≡ own → r.depth ≡ s.depth → r.mode ≡ ENDED → Taken tokens own now base s r
+  all : s.depth ≡ base → piece_of r ≡ piece_of s → now ≡ own → r.depth ≡ s.depth → mode_number r.mode ≡ ENDED → Taken tokens own now base s r
   part : (s.depth ≡ base → ⊥) → Took tokens own now s r → Taken tokens own now base s r
 
 -- a list was read: the item before it takes it, or the path
@@ -117,6 +96,6 @@ pub data Listed (tokens own now : List ℕ) (s r : Typing) : Type 0 where
   applied : (what_at own (s.depth - 1) ≡ ITEM → ⊥) → Stored own now s.free r.free type_path 2 0 (s.free + 1) (one_at own (s.depth - 1)) → r.named ≡ false → Popped s r READ → Listed tokens own now s r
 
 pub data Turned (tokens own now : List ℕ) (base : ℕ) (s r : Typing) : Type 0 where
-  wanting : s.mode ≡ WANTED → Wanted tokens own now s r → Turned tokens own now base s r
-  taking : s.mode ≡ READ → Taken tokens own now base s r → Turned tokens own now base s r
-  listing : (s.mode ≡ WANTED → ⊥) → (s.mode ≡ READ → ⊥) → Listed tokens own now s r → Turned tokens own now base s r
+  wanting : mode_number s.mode ≡ WANTED → Wanted tokens own now s r → Turned tokens own now base s r
+  taking : mode_number s.mode ≡ READ → Taken tokens own now base s r → Turned tokens own now base s r
+  listing : (mode_number s.mode ≡ WANTED → ⊥) → (mode_number s.mode ≡ READ → ⊥) → Listed tokens own now s r → Turned tokens own now base s r

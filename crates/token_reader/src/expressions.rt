@@ -6,47 +6,26 @@ ghost use Rattle.token_grammar.specs.Tokens.{as_token, name_token, dot, struct_t
 ghost use Rattle.token_grammar.specs.Codes.{code_at};
 ghost use Rattle.token_grammar.specs.Levels.{prefixes, level};
 ghost use Rattle.token_reader.specs.Pieces.{many, stands_in, Ready, Postfix, AtomAt, ExprAt, CastAt, MemberAt, TryAt};
-ghost use Rattle.token_reader.specs.Waiting as waiting;
+ghost use Rattle.token_reader.specs.Kinds.{PREFIX, number_of};
+ghost use Rattle.token_reader.specs.declared.piece.Mode.TheVariants as mode;
 ghost use Rattle.token_reader.specs.Waiting.{Stays};
-ghost use Rattle.token_reader.specs.Turns as waits;
 ghost use Rattle.token_reader.specs.Turns.{IsCall, call_form, Able, Turnable, begins, waits_with, came_to, Lost, Waiting, Wanted, Calling, Stepped, top_at, IsItem, Took, Gone, Listed, Turned};
 
-use crate::node::{LEAST, ONE, PLACE, TWO, lay, store, store_named};
-use crate::piece::{ENDED, LISTED, Parsed, READ, Reading, WANTED, no_expr};
+use crate::node::{LEAST, ONE, PLACE, TWO, Waits, lay, store, store_named};
+use crate::piece::{Mode, Parsed, Reading, no_expr};
 use crate::token::{code_at, lowest_after, operator_detail, operator_form, past_comma, symbol_at};
 use crate::types::ty;
-use bools::bit;
 use token_follow::{goes_on, level_of};
 use token_grammar::{codes, level};
 use tree::{forms, sizes};
-
-// What waits: a Unary or a Reference, with its form and detail;
-const PREFIX: u16 = 3;
-
-// a parenthesis;
-const GROUP: u16 = 4;
-
-// a Binary or an Assign, with its first operand and its code;
-const BINARY: u16 = 5;
-
-// an Index, with its first operand;
-const INDEX: u16 = 6;
-
-// a Call or a MethodCall, with its first operand and its symbol;
-const CALL: u16 = 7;
-
-const METHOD: u16 = 8;
-
-// an argument for those behind it, with its number.
-const ARGUMENT: u16 = 9;
 
 // What binds as strongly as the postfix forms, and ends in no name that matters.
 fn strongest(at: usize, free: u16) -> Parsed
     ensures { Postfix at free result }
 {
     Parsed {
-        at: at,
-        free: free,
+        at,
+        free,
         level: level::POSTFIXES,
         named: false,
         dotted: false,
@@ -113,7 +92,7 @@ fn member(
         ),
         level: level::POSTFIXES,
         named: false,
-        dotted: dotted,
+        dotted,
     }
 }
 
@@ -133,11 +112,9 @@ fn came(s: Reading, left: Parsed) -> Reading
     ensures { result ≡ came_to s left }
 {
     Reading {
-        left: left,
-        depth: s.depth,
-        mode: READ,
-        least: s.least,
-        condition: s.condition,
+        left,
+        mode: Mode::Read,
+        ..s
     }
 }
 
@@ -148,7 +125,7 @@ fn failed(tokens: &[u16]) -> Reading
     Reading {
         left: no_expr(tokens),
         depth: 0,
-        mode: ENDED,
+        mode: Mode::Ended,
         least: 0,
         condition: false,
     }
@@ -159,8 +136,8 @@ fn start(at: usize, free: u16) -> Parsed
     ensures { result ≡ begins at free }
 {
     Parsed {
-        at: at,
-        free: free,
+        at,
+        free,
         level: 0,
         named: false,
         dotted: false,
@@ -171,7 +148,7 @@ fn start(at: usize, free: u16) -> Parsed
 fn wait(
     own: &mut [u16],
     s: Reading,
-    what: u16,
+    what: Waits,
     one: u16,
     two: u16,
     at: usize,
@@ -179,16 +156,24 @@ fn wait(
     condition: bool,
 ) -> Reading
     requires { node_cells * s.depth + node_cells ≤ length own.old }
-    ensures { Waiting own.old own.new s what one two × (result ≡ waits_with s at least condition) }
+    ensures { Waiting own.old own.new s (number_of what) one two × (result ≡ waits_with s at least condition) }
 {
     let left = s.left;
-    lay(own, s.depth, what, one, two, s.least, bit(s.condition));
+    lay(
+        own,
+        s.depth,
+        what,
+        one,
+        two,
+        s.least,
+        u16::from(s.condition),
+    );
     Reading {
         left: start(at, left.free),
         depth: s.depth + 1,
-        mode: WANTED,
-        least: least,
-        condition: condition,
+        mode: Mode::Wanted,
+        least,
+        condition,
     }
 }
 
@@ -207,13 +192,13 @@ fn structure(tokens: &[u16], own: &mut [u16], s: Reading) -> Reading
 // A Unary or a Reference, which waits for its operand.
 fn prefix(own: &mut [u16], s: Reading, form: u16, detail: u16) -> Reading
     requires { (node_cells * s.depth + node_cells ≤ length own.old) × (s.left.at < most_tokens) }
-    ensures { Waiting own.old own.new s waits.PREFIX form detail × (result ≡ waits_with s (s.left.at + 1) (level prefixes) s.condition) }
+    ensures { Waiting own.old own.new s PREFIX form detail × (result ≡ waits_with s (s.left.at + 1) (level prefixes) s.condition) }
 {
     let left = s.left;
     wait(
         own,
         s,
-        PREFIX,
+        Waits::Prefix,
         form,
         detail,
         left.at + 1,
@@ -236,7 +221,10 @@ fn begin(tokens: &[u16], own: &mut [u16], s: Reading) -> Reading
         codes::AND_MUT => prefix(own, s, forms::EXPR_REFERENCE, 1),
         codes::NAME => came(s, atom(tokens, own, left.at, left.free, forms::EXPR_PATH)),
         codes::LITERAL => came(s, atom(tokens, own, left.at, left.free, forms::EXPR_LIT)),
-        codes::LEFT_PAREN => wait(own, s, GROUP, 0, 0, left.at + 1, level::LOOSEST, false),
+        codes::LEFT_PAREN => {
+            let next = left.at + 1;
+            wait(own, s, Waits::Group, 0, 0, next, level::LOOSEST, false)
+        }
         codes::STRUCT => structure(tokens, own, s),
         _ => failed(tokens),
     }
@@ -248,11 +236,11 @@ fn call(
     own: &mut [u16],
     s: Reading,
     at: usize,
-    what: u16,
+    what: Waits,
     form: u16,
     symbol: u16,
 ) -> Reading
-    requires { Able tokens.now own.old s × IsCall what × (form ≡ call_form what) × Calling tokens.now (stands_in s.condition) s.left at form symbol }
+    requires { Able tokens.now own.old s × IsCall (number_of what) × (form ≡ call_form (number_of what)) × Calling tokens.now (stands_in s.condition) s.left at form symbol }
     ensures { Stepped tokens.now own.old own.new s result }
 {
     let left = s.left;
@@ -279,7 +267,7 @@ fn named(tokens: &[u16], own: &mut [u16], s: Reading) -> Reading
         own,
         s,
         left.at + 2,
-        METHOD,
+        Waits::Method,
         forms::EXPR_METHOD_CALL,
         symbol,
     )
@@ -324,7 +312,7 @@ fn step(tokens: &[u16], own: &mut [u16], s: Reading, code: u16) -> Reading
             wait(
                 own,
                 s,
-                BINARY,
+                Waits::Binary,
                 left.free + 1,
                 code,
                 next,
@@ -334,8 +322,11 @@ fn step(tokens: &[u16], own: &mut [u16], s: Reading, code: u16) -> Reading
         }
         codes::AS => convert(tokens, own, s),
         codes::DOT => dot(tokens, own, s),
-        codes::LEFT_PAREN => call(tokens, own, s, left.at, CALL, forms::EXPR_CALL, 0),
-        codes::LEFT_BRACKET => wait(own, s, INDEX, left.free + 1, 0, next, level::LOOSEST, false),
+        codes::LEFT_PAREN => call(tokens, own, s, left.at, Waits::Call, forms::EXPR_CALL, 0),
+        codes::LEFT_BRACKET => {
+            let one = left.free + 1;
+            wait(own, s, Waits::Index, one, 0, next, level::LOOSEST, false)
+        }
         codes::QUESTION => came(s, attempt(tokens, own, left)),
         _ => failed(tokens),
     }
@@ -344,12 +335,12 @@ fn step(tokens: &[u16], own: &mut [u16], s: Reading, code: u16) -> Reading
 // One that waited goes on, with what it has now.
 fn pop(s: Reading, left: Parsed, lowest: u16, place: u16) -> Reading
     requires { 1 ≤ s.depth }
-    ensures { result ≡ record { left = left; depth = s.depth - 1; mode = waiting.READ; least = lowest; condition = eqb place 1 } }
+    ensures { result ≡ record { left = left; depth = s.depth - 1; mode = mode.Read; least = lowest; condition = eqb place 1 } }
 {
     Reading {
-        left: left,
+        left,
         depth: s.depth - 1,
-        mode: READ,
+        mode: Mode::Read,
         least: lowest,
         condition: place == 1,
     }
@@ -357,14 +348,13 @@ fn pop(s: Reading, left: Parsed, lowest: u16, place: u16) -> Reading
 
 // A list was read up to `at`.
 fn list(s: Reading, depth: usize, at: usize, free: u16) -> Reading
-    ensures { result ≡ record { left = begins at free; depth = depth; mode = waiting.LISTED; least = s.least; condition = s.condition } }
+    ensures { result ≡ record { left = begins at free; depth = depth; mode = mode.Listed; least = s.least; condition = s.condition } }
 {
     Reading {
         left: start(at, free),
-        depth: depth,
-        mode: LISTED,
-        least: s.least,
-        condition: s.condition,
+        depth,
+        mode: Mode::Listed,
+        ..s
     }
 }
 
@@ -384,7 +374,7 @@ fn after_item(tokens: &[u16], own: &mut [u16], s: Reading) -> Reading
         return wait(
             own,
             s,
-            ARGUMENT,
+            Waits::Argument,
             left.free + 1,
             0,
             left.at + 1,
@@ -408,25 +398,25 @@ fn take(tokens: &[u16], own: &mut [u16], s: Reading) -> Reading
     let least = own[top + LEAST];
     let place = own[top + PLACE];
     let code = code_at(tokens, left.at);
-    match what {
-        PREFIX => {
+    match Waits::try_from(what) {
+        Ok(Waits::Prefix) => {
             let free = store(own, left.free, one, two, left.free + 1, 0, 0);
             let whole = Parsed {
                 at: left.at,
-                free: free,
+                free,
                 level: level::PREFIXES,
                 named: left.named,
                 dotted: left.dotted,
             };
             pop(s, whole, least, place)
         }
-        GROUP => {
+        Ok(Waits::Group) => {
             if code != codes::RIGHT_PAREN {
                 return failed(tokens);
             }
             pop(s, strongest(left.at + 1, left.free), least, place)
         }
-        BINARY => {
+        Ok(Waits::Binary) => {
             let free = store(
                 own,
                 left.free,
@@ -438,14 +428,14 @@ fn take(tokens: &[u16], own: &mut [u16], s: Reading) -> Reading
             );
             let whole = Parsed {
                 at: left.at,
-                free: free,
+                free,
                 level: level_of(two),
                 named: left.named,
                 dotted: left.dotted,
             };
             pop(s, whole, least, place)
         }
-        INDEX => {
+        Ok(Waits::Index) => {
             if code != codes::RIGHT_BRACKET {
                 return failed(tokens);
             }
@@ -468,11 +458,8 @@ fn go_on(tokens: &[u16], own: &mut [u16], s: Reading) -> Reading
     }
     if s.depth == 0 {
         return Reading {
-            left: left,
-            depth: 0,
-            mode: ENDED,
-            least: s.least,
-            condition: s.condition,
+            mode: Mode::Ended,
+            ..s
         };
     }
     take(tokens, own, s)
@@ -482,7 +469,7 @@ fn go_on(tokens: &[u16], own: &mut [u16], s: Reading) -> Reading
 fn call_form(what: u16) -> u16
     ensures { result ≡ call_form what }
 {
-    if what == METHOD {
+    if what == Waits::Method.number() {
         forms::EXPR_METHOD_CALL
     } else {
         forms::EXPR_CALL
@@ -501,7 +488,7 @@ fn close(tokens: &[u16], own: &mut [u16], s: Reading) -> Reading
     let two = own[top + TWO];
     let least = own[top + LEAST];
     let place = own[top + PLACE];
-    if what == ARGUMENT {
+    if what == Waits::Argument.number() {
         let free = store(own, left.free, forms::LINK, 0, one, left.free + 1, 0);
         return list(s, s.depth - 1, left.at, free);
     }
@@ -513,13 +500,11 @@ fn turn(tokens: &[u16], own: &mut [u16], s: Reading) -> Reading
     requires { Turnable tokens.now own.old s }
     ensures { Turned tokens.now own.old own.new s result }
 {
-    if s.mode == WANTED {
-        return begin(tokens, own, s);
+    match s.mode {
+        Mode::Wanted => begin(tokens, own, s),
+        Mode::Read => go_on(tokens, own, s),
+        Mode::Listed | Mode::Ended => close(tokens, own, s),
     }
-    if s.mode == READ {
-        return go_on(tokens, own, s);
-    }
-    close(tokens, own, s)
 }
 
 // An expression of level `min` or more that starts at `at`; `condition` says whether it stands in a condition outside
@@ -538,11 +523,11 @@ pub(crate) fn expr(
     let mut s = Reading {
         left: start(at, free),
         depth: 0,
-        mode: WANTED,
+        mode: Mode::Wanted,
         least: min,
-        condition: condition,
+        condition,
     };
-    while s.mode != ENDED {
+    while s.mode != Mode::Ended {
         s = turn(tokens, own, s);
     }
     s.left

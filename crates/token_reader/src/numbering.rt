@@ -10,9 +10,13 @@ ghost use Rattle.tree_numbering.specs.Numbered.{size, cells_from};
 ghost use Rattle.tree_numbering.specs.Renumbering.{renumbered, renumbered_after};
 ghost use Rattle.token_reader.specs.Mirrored.{Due, Spanned, Measured, Placeable, numbers_on, stored_on};
 
+use tree::table::Table;
 use tree::{offsets, sizes};
-use tree_labels::level::{larger, level_of};
-use tree_numbering::{Renumbered, renumber};
+use tree_labels::level::level_of;
+use tree_numbering::{Unfit, renumber};
+
+// The most nodes of the reader's own table.
+const MOST: u16 = sizes::MOST_TOKENS as u16;
 
 // Whether an operand is absent or has the number that is due.
 fn is_due(operand: u16, due: u16, nodes: u16) -> bool
@@ -70,7 +74,7 @@ fn measure_one(
     }
     let one = place_of(first, base);
     let at = place_of(node, base);
-    let height = larger(heights[one], heights[two]);
+    let height = heights[one].max(heights[two]);
     spans[at] = due - node + spans[one];
     heights[at] = level_of(own[cells]) + height;
     true
@@ -83,12 +87,10 @@ fn measure(own: &[u16], nodes: u16, base: u16, spans: &mut [u16], heights: &mut 
 {
     spans[0] = 0;
     heights[0] = 0;
-    let mut node = nodes;
-    while base < node {
-        if !measure_one(own, nodes, base, node, spans, heights) {
+    for before in (base..nodes).rev() {
+        if !measure_one(own, nodes, base, before + 1, spans, heights) {
             return false;
         }
-        node -= 1;
     }
     true
 }
@@ -141,10 +143,8 @@ fn place(own: &[u16], nodes: u16, base: u16, spans: &[u16], numbers: &mut [u16],
 {
     numbers[1] = 1;
     let end = base + spans[1];
-    let mut done = base;
-    while done < end {
+    for done in base..end {
         place_one(own, base, done, spans, numbers, out);
-        done += 1;
     }
 }
 
@@ -156,65 +156,71 @@ fn number_by(
     spans: &mut [u16],
     heights: &mut [u16],
     out: &mut [u16],
-) -> Renumbered
+) -> Result<u16, Unfit>
     requires { (node_cells * nodes ≤ length own.now) × (nodes ≤ most_tokens) × (base < nodes) × (nodes - base ≤ most_nodes) × (nodes - base < length spans.old) × (nodes - base < length heights.old) }
     ensures reply { result ≡ renumbered (tree_at own.now most_tokens (suc base)) (length out.old) }
     ensures out { out.new ≡ renumbered_after (tree_at own.now most_tokens (suc base)) out.old }
 {
     if !measure(own, nodes, base, spans, heights) {
-        return renumber(own, MOST, base + 1, out);
+        let table = Table {
+            cells: own,
+            count: MOST,
+        };
+        return renumber(&table, base + 1, out);
     }
     if heights[1] > sizes::MOST_LEVELS {
-        return Renumbered::TooLarge;
+        return Err(Unfit::TooLarge);
     }
     let count = spans[1];
     if out.len() < sizes::NODE_CELLS * (count as usize) {
-        return Renumbered::TooShort;
+        return Err(Unfit::TooShort);
     }
     place(own, nodes, base, spans, heights, out);
-    Renumbered::Nodes(count)
+    Ok(count)
 }
 
-// The most nodes of the reader's own table.
-const MOST: u16 = sizes::MOST_TOKENS as u16;
+// The arrays of fewer than 64 nodes, which are quickly made, and of as many as a table may have.
+const FEW: u16 = 64;
 
-// The same for fewer than 64 nodes, with arrays that are quickly made.
-fn number_few(own: &[u16], nodes: u16, base: u16, out: &mut [u16]) -> Renumbered
-    requires { (node_cells * nodes ≤ length own.now) × (nodes ≤ most_tokens) × (base < nodes) × (nodes - base < 64) }
+const FEW_SPANS: usize = FEW as usize;
+
+const MOST_SPANS: usize = sizes::MOST_NODES as usize + 1;
+
+// The same with arrays of so many numbers.
+fn number_within<const SPANS: usize>(
+    own: &[u16],
+    nodes: u16,
+    base: u16,
+    out: &mut [u16],
+) -> Result<u16, Unfit>
+    requires { (node_cells * nodes ≤ length own.now) × (nodes ≤ most_tokens) × (base < nodes) × (nodes - base < SPANS) × (SPANS ≤ most_nodes + 1) }
     ensures reply { result ≡ renumbered (tree_at own.now most_tokens (suc base)) (length out.old) }
     ensures out { out.new ≡ renumbered_after (tree_at own.now most_tokens (suc base)) out.old }
 {
-    let mut spans = [0u16; 64];
-    let mut heights = [0u16; 64];
-    number_by(own, nodes, base, &mut spans, &mut heights, out)
-}
-
-// The same for as many nodes as a table may have.
-fn number_many(own: &[u16], nodes: u16, base: u16, out: &mut [u16]) -> Renumbered
-    requires { (node_cells * nodes ≤ length own.now) × (nodes ≤ most_tokens) × (base < nodes) × (nodes - base ≤ most_nodes) }
-    ensures reply { result ≡ renumbered (tree_at own.now most_tokens (suc base)) (length out.old) }
-    ensures out { out.new ≡ renumbered_after (tree_at own.now most_tokens (suc base)) out.old }
-{
-    let mut spans = [0u16; sizes::MOST_NODES as usize + 1];
-    let mut heights = [0u16; sizes::MOST_NODES as usize + 1];
+    let mut spans = [0u16; SPANS];
+    let mut heights = [0u16; SPANS];
     number_by(own, nodes, base, &mut spans, &mut heights, out)
 }
 
 // The tree at the node behind the first `base` of the reader's own table into a lent one, numbered from 1.
-pub(crate) fn number(own: &[u16], nodes: u16, base: u16, out: &mut [u16]) -> Renumbered
+pub(crate) fn number(own: &[u16], nodes: u16, base: u16, out: &mut [u16]) -> Result<u16, Unfit>
     requires { (node_cells * nodes ≤ length own.now) × (nodes ≤ most_tokens) × (base ≤ nodes) }
     ensures reply { result ≡ renumbered (tree_at own.now most_tokens (suc base)) (length out.old) }
     ensures out { out.new ≡ renumbered_after (tree_at own.now most_tokens (suc base)) out.old }
 {
     let count = nodes - base;
+    let table = Table {
+        cells: own,
+        count: MOST,
+    };
     if count == 0 {
-        return renumber(own, MOST, base + 1, out);
+        return renumber(&table, base + 1, out);
     }
-    if count < 64 {
-        return number_few(own, nodes, base, out);
+    if count < FEW {
+        return number_within::<FEW_SPANS>(own, nodes, base, out);
     }
     if count <= sizes::MOST_NODES {
-        return number_many(own, nodes, base, out);
+        return number_within::<MOST_SPANS>(own, nodes, base, out);
     }
-    renumber(own, MOST, base + 1, out)
+    renumber(&table, base + 1, out)
 }

@@ -4,20 +4,21 @@ ghost use Rattle.token_reader.specs.Pieces.{many};
 
 use tree::sizes;
 
-// What is done next: a type or an expression that starts here is read,
-pub const WANTED: u16 = 0;
-
-// what waits takes the type that was read, or the expression goes on or ends,
-pub const READ: u16 = 1;
-
-// or what waits takes the list, with the sign that closes it.
-pub const LISTED: u16 = 2;
-
-// Nothing is.
-pub const ENDED: u16 = 3;
+// What is done next.
+#[derive(Clone, Copy, Debug, PartialEq, Eq)]
+pub enum Mode {
+    // A type or an expression that starts here is read.
+    Wanted,
+    // What waits takes the type that was read, or the expression goes on or ends.
+    Read,
+    // What waits takes the list, with the sign that closes it.
+    Listed,
+    // Nothing is.
+    Ended,
+}
 
 // A type, or a list with the sign that closes it. It is the node after the free ones.
-#[derive(Drop)]
+#[derive(Clone, Copy)]
 pub struct Piece {
     // The place of the first token behind it, or one past the end where there is none.
     pub at: usize,
@@ -34,7 +35,7 @@ pub struct Typing {
     // How many wait.
     pub depth: usize,
     // What is done next.
-    pub mode: u16,
+    pub mode: Mode,
     pub free: u16,
     pub named: bool,
 }
@@ -60,7 +61,7 @@ pub struct Reading {
     // How many wait.
     pub depth: usize,
     // What is done next.
-    pub mode: u16,
+    pub mode: Mode,
     // The lowest level that the expression may have.
     pub least: u16,
     // Whether it stands in a condition outside every parenthesis, bracket and list.

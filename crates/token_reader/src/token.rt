@@ -34,16 +34,7 @@ pub fn symbol_at(tokens: &[u16], at: usize) -> u16
 fn carries_symbol(code: u16) -> bool
     ensures { result ≡ carries code }
 {
-    if code == codes::NAME {
-        return true;
-    }
-    if code == codes::LITERAL {
-        return true;
-    }
-    if code == codes::NUMBERED_MEMBER {
-        return true;
-    }
-    false
+    matches!(code, codes::NAME | codes::LITERAL | codes::NUMBERED_MEMBER)
 }
 
 // Whether a code and a symbol are a token's.

@@ -45,14 +45,14 @@ use Rattle.token_rows.proofs.Contexts.{begun}
 use Rattle.token_rows.proofs.Tokens.{tokens_for, tokens_are}
 use Rattle.token_rows.proofs.LeftOut.{tokens_but, marked_at, tokens_without}
 use Rattle.token_rows.proofs.Numbers.{pair_at, tokens_from, tokens_leaving}
-use Rattle.token_writer.specs.declared.Written.TheVariants.{Tokens}
-use Rattle.token_writer.specs.Writes.{rows_for, written, pairs_written, takes_context, answered, tokens_after}
+use Rattle.std.specs.Prelude.{Result, Ok}
+use Rattle.tree.specs.declared.refusal.Refusal.{Refusal}
+use Rattle.tree.specs.Replies.{replied}
+use Rattle.token_writer.specs.Writes.{rows_for, written, pairs_written, takes_context, counted, answered, tokens_after}
 use Rattle.token_writer.proofs.Bounds.{tokens_bound}
 use Rattle.token_writer.proofs.Pairs as writer
 use Rattle.token_writer.proofs.Replies.{not_refused}
 use Rattle.token_writer.proofs.Tokens.{length_cells}
-use Rattle.token_reader.specs.declared.Reply.{Reply}
-use Rattle.token_reader.specs.declared.Reply.TheVariants.{Nodes}
 use Rattle.token_reader.specs.Reading.{read_refusal12, read_refusal13, refusal14, count_or_large, read_table, context_of, AnswersIn, Answers}
 use Rattle.token_theorem.specs.Statement.{meant, Added, written_but, Removed, Promise, FilePromise, WritesNone, NoStruct, SameTokens}
 use Rattle.token_theorem.proofs.LeftOut.{removed}
@@ -66,7 +66,7 @@ unfolding takes_context
 taken NONE = refl
 taken CONDITION = refl
 
-inside : (k : Context) {tokens table after : List ℕ} {reply : Reply} → Answers (context_number k) tokens table reply after → AnswersIn k tokens table reply after
+inside : (k : Context) {tokens table after : List ℕ} {reply : Result ℕ Refusal} → Answers (context_number k) tokens table reply after → AnswersIn k tokens table reply after
 unfolding refusal3 read_refusal13 context_of pick
 inside NONE a = a.inside refl refl
 inside CONDITION a = a.inside refl refl
@@ -83,9 +83,9 @@ module _ (k : Context) (count : ℕ) (cells : List ℕ) (ok : Accepted (context_
   -- ---- the writer
 
   stores : (tokens : List ℕ) → token_cells * tokens_per_node * count ≤ length tokens
-      → (answered context count cells (length tokens) ≡ Tokens (pairs_written context count cells) (length (written context count cells)))
+      → (answered context count cells (length tokens) ≡ Ok (counted (pairs_written context count cells) (length (written context count cells))))
       × (tokens_after context count cells tokens ≡ over (cells_of (written context count cells)) tokens)
-  unfolding answered tokens_after
+  unfolding answered tokens_after replied
   stores tokens room = let e = eq-eqb _ 0 (not_refused context count cells tokens ok room (taken k) plain) in (pick_true _ _ e, pick_true _ _ e)
 
   abbrev pub root : Tree
@@ -132,8 +132,8 @@ module _ (k : Context) (count : ℕ) (cells : List ℕ) (ok : Accepted (context_
       or_next (not (are_tokens (cells_of (written context count cells)))) (le-ltb (token_cells * most_tokens) (length (cells_of (written context count cells))) (omega (arith, length_cells (written context count cells), (tokens_bound context count cells ok).1)))
       ∙ ap not k
 
-  returned : (table after : List ℕ) (reply : Reply) → node_cells * most_nodes ≤ length table → Answers context (cells_of (written context count cells)) table reply after
-      → (reply ≡ Nodes (size (meant count cells))) × (after ≡ over (numbered (meant count cells)) table)
+  returned : (table after : List ℕ) (reply : Result ℕ Refusal) → node_cells * most_nodes ≤ length table → Answers context (cells_of (written context count cells)) table reply after
+      → (reply ≡ Ok (size (meant count cells))) × (after ≡ over (numbered (meant count cells)) table)
   unfolding count_or_large read_table read_refusal12
   returned table after reply long a =
       let r = (inside k a).read (le-ltb (length table) (node_cells * most_nodes) long) known (meant count cells) reads in

@@ -1,5 +1,5 @@
 -- What is promised of every accepted plain tree in context 0 or 3, however its nodes are numbered.
-use Rattle.std.specs.Prelude.{◌≡◌, true, false, List, [], ◌∷◌, ◌++◌, ℕ, ◌*◌, ◌≤◌, eqb, length}
+use Rattle.std.specs.Prelude.{◌≡◌, true, false, List, [], ◌∷◌, ◌++◌, ℕ, ◌*◌, ◌≤◌, eqb, length, Result, Ok}
 use Rattle.laws.specs.Lists.{over}
 use Rattle.tree.specs.Sizes.{node_cells, token_cells, tokens_per_node, most_nodes}
 use Rattle.tree.specs.Forms.{expr_struct}
@@ -17,10 +17,8 @@ use Rattle.token_plain.specs.Written.{tokens_at, has_pair, but_at}
 use Rattle.token_plain.specs.Reads.{Reads}
 use Rattle.tree_numbering.specs.Numbered.{size, numbered}
 use Rattle.file_loader.specs.Files.{context_in, count_in, cells_in, file_refusal}
-use Rattle.token_writer.specs.declared.Written.TheVariants.{Tokens}
-use Rattle.token_writer.specs.Writes.{rows_for, written, pairs_written, answered, tokens_after}
-use Rattle.token_reader.specs.declared.Reply.{Reply}
-use Rattle.token_reader.specs.declared.Reply.TheVariants.{Nodes}
+use Rattle.token_writer.specs.Writes.{rows_for, written, pairs_written, counted, answered, tokens_after}
+use Rattle.tree.specs.declared.refusal.Refusal.{Refusal}
 use Rattle.token_reader.specs.Reading.{Answers}
 
 -- T without its own parentheses, where T is the tree of the table
@@ -46,15 +44,15 @@ pub record Removed (inside before after : List Token) : Type 0 where
 pub record Demand3 (k : Context) (count : ℕ) (cells : List ℕ) : Type 0 where
   -- The writer stores the tokens written, two cells each, over the start of any buffer of twelve cells a node, and answers how many pairs and tokens they are.
   pub stores : (tokens : List ℕ) → token_cells * tokens_per_node * count ≤ length tokens
-      → (answered (context_number k) count cells (length tokens) ≡ Tokens (pairs_written (context_number k) count cells) (length (written (context_number k) count cells)))
+      → (answered (context_number k) count cells (length tokens) ≡ Ok (counted (pairs_written (context_number k) count cells) (length (written (context_number k) count cells))))
       × (tokens_after (context_number k) count cells tokens ≡ over (cells_of (written (context_number k) count cells)) tokens)
   -- They have a reading, which is T without its own parentheses,
   pub reads : Reads k (cells_of (written (context_number k) count cells)) (meant count cells)
   -- and no other.
   pub only : (t : Tree) → Reads k (cells_of (written (context_number k) count cells)) t → t ≡ meant count cells
   -- The reader stores it over the start of any table of 4,096 nodes, and answers how many nodes it has.
-  pub returned : (table after : List ℕ) (reply : Reply) → node_cells * most_nodes ≤ length table → Answers (context_number k) (cells_of (written (context_number k) count cells)) table reply after
-      → (reply ≡ Nodes (size (meant count cells))) × (after ≡ over (numbered (meant count cells)) table)
+  pub returned : (table after : List ℕ) (reply : Result ℕ Refusal) → node_cells * most_nodes ≤ length table → Answers (context_number k) (cells_of (written (context_number k) count cells)) table reply after
+      → (reply ≡ Ok (size (meant count cells))) × (after ≡ over (numbered (meant count cells)) table)
   -- Leaving out a pair that we added removes its two tokens, between which node j's own stand, and no other,
   pub left_out : (j : ℕ) → Added k count cells j → Removed (written_but k j count cells j) (written (context_number k) count cells) (written_but k j count cells 1)
   -- and no reading of what remains is that tree, nor one that differs from it in symbols alone.

@@ -2,7 +2,7 @@ pub mod Bounds
 pub mod ByLevels
 pub mod Loops
 pub mod Pairs
-pub mod Plains
+pub mod Replied
 pub mod Replies
 pub mod Shapes
 pub mod Spelling

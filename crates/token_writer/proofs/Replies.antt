@@ -7,7 +7,10 @@ use native.Mathlib.Omega.{arith}
 use lib.Dec.{eqb}
 use lib.ListN.{length}
 use borrow.Author.Tests.{eq-eqb, ne_eqb, lt-ltb, le-ltb, eqb-true}
-use Rattle.laws.specs.Choice.{pick}
+use Rattle.std.specs.Prelude.{Result, Ok, Err}
+use Rattle.laws.specs.Choice.{pick, lookup}
+use Rattle.tree.specs.declared.refusal.Refusal.{Refusal}
+use Rattle.tree.specs.Replies.{refusals, replied}
 use Rattle.laws.specs.Lists.{over}
 use Rattle.laws.proofs.Choice.{pick_true, pick_false, or_here, or_next, true_not_false}
 use Rattle.tree.specs.Sizes.{node_cells, token_cells, tokens_per_node, most_nodes, most_tokens}
@@ -19,10 +22,11 @@ use Rattle.token_grammar.specs.Tokens.{cells_of}
 use Rattle.token_grammar.specs.Grammar.{Context, NONE, CONDITION, context_number}
 use Rattle.token_plain.specs.Plain.{plain_table}
 use Rattle.token_writer.specs.declared.Written.{Written}
-use Rattle.token_writer.specs.declared.Written.TheVariants.{Refused, Tokens}
 use Rattle.token_writer.specs.Levels.{place, tokens_by, pairs_by}
 use Rattle.token_writer.specs.Tasks.{cells_by, pairs_at, enter_work, root_in, tasks_for}
-use Rattle.token_writer.specs.Writes.{takes_context, written, pairs_written, write_refusal12, refusal13, write_refusal, answered, tokens_after}
+use Rattle.token_writer.specs.Writes.{takes_context, written, pairs_written, write_refusal12, refusal13, write_refusal, counted, answered, tokens_after}
+use Rattle.tree.specs.declared.refusal.Refusal.TheVariants.{Short, NotPlain, EntryEnds}
+use Rattle.token_writer.proofs.Replied.{replied_err, refused_any}
 use Rattle.token_writer.proofs.Bounds.{tokens_bound, pairs_most}
 use Rattle.token_writer.proofs.ByLevels.{flag}
 use Rattle.token_writer.proofs.Pairs.{written_by_places, pairs_by_places}
@@ -64,45 +68,49 @@ by_places context count cells taken =
 
 module _ (context count : ℕ) (cells tokens : List ℕ) where
   -- what the two clauses of the contract say of a reply and of the buffer afterwards
-  abbrev pub Answers : Written → List ℕ → Type 0
+  abbrev pub Answers : Result Written Refusal → List ℕ → Type 0
   Answers r after = (r ≡ answered context count cells (length tokens)) × (after ≡ tokens_after context count cells tokens)
 
   -- a refusal leaves the buffer as it was
-  refuses : (r : ℕ) → r ≡ write_refusal context count cells (length tokens) → (r ≡ 0 → ⊥) → Answers (Refused r) tokens
-  unfolding answered tokens_after
-  refuses r e n =
-      let f : eqb (write_refusal context count cells (length tokens)) 0 ≡ false = rw (← e) (ne_eqb r 0 n) in
-      (ap Refused e ∙ sym (pick_false _ _ f), sym (pick_false _ _ f))
+  refuses : (r : Result Written Refusal) (n : ℕ) (w : Written) → r ≡ replied n w → n ≡ write_refusal context count cells (length tokens) → (n ≡ 0 → ⊥) → Answers r tokens
+  unfolding answered tokens_after replied
+  refuses r n w x e z =
+      let f : eqb n 0 ≡ false = ne_eqb n 0 z in
+      let g : eqb (write_refusal context count cells (length tokens)) 0 ≡ false = rw (← e) f in
+      (x ∙ pick_false _ _ f ∙ ap (λ m. Err (lookup refusals EntryEnds m)) e ∙ sym (pick_false _ _ g), sym (pick_false _ _ g))
 
-  pub refused : (r : ℕ) → r ≡ refusal context count cells → (r ≡ 0 → ⊥) → Answers (Refused r) tokens
+  pub refused : (e : Refusal) → Err e ≡ replied {A = Unit {0}} (refusal context count cells) tt → Answers (Err e) tokens
   unfolding write_refusal
-  refused r e n = refuses r (e ∙ sym (pick_false _ _ (rw (← e) (ne_eqb r 0 n)))) n
+  refused e h =
+      let n = replied_err _ _ e h in
+      refuses (Err e) (refusal context count cells) (counted 0 0) (refused_any {B = Written} _ _ _ e h) (sym (pick_false _ _ (ne_eqb _ 0 n))) n
 
   module _ (accepted : refusal context count cells ≡ 0) where
     after : write_refusal context count cells (length tokens) ≡ pick (write_refusal12 count (length tokens)) 12 (pick (refusal13 context count cells) 13 0)
     unfolding write_refusal first_of
     after = pick_true _ _ (eq-eqb _ 0 accepted)
 
-    pub short : length tokens < token_cells * tokens_per_node * count → Answers (Refused 12) tokens
-    unfolding write_refusal12
-    short h = refuses 12 (sym (after ∙ pick_true _ _ (lt-ltb _ _ h))) (λ z. omega arith)
+    pub short : length tokens < token_cells * tokens_per_node * count → Answers (Err Short) tokens
+    unfolding write_refusal12 replied refusals lookup pick
+    short h = refuses (Err Short) 12 (counted 0 0) refl (sym (after ∙ pick_true _ _ (lt-ltb _ _ h))) (λ z. omega arith)
 
     module _ (fits : token_cells * tokens_per_node * count ≤ length tokens) where
       behind12 : write_refusal context count cells (length tokens) ≡ pick (refusal13 context count cells) 13 0
       unfolding write_refusal12
       behind12 = after ∙ pick_false _ _ (le-ltb _ _ fits)
 
-      pub in_context : takes_context context ≡ false → Answers (Refused 13) tokens
-      unfolding refusal13
-      in_context h = refuses 13 (sym (behind12 ∙ pick_true 13 0 (or_here _ (ap not h)))) (λ z. omega arith)
+      pub in_context : takes_context context ≡ false → Answers (Err NotPlain) tokens
+      unfolding refusal13 replied refusals lookup pick
+      in_context h = refuses (Err NotPlain) 13 (counted 0 0) refl (sym (behind12 ∙ pick_true 13 0 (or_here _ (ap not h)))) (λ z. omega arith)
 
       module _ (taken : takes_context context ≡ true) where
         is13 : refusal13 context count cells ≡ not (plain_table count cells)
         unfolding refusal13
         is13 = or_next _ (ap not taken)
 
-        pub not_plain : plain_table count cells ≡ false → Answers (Refused 13) tokens
-        not_plain h = refuses 13 (sym (behind12 ∙ pick_true 13 0 (is13 ∙ ap not h))) (λ z. omega arith)
+        pub not_plain : plain_table count cells ≡ false → Answers (Err NotPlain) tokens
+        unfolding replied refusals lookup pick
+        not_plain h = refuses (Err NotPlain) 13 (counted 0 0) refl (sym (behind12 ∙ pick_true 13 0 (is13 ∙ ap not h))) (λ z. omega arith)
 
         module _ (plain : plain_table count cells ≡ true) where
           pub not_refused : write_refusal context count cells (length tokens) ≡ 0
@@ -129,11 +137,11 @@ module _ (context count : ℕ) (cells tokens : List ℕ) where
                 bounds.2,
               )
 
-          pub done : (r : Written) (last : List ℕ) → r ≡ Tokens (pairs_at cells count (root_in context) 1) (length (cells_by cells count (root_in context) 1) / token_cells) → last ≡ over (cells_by cells count (root_in context) 1) tokens → Answers r last
-          unfolding answered tokens_after
+          pub done : (r : Written) (last : List ℕ) → r ≡ counted (pairs_at cells count (root_in context) 1) (length (cells_by cells count (root_in context) 1) / token_cells) → last ≡ over (cells_by cells count (root_in context) 1) tokens → Answers (Ok r) last
+          unfolding answered tokens_after replied
           done r last e f =
               let z = eq-eqb _ 0 not_refused in
               let by = by_places context count cells taken accepted plain in
               let long = length_cells (written context count cells) in
               let n : length (cells_of (written context count cells)) / token_cells ≡ length (written context count cells) = omega arith in
-              (e ∙ ap₂ Tokens by.1 (ap (λ c. length c / token_cells) by.0 ∙ n) ∙ sym (pick_true _ _ z), f ∙ ap (λ c. over c tokens) by.0 ∙ sym (pick_true _ _ z))
+              (ap Ok (e ∙ ap₂ counted by.1 (ap (λ c. length c / token_cells) by.0 ∙ n)) ∙ sym (pick_true _ _ z), f ∙ ap (λ c. over c tokens) by.0 ∙ sym (pick_true _ _ z))

@@ -6,24 +6,20 @@ use Prim.Native.Nat.{ℕ, zero, suc, ◌<◌, ◌≤◌}
 use native.Mathlib.Omega.{arith}
 use native.Mathlib.Decide.{ℕ_discrete}
 use lib.ListN.{get_or-eq_default}
-use lib.Dec.{T, eqb, eqb→eq}
-use types.Run.{OneOf}
+use lib.Dec.{eqb}
 use borrow.Author.Tests.{ne_eqb}
 use Rattle.laws.specs.Choice.{pick, lookup}
-use Rattle.token_grammar.proofs.Tokens.{number_operator, each_operator}
-use Rattle.laws.proofs.Keys.{numbers_at, given_at, apart_before, arms, arm, Missed, rest}
+use Rattle.token_grammar.proofs.Tokens.{number_operator}
 use Rattle.tree.specs.Table.{cell_at, form_column, detail_column, second_column, symbol_at}
 use Rattle.tree.specs.Operands.{presence}
 use Rattle.tree.specs.Trees.{label_at, operand_at, tree_at}
 use Rattle.tree.specs.Steps.{is_present}
 use Rattle.tree.proofs.Walks.{there}
-use Rattle.token_grammar.specs.Tokens.{Operator, Token, operator, assign, lt, gt, name_token, code, number, all_operators, operator_of, symbol_of, cells_of}
+use Rattle.token_grammar.specs.Tokens.{Token, assign, code, number, all_operators, operator_of, symbol_of, cells_of}
 use Rattle.token_grammar.specs.Bounds.{past_operators}
 use Rattle.token_plain.specs.Written.{signs, sign_lines, signs_of}
-use Rattle.token_writer.specs.declared.signs.Few.{Few}
-use Rattle.token_writer.specs.declared.signs.Few.TheVariants.{Nothing, One, Two}
 use Rattle.token_writer.specs.declared.signs.Signs.{Signs}
-use Rattle.token_writer.specs.Puts.{spelled, symbol_lines, symbol_on, cells_with, Spells, only_before, only_between, enclosing, made, path_type, one_if}
+use Rattle.token_writer.specs.Puts.{spelled, symbol_on, cells_with, Spells, one_if}
 
 -- ---- a choice between two tokens, or between a token and none
 
@@ -36,16 +32,6 @@ code_pick false t u = refl
 abbrev pub Beside : ℕ → Token → Type 0
 Beside y t = symbol_on (code t) y ≡ symbol_of t
 
-pub beside_pick : (y : ℕ) (b : Bool) (t u : Token) → Beside y t → Beside y u → Beside y (pick b t u)
-unfolding pick
-beside_pick y true t u h k = h
-beside_pick y false t u h k = k
-
-pub beside_operator : (y : ℕ) (o : Operator) → Beside y (operator o)
-unfolding symbol_on symbol_lines lookup pick
-beside_operator y o = eqb→eq (symbol_on (number o) y) 0 (each_operator (λ x. eqb (symbol_on (number x) y) 0) tt o)
-
--- a code that is a token's, with its symbol
 pub one_token : (y n : ℕ) (t : Token) → n ≡ code t → Beside y t → cells_with y (n ∷ []) ≡ cells_of (t ∷ [])
 one_token y n t e h = rw (e, h)
 
@@ -69,36 +55,6 @@ operator_high n h = go (ℕ_discrete n (number assign))
     go : Dec (n ≡ number assign) → number (operator_of n) ≡ number assign
     go (yes e) = rw e
     go (no e) = past (omega arith)
-
--- ---- the arms
-
-module _ (y detail form : ℕ) (more : Bool) (s : Signs) where
-  -- arm j of the table
-  pub spells_arm : (j : ℕ) → T (apart_before (arms (sign_lines detail y more)) j (numbers_at (arms (sign_lines detail y more)) j)) → OneOf (numbers_at (arms (sign_lines detail y more)) j) form → Spells y s (given_at (arms (sign_lines detail y more)) (signs [] [] []) j) → Spells y s (lookup (sign_lines detail y more) (signs [] [] []) form)
-  spells_arm j t o h = rw (arm (sign_lines detail y more) (signs [] [] []) form j t o) h
-
-  -- the default arm
-  pub spells_rest : Missed (Unit {0}) (arms (sign_lines detail y more)) form → Spells y s (signs [] [] []) → Spells y s (lookup (sign_lines detail y more) (signs [] [] []) form)
-  spells_rest m h = rw (rest (sign_lines detail y more) (signs [] [] []) form m) h
-
-module _ (y : ℕ) (s : Signs) (f : Few) (ts : List Token) where
-  pub before_only : s ≡ only_before f → cells_with y (spelled f) ≡ cells_of ts → Spells y s (signs ts [] [])
-  before_only e h = rw e (record { before = h; between = refl; behind = refl })
-
-  pub between_only : s ≡ only_between f → cells_with y (spelled f) ≡ cells_of ts → Spells y s (signs [] ts [])
-  between_only e h = rw e (record { before = refl; between = h; behind = refl })
-
-  pub round_second : (t : Token) → Beside y t → s ≡ enclosing f (code t) → cells_with y (spelled f) ≡ cells_of ts → Spells y s (signs [] ts (t ∷ []))
-  round_second t b e h = rw e (record { before = refl; between = h; behind = one_token y (code t) t refl b })
-
--- a path type's
-pub path_signs : (y : ℕ) (s : Signs) (detail : ℕ) → s ≡ path_type detail → Spells y s (pick (eqb detail 2) (signs (name_token y ∷ operator lt ∷ []) [] (operator gt ∷ [])) (signs (name_token y ∷ []) [] []))
-unfolding symbol_on symbol_lines lookup pick
-path_signs y s detail e = rw e (go (eqb detail 2))
-  where
-    go : (b : Bool) → Spells y (pick b (made (Two (code (name_token 0)) (number lt)) Nothing (One (number gt))) (only_before (One (code (name_token 0))))) (pick b (signs (name_token y ∷ operator lt ∷ []) [] (operator gt ∷ [])) (signs (name_token y ∷ []) [] []))
-    go true = record { before = refl; between = refl; behind = refl }
-    go false = record { before = refl; between = refl; behind = refl }
 
 -- ---- the signs of a node of a table
 

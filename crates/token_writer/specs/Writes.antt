@@ -1,10 +1,12 @@
 -- What writing answers, and what the lent buffer holds afterwards.
-use Rattle.std.specs.Prelude.{Bool, not, ◌||◌, List, [], ◌∷◌, ℕ, ◌*◌, ◌-◌, eqb, ltb, length, get_or, replicate}
+use Rattle.std.specs.Prelude.{Bool, not, ◌||◌, List, [], ◌∷◌, ℕ, ◌*◌, ◌-◌, eqb, ltb, length, get_or, replicate, Result, Ok, Err}
 use Rattle.bools.specs.Bits.{bit_of}
 use Rattle.laws.specs.Choice.{pick, is_one_of}
 use Rattle.laws.specs.Lists.{over}
 use Rattle.tree.specs.Sizes.{row_cells, token_cells, tokens_per_node}
 use Rattle.tree.specs.Trees.{tree_at}
+use Rattle.tree.specs.declared.refusal.Refusal.{Refusal}
+use Rattle.tree.specs.Replies.{number_of, replied}
 use Rattle.tree_rules.specs.Refusals.{refusal, refuse, first_of}
 use Rattle.expr.specs.declared.order.CalleeOrder.TheVariants.{Ours}
 use Rattle.tree_numbering.specs.Sums.{sum}
@@ -14,7 +16,6 @@ use Rattle.token_grammar.specs.Grammar.{NONE, CONDITION, context_number}
 use Rattle.token_plain.specs.Plain.{plain_table}
 use Rattle.token_plain.specs.Written.{tokens_at, has_pair}
 use Rattle.token_writer.specs.declared.Written.{Written}
-use Rattle.token_writer.specs.declared.Written.TheVariants.{Refused, Tokens}
 
 -- the rows of a table in a context and in our callee order, in a buffer of just the length that they need
 unfoldable pub rows_for : ℕ → ℕ → List ℕ → List ℕ
@@ -52,13 +53,14 @@ write_refusal context count cells lent =
     (first_of (refuse 12 (write_refusal12 count lent) ∷ refuse 13 (refusal13 context count cells) ∷ []))
     (refusal context count cells)
 
+-- so many pairs and tokens
+abbrev pub counted : ℕ → ℕ → Written
+counted pairs n = record { pairs = pairs; tokens = n }
+
 -- the answer: the numbers of pairs and of tokens, or the refusal
-unfoldable pub answered : ℕ → ℕ → List ℕ → ℕ → Written
+unfoldable pub answered : ℕ → ℕ → List ℕ → ℕ → Result Written Refusal
 answered context count cells lent =
-    pick
-    (eqb (write_refusal context count cells lent) 0)
-    (Tokens (pairs_written context count cells) (length (written context count cells)))
-    (Refused (write_refusal context count cells lent))
+    replied (write_refusal context count cells lent) (counted (pairs_written context count cells) (length (written context count cells)))
 
 -- the buffer afterwards: on a refusal as it was; else the tokens' cells over its start
 unfoldable pub tokens_after : ℕ → ℕ → List ℕ → List ℕ → List ℕ
@@ -66,6 +68,6 @@ tokens_after context count cells tokens =
     pick (eqb (write_refusal context count cells (length tokens)) 0) (over (cells_of (written context count cells)) tokens) tokens
 
 -- "When an answer is an enum, a definition gives this paper's number and values for each of its cases." The reply number, 0 for done, and behind it the values
-abbrev pub written_in_numbers : Written → List ℕ
-written_in_numbers (Refused n) = n ∷ []
-written_in_numbers (Tokens pairs n) = 0 ∷ pairs ∷ n ∷ []
+abbrev pub written_in_numbers : Result Written Refusal → List ℕ
+written_in_numbers (Err e) = number_of e ∷ []
+written_in_numbers (Ok w) = 0 ∷ w.pairs ∷ w.tokens ∷ []

@@ -4,54 +4,50 @@ ghost use Rattle.laws.specs.Choice.{is_one_of};
 ghost use Rattle.tree.specs.Trees.{label_at};
 ghost use Rattle.token_plain.specs.Plain.{is_plain, plain_table};
 
-use tree::table::cell;
-use tree::{columns, forms};
+use tree::columns;
+use tree::form::Form;
+use tree::table::Table;
 
-fn is_plain(table: &[u16], node: u16) -> bool
-    ensures { result ≡ is_plain (label_at table.now node) }
+#[tactic(auto, unfolding(token_plain::specs::Plain::is_plain, tree::specs::Trees::label_at, laws::specs::Choice::pick))]
+fn is_plain(table: &Table, node: u16) -> bool
+    ensures { result ≡ is_plain (label_at table.now.cells.now node) }
 {
-    if cell(table, node, columns::ATTRIBUTES) != 0 {
+    if table.attributes(node) != 0 {
         return false;
     }
-    match cell(table, node, columns::FORM) {
-        forms::EXPR_PATH
-        | forms::EXPR_LIT
-        | forms::EXPR_METHOD_CALL
-        | forms::EXPR_UNARY
-        | forms::EXPR_REFERENCE
-        | forms::EXPR_BINARY
-        | forms::EXPR_ASSIGN
-        | forms::EXPR_CAST
-        | forms::EXPR_FIELD
-        | forms::EXPR_INDEX
-        | forms::EXPR_TRY => true,
-        forms::EXPR_PAREN | forms::EXPR_CALL | forms::EXPR_AWAIT | forms::EXPR_STRUCT => true,
-        forms::TYPE_PTR | forms::TYPE_INFER | forms::TYPE_NEVER | forms::LINK => true,
-        forms::TYPE_REFERENCE => true,
-        forms::TYPE_PATH => is_plain_path(cell(table, node, columns::DETAIL)),
+    let Ok(form) = Form::try_from(table.cell(node, columns::FORM)) else {
+        return false;
+    };
+    match form {
+        Form::ExprPath
+        | Form::ExprLit
+        | Form::ExprMethodCall
+        | Form::ExprUnary
+        | Form::ExprReference
+        | Form::ExprBinary
+        | Form::ExprAssign
+        | Form::ExprCast
+        | Form::ExprField
+        | Form::ExprIndex
+        | Form::ExprTry
+        | Form::ExprParen
+        | Form::ExprCall
+        | Form::ExprAwait
+        | Form::ExprStruct => true,
+        Form::TypePtr | Form::TypeInfer | Form::TypeNever | Form::TypeReference | Form::Link =>
+            true,
+        Form::TypePath => matches!(table.detail(node), 1 | 2),
         _ => false,
     }
 }
 
-// A path type whose last segment has no arguments, or type arguments.
-fn is_plain_path(detail: u16) -> bool
-    ensures { result ≡ is_one_of (1 ∷ 2 ∷ []) detail }
+pub fn is_plain_table(table: &Table) -> bool
+    ensures { result ≡ plain_table table.now.count table.now.cells.now }
 {
-    if detail == 1 {
-        return true;
-    }
-    detail == 2
-}
-
-pub fn is_plain_table(count: u16, table: &[u16]) -> bool
-    ensures { result ≡ plain_table count table.now }
-{
-    let mut done: u16 = 0;
-    while done < count {
+    for done in 0..table.count {
         if !is_plain(table, done + 1) {
             return false;
         }
-        done += 1;
     }
     true
 }

@@ -8,11 +8,12 @@ ghost use Rattle.token_plain.specs.Written.{unary, signs, sign_lines, signs_of};
 ghost use Rattle.token_writer.specs.Puts.{only_before, only_between, enclosing, path_type, one_if, Spells, SpellsAny};
 
 use token_grammar::codes;
-use tree::table::{cell, operand_number};
-use tree::{columns, forms};
+use tree::columns;
+use tree::form::Form;
+use tree::table::Table;
 
-// Up to three codes.
-#[derive(Drop)]
+// Up to three codes: an enum of its own, since an array or a slice would need its length beside it.
+#[derive(Clone, Copy, Debug, PartialEq, Eq)]
 pub enum Few {
     Nothing,
     One(u16),
@@ -21,7 +22,7 @@ pub enum Few {
 }
 
 // The codes before the first operand, between the two, and behind the second.
-#[derive(Drop)]
+#[derive(Clone, Copy, Debug, PartialEq, Eq)]
 pub struct Signs {
     pub before: Few,
     pub between: Few,
@@ -29,6 +30,7 @@ pub struct Signs {
 }
 
 // A code where a test holds.
+#[tactic(auto, unfolding(laws::specs::Choice::pick))]
 pub fn one_if(test: bool, code: u16) -> Few
     ensures { result ≡ one_if test code }
 {
@@ -66,6 +68,7 @@ fn round(start: Few, end: u16) -> Signs
     }
 }
 
+#[tactic(auto, unfolding(laws::specs::Choice::pick))]
 fn by_detail(detail: u16, zero: u16, one: u16) -> u16
     ensures { result ≡ pick (eqb detail 0) zero one }
 {
@@ -93,6 +96,7 @@ pub fn operator_code(detail: u16) -> u16
     }
 }
 
+#[tactic(auto, unfolding(laws::specs::Choice::pick))]
 fn path_type(detail: u16) -> Signs
     ensures { result ≡ path_type detail }
 {
@@ -108,57 +112,61 @@ fn path_type(detail: u16) -> Signs
 }
 
 // The signs of a form with a detail; `more` says whether a second operand is there. Symbols are put beside them later.
+#[tactic(auto, unfolding(token_plain::specs::Written::sign_lines, crate::specs::Puts::symbol_on, crate::specs::Puts::symbol_lines, laws::specs::Choice::lookup, laws::specs::Choice::pick))]
 fn signs_of(form: u16, detail: u16, more: bool) -> Signs
     ensures { SpellsAny result (λ y. lookup (sign_lines detail y more) (signs [] [] []) form) }
 {
+    let Ok(form) = Form::try_from(form) else {
+        return ahead(Few::Nothing);
+    };
     match form {
-        forms::EXPR_PATH => ahead(Few::One(codes::NAME)),
-        forms::EXPR_LIT => ahead(Few::One(codes::LITERAL)),
-        forms::EXPR_PAREN => {
+        Form::ExprPath => ahead(Few::One(codes::NAME)),
+        Form::ExprLit => ahead(Few::One(codes::LITERAL)),
+        Form::ExprParen => {
             Signs {
                 before: Few::One(codes::LEFT_PAREN),
                 between: Few::One(codes::RIGHT_PAREN),
                 behind: Few::Nothing,
             }
         }
-        forms::EXPR_UNARY => ahead(Few::One(unary_code(detail))),
-        forms::EXPR_REFERENCE | forms::TYPE_REFERENCE => {
+        Form::ExprUnary => ahead(Few::One(unary_code(detail))),
+        Form::ExprReference | Form::TypeReference => {
             ahead(Few::One(by_detail(detail, codes::BIT_AND, codes::AND_MUT)))
         }
-        forms::EXPR_BINARY => amid(Few::One(operator_code(detail))),
-        forms::EXPR_ASSIGN => amid(Few::One(codes::ASSIGN)),
-        forms::EXPR_CAST => amid(Few::One(codes::AS)),
-        forms::EXPR_FIELD => {
+        Form::ExprBinary => amid(Few::One(operator_code(detail))),
+        Form::ExprAssign => amid(Few::One(codes::ASSIGN)),
+        Form::ExprCast => amid(Few::One(codes::AS)),
+        Form::ExprField => {
             amid(Few::Two(
                 codes::DOT,
                 by_detail(detail, codes::NAME, codes::NUMBERED_MEMBER),
             ))
         }
-        forms::EXPR_INDEX => round(Few::One(codes::LEFT_BRACKET), codes::RIGHT_BRACKET),
-        forms::EXPR_CALL => round(Few::One(codes::LEFT_PAREN), codes::RIGHT_PAREN),
-        forms::EXPR_METHOD_CALL => {
+        Form::ExprIndex => round(Few::One(codes::LEFT_BRACKET), codes::RIGHT_BRACKET),
+        Form::ExprCall => round(Few::One(codes::LEFT_PAREN), codes::RIGHT_PAREN),
+        Form::ExprMethodCall => {
             round(
                 Few::Three(codes::DOT, codes::NAME, codes::LEFT_PAREN),
                 codes::RIGHT_PAREN,
             )
         }
-        forms::EXPR_TRY => amid(Few::One(codes::QUESTION)),
-        forms::EXPR_AWAIT => amid(Few::Two(codes::DOT, codes::AWAIT)),
-        forms::TYPE_PATH => path_type(detail),
-        forms::TYPE_PTR => ahead(Few::One(by_detail(detail, codes::STAR_CONST, codes::STAR_MUT))),
-        forms::TYPE_INFER => ahead(Few::One(codes::UNDERSCORE)),
-        forms::TYPE_NEVER => ahead(Few::One(codes::BANG)),
-        forms::LINK => amid(one_if(more, codes::COMMA)),
-        forms::EXPR_STRUCT => ahead(Few::One(codes::STRUCT)),
+        Form::ExprTry => amid(Few::One(codes::QUESTION)),
+        Form::ExprAwait => amid(Few::Two(codes::DOT, codes::AWAIT)),
+        Form::TypePath => path_type(detail),
+        Form::TypePtr => ahead(Few::One(by_detail(detail, codes::STAR_CONST, codes::STAR_MUT))),
+        Form::TypeInfer => ahead(Few::One(codes::UNDERSCORE)),
+        Form::TypeNever => ahead(Few::One(codes::BANG)),
+        Form::Link => amid(one_if(more, codes::COMMA)),
+        Form::ExprStruct => ahead(Few::One(codes::STRUCT)),
         _ => ahead(Few::Nothing),
     }
 }
 
-pub fn signs_at(table: &[u16], count: u16, node: u16) -> Signs
-    ensures { Spells (symbol_at table.now node) result (signs_of (label_at table.now node) (tree_at table.now count (operand_at table.now count node second_column))) }
+pub fn signs_at(table: &Table, node: u16) -> Signs
+    ensures { Spells (symbol_at table.now.cells.now node) result (signs_of (label_at table.now.cells.now node) (tree_at table.now.cells.now table.now.count (operand_at table.now.cells.now table.now.count node second_column))) }
 {
-    let form = cell(table, node, columns::FORM);
-    let detail = cell(table, node, columns::DETAIL);
-    let second = operand_number(table, count, node, columns::SECOND);
+    let form = table.cell(node, columns::FORM);
+    let detail = table.detail(node);
+    let second = table.operand_number(node, columns::SECOND);
     signs_of(form, detail, second != 0)
 }

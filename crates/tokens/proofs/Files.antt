@@ -13,12 +13,18 @@ use Rattle.laws.specs.Lists.{over}
 use Rattle.laws.proofs.Choice.{pick_true}
 use Rattle.laws.proofs.Lists.{length_over}
 use Rattle.tree.specs.Sizes.{node_cells, token_cells, most_nodes, most_tokens}
-use Rattle.file_loader.specs.declared.Loaded.TheVariants as loader
+use Rattle.std.specs.Prelude.{Ok, Err}
+use Rattle.tree.specs.declared.refusal.Refusal.{Refusal}
+use Rattle.tree.specs.Replies.{number_of}
 use Rattle.file_loader.specs.Files.{loaded, loaded_table}
 use Rattle.file_loader.proofs.Loading.{stored_room, stored_cells}
 use Rattle.token_grammar.specs.Tokens.{cells_of}
-use Rattle.token_writer.specs.declared.Written.TheVariants.{Refused, Tokens}
+use Rattle.std.specs.Prelude.{Result, Ok, Err}
+use Rattle.tree.specs.declared.refusal.Refusal.{Refusal}
+use Rattle.tree.specs.Replies.{number_of}
+use Rattle.token_writer.specs.declared.Written.{Written}
 use Rattle.token_writer.specs.Writes.{written, pairs_written, write_refusal, answered, tokens_after}
+use Rattle.token_writer.proofs.Replied.{replied_ok, replied_value}
 use Rattle.token_writer.proofs.Bounds.{accepted_first, tokens_bound}
 use Rattle.token_writer.proofs.Tokens.{length_cells}
 use Rattle.text.specs.Numbers.{no_line}
@@ -27,31 +33,27 @@ use Rattle.tokens.specs.Text.{listed, answer_text, table_text, loaded_text, prin
 -- ---- the answers of the writer
 
 module _ (context count : ℕ) (cells tokens : List ℕ) (room : length tokens ≡ token_cells * most_tokens) where
-  pub refused_table : (n : ℕ) → Refused n ≡ answered context count cells (length tokens) → no_line n ≡ table_text context count cells
+  pub refused_table : (n : Refusal) → Err n ≡ answered context count cells (length tokens) → no_line (number_of n) ≡ table_text context count cells
   unfolding table_text answer_text
   refused_table n e = rw (← room, ← e)
 
-  module _ (pairs n : ℕ) (e : Tokens pairs n ≡ answered context count cells (length tokens)) where
-    parts : (write_refusal context count cells (length tokens) ≡ 0) × (n ≡ length (written context count cells))
-    unfolding answered pick
-    parts = go (eqb (write_refusal context count cells (length tokens)) 0) refl e
-      where
-        go : (b : Bool) → eqb (write_refusal context count cells (length tokens)) 0 ≡ b → Tokens pairs n ≡ pick b (Tokens (pairs_written context count cells) (length (written context count cells))) (Refused (write_refusal context count cells (length tokens))) → (write_refusal context count cells (length tokens) ≡ 0) × (n ≡ length (written context count cells))
-        go true p q = (eqb-true _ 0 p, cc)
-        go false p q = absurd (let z : ◌≡◌ {A = ℕ} 0 1 = cc in omega arith)
+  module _ (w : Written) (e : Ok w ≡ answered context count cells (length tokens)) where
+    parts : (write_refusal context count cells (length tokens) ≡ 0) × (w.tokens ≡ length (written context count cells))
+    unfolding answered
+    parts = (replied_ok _ _ _ e, ap (λ (x : Written). x.tokens) (replied_value _ _ _ e))
 
-    pub tokens_most : n ≤ most_tokens
+    pub tokens_most : w.tokens ≤ most_tokens
     tokens_most = rw parts.1 (tokens_bound context count cells (accepted_first context count cells (length tokens) parts.0)).1
 
     -- the tokens stand at the start of the buffer
-    cells_taken : take (token_cells * n) (tokens_after context count cells tokens) ≡ cells_of (written context count cells)
+    cells_taken : take (token_cells * w.tokens) (tokens_after context count cells tokens) ≡ cells_of (written context count cells)
     unfolding tokens_after over
     cells_taken =
         rw (pick_true (over (cells_of (written context count cells)) tokens) tokens (eq-eqb _ 0 parts.0))
-        (take_at (cells_of (written context count cells)) _ (token_cells * n) (length_cells (written context count cells) ∙ ap (λ m. token_cells * m) (sym parts.1)))
+        (take_at (cells_of (written context count cells)) _ (token_cells * w.tokens) (length_cells (written context count cells) ∙ ap (λ m. token_cells * m) (sym parts.1)))
 
     -- and so lie within it
-    pub tokens_within : token_cells * n ≤ length (tokens_after context count cells tokens)
+    pub tokens_within : token_cells * w.tokens ≤ length (tokens_after context count cells tokens)
     unfolding tokens_after
     tokens_within =
         let most = tokens_most in
@@ -59,7 +61,7 @@ module _ (context count : ℕ) (cells tokens : List ℕ) (room : length tokens �
         let p = parts.1 in
         rw (pick_true (over (cells_of (written context count cells)) tokens) tokens (eq-eqb _ 0 parts.0), length_over (cells_of (written context count cells)) tokens (omega arith)) (omega arith)
 
-    pub tokens_table : listed (take (token_cells * n) (tokens_after context count cells tokens)) ≡ table_text context count cells
+    pub tokens_table : listed (take (token_cells * w.tokens) (tokens_after context count cells tokens)) ≡ table_text context count cells
     unfolding table_text answer_text
     tokens_table = rw (cells_taken, ← room, ← e)
 
@@ -73,11 +75,11 @@ room : length zeros ≡ node_cells * most_nodes
 room = length-replicate {A = ℕ} (node_cells * most_nodes) 0
 
 module _ (file after : List ℕ) (stores : after ≡ loaded_table file zeros) where
-  pub refused_file : (n : ℕ) → loader.Refused n ≡ loaded file (length zeros) → no_line n ≡ printed file
+  pub refused_file : (r : Refusal) → Err r ≡ loaded file (length zeros) → no_line (number_of r) ≡ printed file
   unfolding printed loaded_text
-  refused_file n e = rw (← room, ← e)
+  refused_file r e = rw (← room, ← e)
 
-  module _ (context count : ℕ) (e : loader.Accepted context count ≡ loaded file (length zeros)) where
+  module _ (context count : ℕ) (e : Ok (record { context = context; count = count }) ≡ loaded file (length zeros)) where
     -- the file's numbers are within the table
     pub cells_within : node_cells * count ≤ length after
     cells_within = rw stores (stored_room file zeros context count e (omega (arith, room)))

@@ -9,11 +9,9 @@ ghost use Rattle.text.specs.Counts.{IsPrefixLen};
 ghost use Rattle.text.specs.Growth.{Grown, Added};
 ghost use Rattle.tokens.specs.Text.{parted, evens, listed, table_text, printed};
 
-use file_loader::Loaded;
 use std::io;
 use text::input::read_full;
 use text::{put_byte, put_no, put_number, put_ok};
-use token_writer::Written;
 use tree::sizes;
 
 // One byte more than the longest file, so that a longer one shows.
@@ -73,9 +71,9 @@ fn put_table(out: &mut [u8], context: u16, count: u16, table: &[u16]) -> usize
 {
     let mut tokens = [0u16; TOKENS];
     match token_writer::write(context, count, table, &mut tokens) {
-        Written::Refused(why) => put_no(out, why),
-        Written::Tokens(_, n) => {
-            let end = sizes::TOKEN_CELLS * (n as usize);
+        Err(refusal) => put_no(out, refusal.number()),
+        Ok(written) => {
+            let end = sizes::TOKEN_CELLS * (written.tokens as usize);
             put_tokens(out, &tokens[..end])
         }
     }
@@ -88,10 +86,10 @@ fn report(file: &[u8], out: &mut [u8; TEXT]) -> usize
 {
     let mut table = [0u16; CELLS];
     match file_loader::load(file, &mut table) {
-        Loaded::Refused(why) => put_no(out, why),
-        Loaded::Accepted(context, count) => {
-            let cells = sizes::NODE_CELLS * (count as usize);
-            put_table(out, context, count, &table[..cells])
+        Err(refusal) => put_no(out, refusal.number()),
+        Ok(loaded) => {
+            let cells = sizes::NODE_CELLS * (loaded.count as usize);
+            put_table(out, loaded.context, loaded.count, &table[..cells])
         }
     }
 }

@@ -12,7 +12,7 @@ use borrow.Author.Tests.{le-leb, lt-leb}
 use Rattle.laws.specs.Choice.{Line, line, lookup}
 use Rattle.laws.proofs.Choice.{pick_true, pick_false, true_not_false, true_of, of_true, and_true}
 use Rattle.laws.proofs.Keys.{among, disjoint, apart, numbers_at, given_at, apart_before, apart_from, arms, arm, Missed, rest}
-use Rattle.tree.specs.declared.table.Operand.{Operand}
+use Rattle.std.specs.Prelude.{Option}
 use Rattle.tree.specs.Table.{form_at, first_column, second_column}
 use Rattle.tree.specs.Trees.{Label, Tree, none, label_at, operand_at, tree_at}
 use Rattle.tree.specs.Operands.{presence, form_in}
@@ -28,10 +28,10 @@ none_zero (line ks a ∷ rows) zero t = apart (0 ∷ []) ks 0 (of_true (and_true
 none_zero (line ks a ∷ rows) (suc j) t = none_zero rows j (of_true (and_true (disjoint (0 ∷ []) ks) (apart_from rows (0 ∷ [])) (true_of t)).1)
 
 module _ (cells : List ℕ) (count i : ℕ) where
-  abbrev pub first_at : Operand
+  abbrev pub first_at : Option ℕ
   first_at = presence (operand_at cells count i first_column)
 
-  abbrev pub second_at : Operand
+  abbrev pub second_at : Option ℕ
   second_at = presence (operand_at cells count i second_column)
 
   -- a node that is there, or none

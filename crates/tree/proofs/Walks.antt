@@ -7,8 +7,8 @@ use native.Mathlib.Decide.{dec_le}
 use borrow.Author.Tests.{le-leb, lt-leb}
 use Rattle.laws.specs.Choice.{Line}
 use Rattle.laws.proofs.Choice.{pick_true, pick_false}
-use Rattle.tree.specs.declared.table.Operand.{Operand}
-use Rattle.tree.specs.declared.table.Operand.TheVariants.{Absent, Present}
+use Rattle.std.specs.Prelude.{Option}
+use Rattle.std.specs.Prelude.{None, Some}
 use Rattle.tree.specs.Table.{first_column, second_column}
 use Rattle.tree.specs.Trees.{Label, Tree, none, operand_of, operand_at, tree_at}
 use Rattle.tree.specs.Operands.{presence}
@@ -32,19 +32,19 @@ there cells count i o = go (operand_of count i o) (standing count i o)
     go p (present a b) = at_node p (omega arith) b
 
 -- an operand that is present is a node after its owner
-pub present_above : (count i o n : ℕ) → presence (operand_of count i o) ≡ Present n → (operand_of count i o ≡ n) × (i < n) × (n ≤ count)
+pub present_above : (count i o n : ℕ) → presence (operand_of count i o) ≡ Some n → (operand_of count i o ≡ n) × (i < n) × (n ≤ count)
 unfolding presence
 present_above count i o n = go (operand_of count i o) (standing count i o)
   where
-    at_node : (p : ℕ) → i < p → p ≤ count → presence p ≡ Present n → (p ≡ n) × (i < n) × (n ≤ count)
+    at_node : (p : ℕ) → i < p → p ≤ count → presence p ≡ Some n → (p ≡ n) × (i < n) × (n ≤ count)
     at_node zero h k e = absurd (omega arith)
     at_node (suc m) h k e = let q : suc m ≡ n = cc in (q, rw (← q) h, rw (← q) k)
 
-    go : (p : ℕ) → Standing count i o p → presence p ≡ Present n → (p ≡ n) × (i < n) × (n ≤ count)
+    go : (p : ℕ) → Standing count i o p → presence p ≡ Some n → (p ≡ n) × (i < n) × (n ≤ count)
     go p absent e = absurd (let z : ◌≡◌ {A = ℕ} 0 1 = cc in omega arith)
     go p (present a b) e = at_node p a b e
 
-pub absent_zero : (o : ℕ) → presence o ≡ Absent → o ≡ 0
+pub absent_zero : (o : ℕ) → presence o ≡ None → o ≡ 0
 unfolding presence
 absent_zero zero e = refl
 absent_zero (suc n) e = absurd (let z : ◌≡◌ {A = ℕ} 0 1 = cc in omega arith)
@@ -83,10 +83,10 @@ module _ {A : Type 0} (rows : Label → Tree → Tree → List (Line (Ask A))) (
   Leads (goes n) = (i < n) × (n ≤ count) × (walk rows other missing (tree_at cells count n) ≡ walk rows other missing (tree_at cells count i))
 
   -- into an operand
-  leads_into : (o : ℕ) → walk rows other missing (tree_at cells count i) ≡ walk rows other missing (tree_at cells count (operand_of count i o)) → (p : Operand) → presence (operand_of count i o) ≡ p → Leads (into missing p)
+  leads_into : (o : ℕ) → walk rows other missing (tree_at cells count i) ≡ walk rows other missing (tree_at cells count (operand_of count i o)) → (p : Option ℕ) → presence (operand_of count i o) ≡ p → Leads (into missing p)
   unfolding walk
-  leads_into o e Absent q = e ∙ rw (absent_zero _ q, tree_zero cells count)
-  leads_into o e (Present n) q = let s = present_above count i o n q in (s.1, s.2, sym (e ∙ rw s.0))
+  leads_into o e None q = e ∙ rw (absent_zero _ q, tree_zero cells count)
+  leads_into o e (Some n) q = let s = present_above count i o n q in (s.1, s.2, sym (e ∙ rw s.0))
 
   leads_by : (q : Ask A) → walk rows other missing (tree_at cells count i) ≡ follow q (walk rows other missing (tree_at cells count (operand_at cells count i first_column))) (walk rows other missing (tree_at cells count (operand_at cells count i second_column)))
       → Leads (step_by missing q (presence (operand_at cells count i first_column)) (presence (operand_at cells count i second_column)))

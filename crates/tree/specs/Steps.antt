@@ -1,32 +1,32 @@
 -- The walks of Walks over node numbers, one step at a time, as the code goes. No promise cites it.
 use Rattle.std.specs.Prelude.{Bool, true, false, ◌&&◌, List, ℕ, leb}
 use Rattle.laws.specs.Choice.{pick, Line, lookup}
-use Rattle.tree.specs.declared.table.Operand.{Operand}
-use Rattle.tree.specs.declared.table.Operand.TheVariants.{Absent, Present}
+use Rattle.std.specs.Prelude.{Option}
+use Rattle.std.specs.Prelude.{None, Some}
 use Rattle.tree.specs.Table.{first_column, second_column}
 use Rattle.tree.specs.Trees.{Label, Tree, none, label_at, operand_at, tree_at}
 use Rattle.tree.specs.Operands.{presence}
 use Rattle.tree.specs.Walks.{Ask, answer, first, second}
 
-abbrev pub is_present : Operand → Bool
-is_present Absent = false
-is_present (Present n) = true
+abbrev pub is_present : Option ℕ → Bool
+is_present None = false
+is_present (Some n) = true
 
 -- the tree at an operand
-abbrev pub tree_of : List ℕ → ℕ → Operand → Tree
-tree_of cells count Absent = none
-tree_of cells count (Present n) = tree_at cells count n
+abbrev pub tree_of : List ℕ → ℕ → Option ℕ → Tree
+tree_of cells count None = none
+tree_of cells count (Some n) = tree_at cells count n
 
 -- a step: the answer, or the number of the node that is asked next
 pub data Step (A : Type 0) : Type 0 where
   ends : A → Step A
   goes : ℕ → Step A
 
-abbrev pub into : {A : Type 0} → A → Operand → Step A
-into absent Absent = ends absent
-into absent (Present n) = goes n
+abbrev pub into : {A : Type 0} → A → Option ℕ → Step A
+into absent None = ends absent
+into absent (Some n) = goes n
 
-abbrev pub step_by : {A : Type 0} → A → Ask A → Operand → Operand → Step A
+abbrev pub step_by : {A : Type 0} → A → Ask A → Option ℕ → (Option ℕ) → Step A
 step_by absent (answer x) p q = ends x
 step_by absent first p q = into absent p
 step_by absent second p q = into absent q

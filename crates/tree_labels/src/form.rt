@@ -2,61 +2,68 @@
 ghost use Rattle.std.specs.Prelude.{◌≡◌, leb};
 ghost use Rattle.tree.specs.Forms.{class_of, highest_attributes, highest_detail, highest_symbol, allowed};
 
-use tree::{forms, sizes};
+use tree::form::Form;
+use tree::sizes;
 
 // 1 an expression, 2 a type, 3 a list link; 0 for a number that is no form.
+#[tactic(auto, unfolding(tree::specs::Forms::class_of, laws::specs::Choice::pick))]
 pub fn class_of(form: u16) -> u16
     ensures { result ≡ class_of form }
 {
-    if form == 0 {
-        return 0;
+    match form {
+        1..=40 => 1,
+        41..=55 => 2,
+        56 => 3,
+        _ => 0,
     }
-    if form <= 40 {
-        return 1;
-    }
-    if form <= 55 {
-        return 2;
-    }
-    if form <= 56 { 3 } else { 0 }
 }
 
 // Expressions but Verbatim have attributes.
+#[tactic(auto, unfolding(tree::specs::Forms::highest_attributes, laws::specs::Choice::pick))]
 fn highest_attributes(form: u16) -> u16
     ensures { result ≡ highest_attributes form }
 {
-    if class_of(form) != 1 {
-        return 0;
+    match class_of(form) {
+        1 if form != Form::ExprVerbatim.number() => 2,
+        _ => 0,
     }
-    if form == forms::EXPR_VERBATIM { 0 } else { 2 }
 }
 
+#[tactic(auto, unfolding(tree::specs::Forms::highest_detail, tree::specs::Forms::details, laws::specs::Choice::lookup, laws::specs::Choice::pick))]
 fn highest_detail(form: u16) -> u16
     ensures { result ≡ highest_detail form }
 {
+    let Ok(form) = Form::try_from(form) else {
+        return 0;
+    };
     match form {
-        forms::EXPR_BINARY => 27,
-        forms::EXPR_UNARY => 2,
-        forms::EXPR_BLOCK | forms::EXPR_FOR_LOOP | forms::EXPR_LOOP | forms::EXPR_WHILE => 1,
-        forms::EXPR_BREAK => 1,
-        forms::EXPR_MACRO | forms::TYPE_MACRO => 2,
-        forms::EXPR_CLOSURE | forms::EXPR_FIELD | forms::EXPR_RANGE => 1,
-        forms::EXPR_RAW_ADDR | forms::TYPE_PTR => 1,
-        forms::EXPR_REFERENCE | forms::TYPE_REFERENCE => 1,
-        forms::EXPR_VERBATIM | forms::TYPE_VERBATIM => 1,
-        forms::TYPE_PATH => 3,
-        forms::TYPE_IMPL_TRAIT | forms::TYPE_TRAIT_OBJECT => 7,
+        Form::ExprBinary => 27,
+        Form::ExprUnary => 2,
+        Form::ExprBlock | Form::ExprForLoop | Form::ExprLoop | Form::ExprWhile => 1,
+        Form::ExprBreak => 1,
+        Form::ExprMacro | Form::TypeMacro => 2,
+        Form::ExprClosure | Form::ExprField | Form::ExprRange => 1,
+        Form::ExprRawAddr | Form::TypePtr => 1,
+        Form::ExprReference | Form::TypeReference => 1,
+        Form::ExprVerbatim | Form::TypeVerbatim => 1,
+        Form::TypePath => 3,
+        Form::TypeImplTrait | Form::TypeTraitObject => 7,
         _ => 0,
     }
 }
 
 // Names, literals, members and methods have symbols, and path types with a segment.
+#[tactic(auto, unfolding(tree::specs::Forms::highest_symbol, tree::specs::Forms::symbols, laws::specs::Choice::lookup, laws::specs::Choice::pick))]
 fn highest_symbol(form: u16, detail: u16) -> u16
     ensures { result ≡ highest_symbol form detail }
 {
+    let Ok(form) = Form::try_from(form) else {
+        return 0;
+    };
     match form {
-        forms::EXPR_FIELD | forms::EXPR_LIT | forms::EXPR_METHOD_CALL | forms::EXPR_PATH =>
+        Form::ExprField | Form::ExprLit | Form::ExprMethodCall | Form::ExprPath =>
             sizes::MOST_SYMBOL,
-        forms::TYPE_PATH => { if detail == 0 { 0 } else { sizes::MOST_SYMBOL } }
+        Form::TypePath if detail != 0 => sizes::MOST_SYMBOL,
         _ => 0,
     }
 }
@@ -65,24 +72,16 @@ fn highest_symbol(form: u16, detail: u16) -> u16
 pub fn is_symbol_allowed(form: u16, detail: u16, symbol: u16) -> bool
     ensures { result ≡ leb symbol (highest_symbol form detail) }
 {
-    if symbol == 0 {
-        return true;
-    }
-    symbol <= highest_symbol(form, detail)
+    symbol == 0 || symbol <= highest_symbol(form, detail)
 }
 
 // Whether a form, an attribute, a detail and a symbol number are allowed together.
+#[tactic(auto, unfolding(tree::specs::Forms::allowed))]
 pub fn is_allowed(form: u16, attributes: u16, detail: u16, symbol: u16) -> bool
     ensures { result ≡ allowed form attributes detail symbol }
 {
-    if class_of(form) == 0 {
-        return false;
-    }
-    if attributes > highest_attributes(form) {
-        return false;
-    }
-    if detail > highest_detail(form) {
-        return false;
-    }
-    is_symbol_allowed(form, detail, symbol)
+    class_of(form) != 0
+        && attributes <= highest_attributes(form)
+        && detail <= highest_detail(form)
+        && is_symbol_allowed(form, detail, symbol)
 }

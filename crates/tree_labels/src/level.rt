@@ -5,15 +5,16 @@ ghost use Rattle.tree.specs.Trees.{own_level};
 
 use super::form::class_of;
 use tree::columns;
-use tree::table::cell;
+use tree::table::Table;
 
 pub fn larger(a: u16, b: u16) -> u16
     ensures { result ≡ max a b }
 {
-    if a < b { b } else { a }
+    a.max(b)
 }
 
 // 1 for an expression or a type, 0 for a link.
+#[tactic(auto, unfolding(tree::specs::Trees::own_level, laws::specs::Choice::pick))]
 pub fn level_of(form: u16) -> u16
     ensures { result ≡ own_level form }
 {
@@ -21,8 +22,8 @@ pub fn level_of(form: u16) -> u16
 }
 
 // That of a node of a table.
-pub fn own_level(table: &[u16], node: u16) -> u16
-    ensures { result ≡ own_level (form_at table.now node) }
+pub fn own_level(table: &Table, node: u16) -> u16
+    ensures { result ≡ own_level (form_at table.now.cells.now node) }
 {
-    level_of(cell(table, node, columns::FORM))
+    level_of(table.cell(node, columns::FORM))
 }

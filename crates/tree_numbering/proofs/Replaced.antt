@@ -1,5 +1,5 @@
 -- A tree with what stands at a node replaced, a node at a time; the answers of `edited::number`, and what they leave in the lent table. Assumes nothing.
-use mathlib.Core.Path.{◌≡◌, refl, sym, ◌∙◌}
+use mathlib.Core.Path.{◌≡◌, refl, sym, ap, ◌∙◌}
 use mathlib.Core.Bool.{true, false}
 use mathlib.Core.List.{List}
 use Prim.Native.Nat.{ℕ, suc, ◌+◌, ◌*◌, ◌≤◌, ◌<◌}
@@ -9,6 +9,7 @@ use lib.Dec.{eqb}
 use lib.ListN.{length}
 use lib.Seq.{sets}
 use borrow.Author.Tests.{eq-eqb, ne_eqb, lt-ltb, le-ltb}
+use Rattle.std.specs.Prelude.{Option, None, Some}
 use Rattle.laws.specs.Choice.{pick}
 use Rattle.laws.specs.Lists.{over}
 use Rattle.laws.proofs.Choice.{pick_true, pick_false, or_here, or_next}
@@ -70,14 +71,14 @@ there_numbered cells count h n = (trees_stand cells count).some_there 1 n (omega
 
 module _ (nodes : ℕ) (t : Tree) (out : List ℕ) where
   -- what the two clauses of the contract say of an answer and of the lent table afterwards
-  abbrev pub Numbers : ℕ → List ℕ → Type 0
+  abbrev pub Numbers : Option ℕ → List ℕ → Type 0
   Numbers n after = (n ≡ replaced_nodes nodes t (length out)) × (after ≡ replaced_after nodes t out)
 
-  not_numbered_lem : not_numbered nodes t (length out) ≡ true → Numbers 0 out
+  not_numbered_lem : not_numbered nodes t (length out) ≡ true → Numbers None out
   unfolding replaced_nodes replaced_after
   not_numbered_lem e = (sym (pick_true _ _ e), sym (pick_true _ _ e))
 
-  pub no_nodes : nodes ≡ 0 → Numbers 0 out
+  pub no_nodes : nodes ≡ 0 → Numbers None out
   unfolding not_numbered
   no_nodes z = not_numbered_lem (or_here _ (eq-eqb _ 0 z))
 
@@ -85,12 +86,12 @@ module _ (nodes : ℕ) (t : Tree) (out : List ℕ) where
     there : eqb nodes 0 ≡ false
     there = ne_eqb nodes 0 (λ z. omega arith)
 
-    pub many_nodes : most_nodes < size t → Numbers 0 out
+    pub many_nodes : most_nodes < size t → Numbers None out
     unfolding not_numbered
     many_nodes h = not_numbered_lem (or_next _ there ∙ or_here _ (lt-ltb _ _ h))
 
     module _ (few : size t ≤ most_nodes) where
-      pub few_cells : length out < node_cells * size t → Numbers 0 out
+      pub few_cells : length out < node_cells * size t → Numbers None out
       unfolding not_numbered too_short
       few_cells h = not_numbered_lem (or_next _ there ∙ or_next _ (le-ltb _ _ few) ∙ lt-ltb _ _ h)
 
@@ -99,13 +100,13 @@ module _ (nodes : ℕ) (t : Tree) (out : List ℕ) where
         unfolding not_numbered too_short
         fits = or_next _ there ∙ or_next _ (le-ltb _ _ few) ∙ le-ltb _ _ room
 
-        pub numbers : (n : ℕ) (after : List ℕ) → (n ≡ 0 + size t) × (after ≡ sets out 0 (cells_from 1 t)) → Numbers n after
+        pub numbers : (n : ℕ) (after : List ℕ) → (n ≡ 0 + size t) × (after ≡ sets out 0 (cells_from 1 t)) → Numbers (Some n) after
         unfolding replaced_nodes replaced_after
         numbers n after e =
             let z : n ≡ size t = e.0 ∙ omega arith in
-            (z ∙ sym (pick_false _ _ fits), stored_over t out room after e.1 ∙ sym (pick_false _ _ fits))
+            (ap Some z ∙ sym (pick_false _ _ fits), stored_over t out room after e.1 ∙ sym (pick_false _ _ fits))
 
         -- for callers: what such an answer says
-        pub all_numbered : (n : ℕ) (after : List ℕ) → Numbers n after → (n ≡ size t) × (after ≡ over (numbered t) out)
+        pub all_numbered : (n : Option ℕ) (after : List ℕ) → Numbers n after → (n ≡ Some (size t)) × (after ≡ over (numbered t) out)
         unfolding replaced_nodes replaced_after
         all_numbered n after e = (e.0 ∙ pick_false _ _ fits, e.1 ∙ pick_false _ _ fits)

@@ -1,5 +1,5 @@
 -- Document 02, Paper 6: a tree with what stands at a named node replaced by another tree, and that numbered into a lent table.
-use Rattle.std.specs.Prelude.{Bool, ◌||◌, List, ℕ, eqb, ltb, length}
+use Rattle.std.specs.Prelude.{Bool, ◌||◌, List, ℕ, eqb, ltb, length, Option, None, Some}
 use Rattle.laws.specs.Choice.{pick}
 use Rattle.laws.specs.Lists.{over}
 use Rattle.tree.specs.Sizes.{most_nodes}
@@ -28,9 +28,9 @@ replaced_at cells count j s i = replaced cells count j s i (tree_at cells count 
 unfoldable pub not_numbered : ℕ → Tree → ℕ → Bool
 not_numbered nodes t cells = eqb nodes 0 || (ltb most_nodes (size t) || too_short t cells)
 
--- how many nodes there are, or 0
-unfoldable pub replaced_nodes : ℕ → Tree → ℕ → ℕ
-replaced_nodes nodes t cells = pick (not_numbered nodes t cells) 0 (size t)
+-- how many nodes there are, where it is numbered
+unfoldable pub replaced_nodes : ℕ → Tree → ℕ → Option ℕ
+replaced_nodes nodes t cells = pick (not_numbered nodes t cells) None (Some (size t))
 
 -- the lent table afterwards: "numbered as in Paper 2" over its start, or as it was
 unfoldable pub replaced_after : ℕ → Tree → List ℕ → List ℕ

@@ -1,10 +1,10 @@
 // Marks: what the pass over all nodes knows of a node when it comes to the node's owner. A mark is a kind and eight times
 // the levels below; a kind is 1 for an expression, 2 for a type, 3 or 4 for a link whose item is an expression or a type.
+// Numbers for speed, 0 for none: the pass asks for them at each node (docs/PERFORMANCE.md, 'Instructions').
 ghost use Rattle.std.specs.Prelude.{◌≡◌, true, ◌≤◌, ◌<◌, length};
 ghost use Rattle.tree_one_pass.specs.Marks.{Takes, Opens, Closes};
 
 use super::rows::fits;
-use tree_labels::level::larger;
 
 // In place of the mark of an operand that is misplaced, or that another owner has taken.
 pub const TAKEN: u16 = 7;
@@ -13,13 +13,7 @@ pub const TAKEN: u16 = 7;
 fn opens(row: u16, attributes: u16, detail: u16, one: u16) -> bool
     ensures { result ≡ true → Opens row attributes detail one }
 {
-    if row / 4 % 4 < attributes {
-        return false;
-    }
-    if row / 1024 < detail {
-        return false;
-    }
-    fits(row / 16 % 8, one % 8)
+    attributes <= row / 4 % 4 && detail <= row / 1024 && fits(row / 16 % 8, one % 8)
 }
 
 // The mark of a node with this row whose operands have these marks; 0 where the second does not fit, or there is no row.
@@ -28,7 +22,7 @@ fn mark_by(row: u16, one: u16, two: u16) -> u16
     ensures { (result ≡ 0 → ⊥) → Closes row one two result }
 {
     let kind = two % 8;
-    let levels = larger(one, two) / 8;
+    let levels = one.max(two) / 8;
     if row % 4 == 3 {
         if fits(one % 4 + 4, kind) {
             return one % 8 + 2 + 8 * levels;
@@ -66,7 +60,7 @@ pub(crate) fn take(marks: &mut [u16], count: u16, operand: u16) -> u16
     if count < operand {
         return TAKEN;
     }
-    let at = operand as usize;
+    let at = usize::from(operand);
     let mark = marks[at];
     if mark == 0 {
         return TAKEN;

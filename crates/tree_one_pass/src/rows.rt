@@ -1,6 +1,7 @@
 // What the one pass knows of a form: its row. A row is a class, 4 times the highest attributes, 16 and 128 times the codes of
 // the first and the second place, and 1,024 times the highest detail. 27,801, of binaries, is an expression (1) with
 // attributes up to 2 (8), an expression at each place (16 and 128) and a detail up to 27 (27,648).
+// Forms and rows are numbers here for speed, 0 for none: the pass asks for one at each node (docs/PERFORMANCE.md, 'Instructions').
 ghost use Rattle.std.specs.Prelude.{◌≡◌, true, not, ◌&&◌, ℕ, ◌<◌, eqb};
 ghost use Rattle.tree.specs.Forms.{expr_closure, type_impl_trait, type_path, type_trait_object};
 ghost use Rattle.tree.specs.Table.{form_at, detail_at};
@@ -9,6 +10,7 @@ ghost use Rattle.tree_one_pass.specs.Rows.{fits_by, suits, RowAt};
 
 use tree::forms;
 use tree_rules::refusal::has_bad_output;
+use tree_source::Source;
 
 // The kinds that fit a place, by its code: byte n of it has a bit for each kind that fits code n. The codes are 0 nothing,
 // 1 and 2 required, 3 and 4 optional, 5 and 6 a list, each of expressions and of types, 7 an item.
@@ -19,7 +21,7 @@ pub(crate) fn fits(code: u16, kind: u16) -> bool
     requires { (code < 8) × (kind < 8) }
     ensures { result ≡ true → fits_by code kind ≡ true }
 {
-    let bit = (8 * code + kind) as u64;
+    let bit = u64::from(8 * code + kind);
     (KINDS >> bit) % 2 == 1
 }
 
@@ -101,15 +103,15 @@ fn bounds_row(detail: u16) -> u16
 }
 
 // The row of a node whose form alone does not say it; 0 where there is none.
-pub(crate) fn rare_row(file: &[u8], held: &[u16], node: u16, form: u16, detail: u16) -> u16
-    requires { (form ≡ form_at (cells_of file.now held.now) node) × (detail ≡ detail_at (cells_of file.now held.now) node) }
-    ensures { (result ≡ 0 → ⊥) → RowAt (cells_of file.now held.now) node result }
+pub(crate) fn rare_row(source: &Source, node: u16, form: u16, detail: u16) -> u16
+    requires { (form ≡ form_at (cells_of source.now.file.now source.now.held.now) node) × (detail ≡ detail_at (cells_of source.now.file.now source.now.held.now) node) }
+    ensures { (result ≡ 0 → ⊥) → RowAt (cells_of source.now.file.now source.now.held.now) node result }
 {
     match form {
         forms::TYPE_PATH => path_row(detail),
         forms::TYPE_IMPL_TRAIT | forms::TYPE_TRAIT_OBJECT => bounds_row(detail),
         forms::EXPR_CLOSURE => {
-            if has_bad_output(file, held, node) {
+            if has_bad_output(source, node) {
                 0
             } else {
                 1049

@@ -1,18 +1,8 @@
 -- What the private functions of places answer. Nothing here is to be believed.
-use Rattle.std.specs.Prelude.{Bool, true, false, List, ℕ, eqb}
-use Rattle.laws.specs.Choice.{pick}
+use Rattle.std.specs.Prelude.{Bool, true, false, List, ℕ}
 use Rattle.tree_places.specs.declared.place.Place.{Place}
 use Rattle.tree_places.specs.declared.place.Place.TheVariants.{Nothing, Required, Optional, List as ListOf, Item, Next}
-use Rattle.tree.specs.Forms.{a_type}
 use Rattle.tree_places.specs.Places.{wrong_class, wrong_list, wrong_item, wrong_next}
-
--- the output type of a path type or of bounds
-abbrev pub output_place : ℕ → Place
-output_place detail = pick (eqb detail 3) (Optional a_type) Nothing
-
--- the arguments of a path type
-abbrev pub arguments_place : ℕ → Place
-arguments_place detail = pick (eqb detail 2) (ListOf a_type) Nothing
 
 -- the places that must have an operand
 unfoldable pub is_required : Place → Bool

@@ -5,3 +5,4 @@ pub mod First
 pub mod Count
 pub mod Owned
 pub mod Accepted
+pub mod Replied

@@ -1,8 +1,8 @@
 -- The shape of a node. ("a node's shape holds, per place, an operand present or absent")
 use Rattle.std.specs.Prelude.{List, [], ◌∷◌, ℕ}
 use Rattle.laws.specs.Choice.{Line, line, lookup}
-use Rattle.tree.specs.declared.table.Operand.{Operand}
-use Rattle.tree.specs.declared.table.Operand.TheVariants.{Absent, Present}
+use Rattle.std.specs.Prelude.{Option}
+use Rattle.std.specs.Prelude.{None, Some}
 use Rattle.tree_shapes.specs.declared.Shape.{Shape}
 use Rattle.tree_shapes.specs.declared.Shape.TheVariants.{Closed, One, Two}
 use Rattle.tree.specs.Forms.{expr_assign, expr_await, expr_binary, expr_break, expr_call, expr_cast, expr_closure, expr_field, expr_group, expr_index, expr_let, expr_method_call, expr_paren, expr_range, expr_raw_addr, expr_reference, expr_return, expr_try, expr_unary, expr_yield, type_fn_ptr, type_impl_trait, type_path, type_ptr, type_reference, type_trait_object, link}
@@ -11,7 +11,7 @@ use Rattle.tree.specs.Trees.{operand_at}
 use Rattle.tree.specs.Operands.{presence, form_in}
 
 -- document 01, 'Operands': the forms that have a place for two operands, and those that have one; all others are closed
-unfoldable pub shape_lines : Operand → Operand → List (Line Shape)
+unfoldable pub shape_lines : Option ℕ → Option ℕ → List (Line Shape)
 shape_lines first second =
     line (expr_assign ∷ expr_binary ∷ expr_call ∷ expr_index ∷ expr_method_call ∷ expr_range ∷ []) (Two first second) ∷
     line (expr_cast ∷ type_path ∷ link ∷ []) (Two first second) ∷
@@ -27,17 +27,17 @@ unfoldable pub shape_at : List ℕ → ℕ → ℕ → Shape
 shape_at cells count i =
     lookup (shape_lines (presence (operand_at cells count i first_column)) (presence (operand_at cells count i second_column))) Closed (form_in cells count i)
 
-unfoldable pub first_in_shape : Shape → Operand
-first_in_shape Closed = Absent
+unfoldable pub first_in_shape : Shape → Option ℕ
+first_in_shape Closed = None
 first_in_shape (One a) = a
 first_in_shape (Two a b) = a
 
-unfoldable pub second_in_shape : Shape → Operand
-second_in_shape Closed = Absent
-second_in_shape (One a) = Absent
+unfoldable pub second_in_shape : Shape → Option ℕ
+second_in_shape Closed = None
+second_in_shape (One a) = None
 second_in_shape (Two a b) = b
 
 -- "Operand 0 is absent."
-abbrev pub operand_number : Operand → ℕ
-operand_number Absent = 0
-operand_number (Present n) = n
+abbrev pub operand_number : Option ℕ → ℕ
+operand_number None = 0
+operand_number (Some n) = n

@@ -7,12 +7,13 @@ use native.Mathlib.Omega.{arith}
 use lib.ListN.{length, get_or}
 use borrow.Author.Tests.{lt-ltb, le-ltb}
 use Rattle.laws.proofs.Choice.{true_not_false}
-use Rattle.file_numbers.specs.declared.Number.TheVariants.{Malformed, Value}
+use Rattle.std.specs.Prelude.{None, Some}
 use Rattle.file_numbers.specs.Standing.{stands_at}
 use Rattle.file_numbers.proofs.Groups.{one_byte, zero_second, two_bytes, zero_third, high_third, three_bytes}
 use Rattle.tree_source.specs.Source.{value_at, next_at}
 use Rattle.tree_source.specs.declared.Node.{Node}
-use Rattle.tree_source.specs.Nodes.{NodeFrom, QuickFrom, is_slow, no_node, quick_bytes}
+use Rattle.std.specs.Prelude.{Option, None, Some}
+use Rattle.tree_source.specs.Nodes.{NodeFrom, QuickFrom, is_slow, quick_bytes}
 use Rattle.tree_source.proofs.Nodes.{no_value, is_value, six_from}
 
 -- the value of the number at a place, and the place after it, which is near
@@ -23,10 +24,10 @@ NearAt file at v next = (v ≡ value_at file at) × (next ≡ next_at file at) �
 pub place_near : (file : List ℕ) (at v next : ℕ) → NearAt file at v next → (next ≡ next_at file at) × (next ≤ at + 3)
 place_near file at v next n = (n.1, n.2)
 
-near : (file : List ℕ) (at v k : ℕ) → k ≤ 3 → Value v (at + k) ≡ stands_at file at → NearAt file at v (at + k)
+near : (file : List ℕ) (at v k : ℕ) → k ≤ 3 → Some (v, at + k) ≡ stands_at file at → NearAt file at v (at + k)
 near file at v k h e = let i = is_value file at v (at + k) e in (i.0, i.1, omega arith)
 
-none : (file : List ℕ) (at : ℕ) → Malformed ≡ stands_at file at → NearAt file at 0 0
+none : (file : List ℕ) (at : ℕ) → None ≡ stands_at file at → NearAt file at 0 0
 none file at e = let i = no_value file at e in (i.0, i.1, omega arith)
 
 module _ (file : List ℕ) (at : ℕ) (room : at + 2 < length file) (low : ℕ) (is_low : low ≡ get_or file at 0) where
@@ -52,13 +53,13 @@ module _ (file : List ℕ) (at : ℕ) (room : at + 2 < length file) (low : ℕ) 
 
 -- three numbers of a byte each, where a node has room
 module _ (file : List ℕ) (at a b c : ℕ) (room : at + 12 ≤ length file) (is_a : a ≡ get_or file at 0) (is_b : b ≡ get_or file (at + 1) 0) (is_c : c ≡ get_or file (at + 2) 0) (small : a + b + c ≤ 127) where
-  pub small_form : Value a (at + 1) ≡ stands_at file at
+  pub small_form : Some (a, at + 1) ≡ stands_at file at
   small_form = one_byte file at a is_a (omega arith) (omega arith)
 
-  pub small_attributes : Value b (at + 2) ≡ stands_at file (at + 1)
+  pub small_attributes : Some (b, at + 2) ≡ stands_at file (at + 1)
   small_attributes = let e : at + 1 + 1 ≡ at + 2 = omega arith in rw e at (one_byte file (at + 1) b is_b (omega arith) (omega arith))
 
-  pub small_detail : Value c (at + 3) ≡ stands_at file (at + 2)
+  pub small_detail : Some (c, at + 3) ≡ stands_at file (at + 2)
   small_detail = let e : at + 2 + 1 ≡ at + 3 = omega arith in rw e at (one_byte file (at + 2) c is_c (omega arith) (omega arith))
 
   -- and three that are near
@@ -80,16 +81,16 @@ module _ (file : List ℕ) (at : ℕ) where
     unfolding is_slow
     quick_small h = rw (le-ltb (length file) (at + quick_bytes) room, sym is_a, sym is_b, sym is_c) (le-ltb 127 (a + b + c) h)
 
-  pub read_slowly : (n : Node) → is_slow file at ≡ true → n ≡ no_node → QuickFrom file at n
-  read_slowly n s e = record { quick = λ q. absurd (true_not_false (sym s ∙ q)); slow = λ _. e }
+  pub read_slowly : is_slow file at ≡ true → QuickFrom file at None
+  read_slowly s = record { quick = λ q. true_not_false (sym s ∙ q); slow = λ _. refl }
 
-  pub read_quickly : (n : Node) → is_slow file at ≡ false → NodeFrom file at n → QuickFrom file at n
-  read_quickly n q f = record { quick = λ _. f; slow = λ s. absurd (true_not_false (sym s ∙ q)) }
+  pub read_quickly : (n : Node) → is_slow file at ≡ false → NodeFrom file at n → QuickFrom file at (Some n)
+  read_quickly n q f = record { quick = λ _. f; slow = λ s. true_not_false (sym s ∙ q) }
 
-  -- a form that is not 0 was read
-  pub form_read : (n : Node) → QuickFrom file at n → (n.form ≡ 0 → ⊥) → NodeFrom file at n
-  form_read n r some = go (is_slow file at) refl
+  -- a node that was quickly read
+  pub node_read : (n : Node) → QuickFrom file at (Some n) → NodeFrom file at n
+  node_read n r = go (is_slow file at) refl
     where
       go : (b : Bool) → is_slow file at ≡ b → NodeFrom file at n
       go false q = r.quick q
-      go true s = absurd (some (ap (λ m. m.form) (r.slow s)))
+      go true s = true_not_false (r.slow s)

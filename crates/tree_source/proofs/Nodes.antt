@@ -6,7 +6,7 @@ use Prim.Native.Nat.{ℕ, suc, ◌+◌, ◌-◌, ◌≤◌, ◌<◌}
 use native.Mathlib.Omega.{arith}
 use lib.Dec.{eqb, ltb}
 use lib.ListN.{length, get_or}
-use Rattle.file_numbers.specs.declared.Number.TheVariants.{Malformed, Value}
+use Rattle.std.specs.Prelude.{None, Some}
 use Rattle.file_numbers.specs.Standing.{stands_at}
 use Rattle.tree.specs.Sizes.{node_cells}
 use Rattle.tree.specs.Table.{cell_at, form_column, attributes_column, detail_column, first_column, second_column, symbol_column}
@@ -16,11 +16,11 @@ use Rattle.tree_source.specs.Nodes.{NodeAt, NodeFrom}
 use Rattle.tree_source.proofs.Cells.{cell_inside, cell_outside}
 
 -- what a step reads
-pub no_value : (file : List ℕ) (at : ℕ) → Malformed ≡ stands_at file at → (0 ≡ value_at file at) × (0 ≡ next_at file at)
+pub no_value : (file : List ℕ) (at : ℕ) → None ≡ stands_at file at → (0 ≡ value_at file at) × (0 ≡ next_at file at)
 unfolding value_in next_in
 no_value file at e = (ap value_in e, ap next_in e)
 
-pub is_value : (file : List ℕ) (at v next : ℕ) → Value v next ≡ stands_at file at → (v ≡ value_at file at) × (next ≡ next_at file at)
+pub is_value : (file : List ℕ) (at v next : ℕ) → Some (v, next) ≡ stands_at file at → (v ≡ value_at file at) × (next ≡ next_at file at)
 unfolding value_in next_in
 is_value file at v next e = (ap value_in e, ap next_in e)
 

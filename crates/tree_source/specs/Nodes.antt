@@ -1,5 +1,5 @@
 -- A node's six numbers, taken from a list of cells or from a file.
-use Rattle.std.specs.Prelude.{List, ◌≡◌, Bool, true, false, ◌||◌, ℕ, ◌+◌, ltb, length, get_or}
+use Rattle.std.specs.Prelude.{List, ◌≡◌, Bool, true, false, ◌||◌, ℕ, ◌+◌, ltb, length, get_or, Option, IsSomeAnd, IsNone}
 use Rattle.tree.specs.Table.{form_at, attributes_at, detail_at, first_at, second_at, symbol_at, attributes_column, detail_column, first_column, second_column, symbol_column}
 use Rattle.tree_source.specs.declared.Node.{Node}
 use Rattle.tree_source.specs.Source.{value_at, skip}
@@ -30,11 +30,7 @@ quick_bytes = 12
 unfoldable pub is_slow : List ℕ → ℕ → Bool
 is_slow file at = ltb (length file) (at + quick_bytes) || ltb 127 (get_or file at 0 + get_or file (at + 1) 0 + get_or file (at + 2) 0)
 
--- the numbers of no node
-abbrev pub no_node : Node
-no_node = record { form = 0; attributes = 0; detail = 0; first = 0; second = 0; symbol = 0 }
-
--- these are the six numbers from a place of a file on, or those of no node where they are not quickly read
-pub record QuickFrom (file : List ℕ) (at : ℕ) (n : Node) : Type 0 where
-  pub quick : is_slow file at ≡ false → NodeFrom file at n
-  pub slow : is_slow file at ≡ true → n ≡ no_node
+-- these are the six numbers from a place of a file on, or none where they are not quickly read
+pub record QuickFrom (file : List ℕ) (at : ℕ) (r : Option Node) : Type 0 where
+  pub quick : is_slow file at ≡ false → IsSomeAnd r (NodeFrom file at)
+  pub slow : is_slow file at ≡ true → IsNone r

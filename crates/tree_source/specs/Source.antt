@@ -1,18 +1,16 @@
 -- The numbers of nodes where they stand: in a table's cells, or in a file from each node's place on.
-use Rattle.std.specs.Prelude.{List, [], ◌∷◌, ◌++◌, ℕ, zero, suc, eqb, length}
+use Rattle.std.specs.Prelude.{List, [], ◌∷◌, ◌++◌, ℕ, zero, suc, eqb, length, Option, Some, None}
 use Rattle.laws.specs.Choice.{pick}
 use Rattle.tree.specs.Sizes.{node_cells}
-use Rattle.file_numbers.specs.declared.Number.{Number}
-use Rattle.file_numbers.specs.declared.Number.TheVariants.{Malformed, Value}
 use Rattle.file_numbers.specs.Standing.{stands_at}
 
-unfoldable pub value_in : Number → ℕ
-value_in Malformed = 0
-value_in (Value v next) = v
+unfoldable pub value_in : Option (ℕ × ℕ) → ℕ
+value_in None = 0
+value_in (Some p) = p.0
 
-unfoldable pub next_in : Number → ℕ
-next_in Malformed = 0
-next_in (Value v next) = next
+unfoldable pub next_in : Option (ℕ × ℕ) → ℕ
+next_in None = 0
+next_in (Some p) = p.1
 
 -- the number at a place of a file, and the place after it; 0 where it is malformed
 abbrev pub value_at : List ℕ → ℕ → ℕ

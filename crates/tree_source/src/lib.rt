@@ -1,6 +1,4 @@
-// Where the numbers of nodes stand: in a node table, or still in a tree file. A source is a file and cells. Without a file,
-// that is with one of no bytes, the cells are the table. With a file they are places in it, where each node but the first
-// begins; the first begins behind the header.
+// Where the numbers of nodes stand: in a node table, or still in a tree file.
 #![tactic(auto)]
 
 ghost use Rattle.std.specs.Prelude.{◌≡◌, ◌||◌, ◌∷◌, ◌+◌, ◌*◌, ◌-◌, ◌≤◌, ◌<◌, eqb, ltb, length, get_or};
@@ -9,29 +7,28 @@ ghost use Rattle.tree.specs.Table.{form_at};
 ghost use Rattle.tree_source.specs.Source.{value_at, next_at, behind_header, cells_of};
 ghost use Rattle.tree_source.specs.Nodes.{NodeAt, NodeFrom, QuickFrom};
 
-use file_numbers::{Number, number_at, wide};
+use file_numbers::number_at;
 use tree::table::cell;
 use tree::{columns, sizes};
 
 // ---- numbers of a file
 
-// A number of a file, and the place after it; zeros where it is malformed.
-#[derive(Drop)]
+// A number of a file, and the place after it; zeros where it is malformed, no Option: a node's six are read on without a look at any.
+#[derive(Clone, Copy, Debug)]
 struct Reading {
     value: u16,
     next: usize,
 }
 
+const MALFORMED: Reading = Reading { value: 0, next: 0 };
+
 fn step(file: &[u8], at: usize) -> Reading
     ensures { (result.value ≡ value_at file.now at) × (result.next ≡ next_at file.now at) }
 {
-    let Number::Value(value, next) = number_at(file, at) else {
-        return Reading { value: 0, next: 0 };
+    let Some((value, next)) = number_at(file, at) else {
+        return MALFORMED;
     };
-    Reading {
-        value: value,
-        next: next,
-    }
+    Reading { value, next }
 }
 
 // The same where three bytes are left.
@@ -39,16 +36,16 @@ fn near_at(file: &[u8], at: usize) -> Reading
     requires { at + 2 < length file.now }
     ensures { (result.value ≡ value_at file.now at) × (result.next ≡ next_at file.now at) × (result.next ≤ at + 3) }
 {
-    let low = wide(file[at]);
+    let low = u16::from(file[at]);
     if low < 128 {
         return Reading {
             value: low,
             next: at + 1,
         };
     }
-    let middle = wide(file[at + 1]);
+    let middle = u16::from(file[at + 1]);
     if middle == 0 {
-        return Reading { value: 0, next: 0 };
+        return MALFORMED;
     }
     if middle < 128 {
         return Reading {
@@ -56,12 +53,9 @@ fn near_at(file: &[u8], at: usize) -> Reading
             next: at + 2,
         };
     }
-    let high = wide(file[at + 2]);
-    if high == 0 {
-        return Reading { value: 0, next: 0 };
-    }
-    if high > 3 {
-        return Reading { value: 0, next: 0 };
+    let high = u16::from(file[at + 2]);
+    if high == 0 || high > 3 {
+        return MALFORMED;
     }
     Reading {
         value: (low - 128) + 128 * (middle - 128) + 16384 * high,
@@ -78,32 +72,10 @@ fn start(file: &[u8]) -> usize
     count.next
 }
 
-// Whether a node of a file has no place.
-fn is_outside(places: &[u16], node: u16) -> bool
-    ensures { result ≡ (eqb node 0 || ltb (length places.now + 1) node) }
-{
-    if node == 0 {
-        return true;
-    }
-    places.len() + 1 < node as usize
-}
-
-// The place of a node's first byte.
-fn place_of(file: &[u8], places: &[u16], node: u16) -> usize
-    requires { (1 ≤ node) × (node ≤ length places.now + 1) }
-    ensures { result ≡ get_or (behind_header file.now ∷ places.now) (node - 1) 0 }
-{
-    if node == 1 {
-        return start(file);
-    }
-    let at = (node - 2) as usize;
-    places[at] as usize
-}
-
 // ---- nodes
 
 // The six numbers of a node.
-#[derive(Clone, Copy)]
+#[derive(Clone, Copy, Debug, PartialEq, Eq)]
 pub struct Node {
     pub form: u16,
     pub attributes: u16,
@@ -146,31 +118,31 @@ fn node_from(file: &[u8], at: usize) -> Node
 // The bytes that a node has at most whose form, attributes and detail are a byte each.
 pub const QUICK_BYTES: usize = 12;
 
-// Those from a place of a file on, where so many bytes are left and the first three numbers are small, as they are in accepted files; zeros otherwise.
-pub fn quick_from(file: &[u8], place: u16) -> Node
+// Those from a place of a file on, where so many bytes are left and the first three numbers are small, as they are in accepted files.
+pub fn quick_from(file: &[u8], place: u16) -> Option<Node>
     ensures { QuickFrom file.now place result }
 {
-    let at = place as usize;
+    let at = usize::from(place);
     if file.len() < at + QUICK_BYTES {
-        return NONE;
+        return None;
     }
-    let form = wide(file[at]);
-    let attributes = wide(file[at + 1]);
-    let detail = wide(file[at + 2]);
+    let form = u16::from(file[at]);
+    let attributes = u16::from(file[at + 1]);
+    let detail = u16::from(file[at + 2]);
     if 127 < form + attributes + detail {
-        return NONE;
+        return None;
     }
     let first = near_at(file, at + 3);
     let second = near_at(file, first.next);
     let symbol = near_at(file, second.next);
-    Node {
-        form: form,
-        attributes: attributes,
-        detail: detail,
+    Some(Node {
+        form,
+        attributes,
+        detail,
         first: first.value,
         second: second.value,
         symbol: symbol.value,
-    }
+    })
 }
 
 // Those of a node of a table; zeros outside.
@@ -187,39 +159,69 @@ fn node_in(table: &[u16], node: u16) -> Node
     }
 }
 
-// Those of a node of a source; zeros outside.
-pub fn node_at(file: &[u8], held: &[u16], node: u16) -> Node
-    ensures { NodeAt (cells_of file.now held.now) node result }
-{
-    if file.len() == 0 {
-        return node_in(held, node);
-    }
-    if is_outside(held, node) {
-        return NONE;
-    }
-    node_from(file, place_of(file, held, node))
+// ---- sources
+
+// A file and cells. Without a file, that is with one of no bytes, the cells are the table. With a file they are places in it,
+// where each node but the first begins; the first begins behind the header.
+#[derive(Clone, Copy, Debug)]
+pub struct Source<'a> {
+    pub file: &'a [u8],
+    pub held: &'a [u16],
 }
 
-// The form alone, which in a file is the first number that is read.
-pub fn form_at(file: &[u8], held: &[u16], node: u16) -> u16
-    ensures { result ≡ form_at (cells_of file.now held.now) node }
-{
-    if file.len() == 0 {
-        return cell(held, node, columns::FORM);
+impl<'a> Source<'a> {
+    // Whether a node of a file has no place.
+    fn is_outside(&self, node: u16) -> bool
+        ensures { result ≡ (eqb node 0 || ltb (length self.now.held.now + 1) node) }
+    {
+        node == 0 || self.held.len() + 1 < usize::from(node)
     }
-    if is_outside(held, node) {
-        return 0;
-    }
-    let form = step(file, place_of(file, held, node));
-    form.value
-}
 
-// Whether a source has fewer nodes.
-pub fn is_short(file: &[u8], held: &[u16], count: u16) -> bool
-    ensures { result ≡ ltb (length (cells_of file.now held.now)) (node_cells * count) }
-{
-    if file.len() == 0 {
-        return held.len() < sizes::NODE_CELLS * (count as usize);
+    // The place of a node's first byte.
+    fn place_of(&self, node: u16) -> usize
+        requires { (1 ≤ node) × (node ≤ length self.now.held.now + 1) }
+        ensures { result ≡ get_or (behind_header self.now.file.now ∷ self.now.held.now) (node - 1) 0 }
+    {
+        if node == 1 {
+            return start(self.file);
+        }
+        usize::from(self.held[usize::from(node - 2)])
     }
-    held.len() + 1 < count as usize
+
+    // The numbers of a node; zeros outside.
+    pub fn node_at(&self, node: u16) -> Node
+        ensures { NodeAt (cells_of self.now.file.now self.now.held.now) node result }
+    {
+        if self.file.is_empty() {
+            return node_in(self.held, node);
+        }
+        if self.is_outside(node) {
+            return NONE;
+        }
+        node_from(self.file, self.place_of(node))
+    }
+
+    // The form alone, which in a file is the first number that is read.
+    pub fn form_at(&self, node: u16) -> u16
+        ensures { result ≡ form_at (cells_of self.now.file.now self.now.held.now) node }
+    {
+        if self.file.is_empty() {
+            return cell(self.held, node, columns::FORM);
+        }
+        if self.is_outside(node) {
+            return 0;
+        }
+        let form = step(self.file, self.place_of(node));
+        form.value
+    }
+
+    // Whether there are fewer nodes.
+    pub fn is_short(&self, count: u16) -> bool
+        ensures { result ≡ ltb (length (cells_of self.now.file.now self.now.held.now)) (node_cells * count) }
+    {
+        if self.file.is_empty() {
+            return self.held.len() < sizes::NODE_CELLS * usize::from(count);
+        }
+        self.held.len() + 1 < usize::from(count)
+    }
 }

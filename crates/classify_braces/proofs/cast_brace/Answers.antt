@@ -1,10 +1,5 @@
--- `classify_braces::cast_brace` meets its contract. Assumes nothing.
-use Rattle.laws.proofs.Calls.{free}
-use Rattle.tree.specs.Walks.{walk}
-use Rattle.classify_braces.specs.Braces.{type_trailing_brace}
-use borrow.Author.Rules.{rules}
+-- `classify_braces::cast_brace` at a type that is there. Assumes nothing.
 use Rattle.classify_braces.proofs.cast_brace.Goals as goal
 
-pub returns-in_default : goal.returns-in_default
-unfolding type_trailing_brace walk
-returns-in_default c = rw c.in_default.is
+pub returns : goal.returns
+returns c = rw c.in-Some.is c.type_trailing_brace.ensures

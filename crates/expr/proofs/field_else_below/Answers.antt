@@ -1,18 +1,12 @@
 -- `expr::field_else_below` meets its contract. Assumes nothing.
-use mathlib.Core.Path.{ap, ◌∙◌}
-use mathlib.Core.List.{[], ◌∷◌}
-use Prim.Native.Nat.{ℕ}
-use lib.Dec.{eqb}
-use Rattle.laws.proofs.Calls.{free}
-use Rattle.tree.specs.Trees.{label_at}
-use Rattle.tree.proofs.Matches.{root_arm, root_rest}
-use Rattle.expr.specs.Expr.{call_needs_group}
+use Rattle.std.proofs.Common.{rules, ◌≡◌, ◌∙◌}
+use Rattle.laws.specs.Choice.{pick, lookup}
+use Rattle.precedence.specs.Precedences.{below}
+use Rattle.precedence.specs.declared.Precedence.TheVariants.{Unambiguous}
+use Rattle.expr.proofs.Operands.{crates_in}
+use Rattle.expr.proofs.field_else_below.Goals.{in_default-via-in-Some+in_default, in_default-via-in_default}
 use Rattle.expr.proofs.field_else_below.Goals as goal
 
-pub returns-in-13 : goal.returns-in-13
-unfolding call_needs_group label_at
-returns-in-13 c = ap (λ (d : ℕ). eqb d 0) c.cell.ensures ∙ root_arm _ _ _ _ _ _ c.form_at.ensures tt 0 tt c.in-13.is
-
 pub returns-in_default : goal.returns-in_default
-unfolding call_needs_group label_at
-returns-in_default c = c.is_below.ensures ∙ root_rest _ _ _ _ _ _ c.form_at.ensures c.in_default.in_default-own.rest
+unfolding lookup pick
+returns-in_default c = (let e : c.lt.result ≡ below c.args.left Unambiguous = search rules in e) ∙ rw (crates_in c.args.table.now.cells.now c.args.table.now.count c.args.func c.args.left) (elim c.in_default.branch [ in_default-via-in-Some+in_default w ↦ search rules | in_default-via-in_default w ↦ search rules ])

@@ -1,7 +1,6 @@
 -- `file_columns::arrange` meets its contract. Assumes nothing.
 use native.Mathlib.Omega.{arith}
 use Rattle.file_columns.proofs.Arranging.{behind, all_columns}
-use borrow.Author.Rules.{rules}
 use Rattle.file_columns.proofs.arrange.Goals as goal
 
 pub put_column-attributes-requires : goal.put_column-attributes-requires

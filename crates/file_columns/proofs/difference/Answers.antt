@@ -1,7 +1,6 @@
 -- `file_columns::difference` meets its contract. Assumes nothing.
 use mathlib.Core.Path.{sym}
 use Rattle.file_columns.proofs.Held.{held_up, held_down}
-use borrow.Author.Rules.{rules}
 use Rattle.file_columns.proofs.difference.Goals as goal
 
 pub returns-then-before-number : goal.returns-then-before-number

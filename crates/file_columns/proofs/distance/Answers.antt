@@ -1,7 +1,6 @@
 -- `file_columns::distance` meets its contract. Assumes nothing.
 use mathlib.Core.Path.{sym}
 use Rattle.file_columns.proofs.Held.{held_before, held_behind}
-use borrow.Author.Rules.{rules}
 use Rattle.file_columns.proofs.distance.Goals as goal
 
 pub returns-then-operand-owner : goal.returns-then-operand-owner

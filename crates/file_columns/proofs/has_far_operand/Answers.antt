@@ -2,9 +2,7 @@
 use mathlib.Core.Path.{◌≡◌, sym, ◌∙◌}
 use Prim.Native.Nat.{suc, ◌+◌}
 use native.Mathlib.Omega.{arith}
-use Rattle.laws.proofs.Calls.{free}
 use Rattle.laws.proofs.Choice.{or_here, or_next}
-use borrow.Author.Rules.{rules}
 use Rattle.file_columns.proofs.has_far_operand.Goals as goal
 
 pub returns-then-is_far : goal.returns-then-is_far

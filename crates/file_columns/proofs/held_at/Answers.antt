@@ -2,9 +2,7 @@
 use mathlib.Core.Path.{sym, ◌∙◌}
 use Prim.Native.Nat.{◌-◌}
 use native.Mathlib.Omega.{arith}
-use Rattle.laws.proofs.Calls.{free}
 use Rattle.file_columns.proofs.Arranging.{in_forms, in_operands, in_seconds, in_others}
-use borrow.Author.Rules.{rules}
 use Rattle.file_columns.proofs.held_at.Goals as goal
 
 pub difference-requires : goal.difference-requires

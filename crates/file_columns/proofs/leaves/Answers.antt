@@ -1,7 +1,6 @@
 -- `file_columns::leaves` meets its contract. Assumes nothing.
 use native.Mathlib.Omega.{arith}
 use Rattle.file_columns.proofs.Held.{leaves_up, leaves_down}
-use borrow.Author.Rules.{rules}
 use Rattle.file_columns.proofs.leaves.Goals as goal
 
 pub returns-then-held-eq0 : goal.returns-then-held-eq0

@@ -1,25 +1,23 @@
 -- `file_columns::load_in` meets its contract. Assumes nothing.
-use native.Mathlib.Omega.{arith}
+use Rattle.std.proofs.Common.{arith, ◌∙◌}
+use Rattle.file_loader.proofs.Replied.{passed_up}
 use Rattle.file_columns.proofs.Replies.{restored_inside, load_refused, load_stored}
-use borrow.Author.Rules.{rules}
 use Rattle.file_columns.proofs.load_in.Goals as goal
 
-pub lay_out-requires : goal.lay_out-requires
-lay_out-requires c =
-    let p = c.requires in
-    let i = restored_inside c.args.columns.now c.args.held.now c.args.cells.now _ _ _ c.restore_file.ensures.value c.restore_file.ensures.arrays _ _ c.in-Accepted.is in
-    let s = c.restore_file.ensures.arrays.same in
-    record {
-      count_le_most_nodes = (i.0, omega arith, omega arith);
-      held_value = i.2;
-    }
+pub copy-requires-clause-own : goal.copy-requires-clause-own
+copy-requires-clause-own c = omega (arith, c.from.ensures, (restored_inside c.args.columns.now c.args.held.now c.args.cells.now _ _ c.restore_file.ensures.arrays _ _ c.in_ok-loaded.ensures.value).1, c.restore_file.ensures.arrays.too, c.requires.0)
 
-pub returns-in-Refused : goal.returns-in-Refused
-returns-in-Refused c =
-    let whole = load_refused c.args.columns.now c.args.held.now c.args.cells.now _ _ _ c.restore_file.ensures.value c.restore_file.ensures.arrays c.args.table.now c.requires.2 _ c.in-Refused.is in
-    record { value = whole.0; table_after = whole.1 }
+pub copy-requires-clause-lent : goal.copy-requires-clause-lent
+copy-requires-clause-lent c = omega (arith, c.from.ensures, (restored_inside c.args.columns.now c.args.held.now c.args.cells.now _ _ c.restore_file.ensures.arrays _ _ c.in_ok-loaded.ensures.value).1, c.requires.1)
 
-pub returns-in-Accepted : goal.returns-in-Accepted
-returns-in-Accepted c =
-    let whole = load_stored c.args.columns.now c.args.held.now c.args.cells.now _ _ _ c.restore_file.ensures.value c.restore_file.ensures.arrays c.args.table.now c.requires.2 _ _ c.in-Accepted.is _ _ c.lay_out.ensures.value c.lay_out.ensures.table_after in
-    record { value = whole.0; table_after = whole.1 }
+pub returns-in_err-loaded-clause-value : goal.returns-in_err-loaded-clause-value
+returns-in_err-loaded-clause-value c = passed_up _ _ c.from_residual.ensures.0 c.from_residual.ensures.1 ∙ (load_refused c.args.columns.now c.args.held.now c.args.cells.now _ _ c.restore_file.ensures.arrays c.args.table.now c.requires.2 _ c.in_err-loaded.ensures.value).0
+
+pub returns-in_err-loaded-clause-table_after : goal.returns-in_err-loaded-clause-table_after
+returns-in_err-loaded-clause-table_after c = (load_refused c.args.columns.now c.args.held.now c.args.cells.now _ _ c.restore_file.ensures.arrays c.args.table.now c.requires.2 _ c.in_err-loaded.ensures.value).1
+
+pub returns-clause-value : goal.returns-clause-value
+returns-clause-value c = (load_stored c.args.columns.now c.args.held.now c.args.cells.now _ _ c.restore_file.ensures.arrays c.args.table.now c.requires.2 _ _ c.in_ok-loaded.ensures.value _ (rw c.from.ensures at c.copy.ensures)).0
+
+pub returns-clause-table_after : goal.returns-clause-table_after
+returns-clause-table_after c = (load_stored c.args.columns.now c.args.held.now c.args.cells.now _ _ c.restore_file.ensures.arrays c.args.table.now c.requires.2 _ _ c.in_ok-loaded.ensures.value _ (rw c.from.ensures at c.copy.ensures)).1

@@ -6,7 +6,6 @@ use lib.Seq.{length-take-le}
 use Rattle.file_loader.specs.Files.{count_in}
 use Rattle.tree_rules.specs.Refusals.{refusal4}
 use Rattle.file_columns.proofs.Replies.{cut_4}
-use borrow.Author.Rules.{rules}
 use Rattle.file_columns.proofs.load_with.Goals as goal
 
 pub load_in-requires : goal.load_in-requires

@@ -9,7 +9,6 @@ use Rattle.tree.specs.Sizes.{node_cells}
 use Rattle.tree.specs.Table.{first_column, second_column}
 use Rattle.file_columns.specs.Columns.{operand_in, most_restored}
 use Rattle.file_loader.proofs.Storing.{put_six}
-use borrow.Author.Rules.{rules}
 use Rattle.file_columns.proofs.put_node.Goals as goal
 
 pub bounds-cells-at-2 : goal.bounds-cells-at-2

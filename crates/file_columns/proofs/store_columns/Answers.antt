@@ -1,10 +1,8 @@
 -- `file_columns::store_columns` meets its contract. Assumes nothing.
 use mathlib.Core.Path.{sym, ◌∙◌}
-use Rattle.laws.proofs.Calls.{free}
 use Rattle.file_save.proofs.Putting.{stored_counted, after_counted}
 use Rattle.file_columns.specs.Columns.{columns_of}
 use Rattle.file_columns.proofs.Bounds.{part_long, small_forms, short_columns, arranged_part, arranged_part_long}
-use borrow.Author.Rules.{rules}
 use Rattle.file_columns.proofs.store_columns.Goals as goal
 
 pub slice_bounds-arrange-end : goal.slice_bounds-arrange-end

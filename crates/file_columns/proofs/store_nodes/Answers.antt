@@ -1,9 +1,7 @@
 -- `file_columns::store_nodes` meets its contract. Assumes nothing.
 use mathlib.Core.Path.{sym, ◌∙◌}
-use Rattle.laws.proofs.Calls.{free}
 use Rattle.file_save.proofs.Putting.{stored_counted, after_counted}
 use Rattle.file_columns.proofs.Bounds.{part_long, short_file}
-use borrow.Author.Rules.{rules}
 use Rattle.file_columns.proofs.store_nodes.Goals as goal
 
 pub slice_bounds-store-end : goal.slice_bounds-store-end

@@ -1,11 +1,10 @@
 -- `file_loader::after_quick_node` meets its contract. Assumes nothing.
-use mathlib.Core.Path.{refl}
-use native.Mathlib.Omega.{arith}
-use Rattle.file_loader.proofs.Quick.{quick_passed}
-use borrow.Author.Rules.{rules}
+use Rattle.std.proofs.Common.{arith}
+use Rattle.file_loader.proofs.Quick.{quick_last}
 use Rattle.file_loader.proofs.after_quick_node.Goals as goal
 
 pub returns : goal.returns
 returns c =
-    λ h.
-    quick_passed _ _ _ _ _ (omega arith) c.wide.ensures.0 c.wide-2.ensures.0 c.wide-3.ensures.0 (omega arith) _ _ _ c.skip_at-second.ensures.0 c.if-second-eq0.false c.skip_at-symbol.ensures.0 c.if-symbol-eq0.false c.skip_at.ensures.0 h
+    let s = c.in_ok-second.ensures in
+    let y = c.in_ok-symbol.ensures in
+    quick_last _ _ _ _ _ (omega arith) c.from.ensures c.from-2.ensures c.from-3.ensures (omega arith) _ _ s.0 s.1 y.0 y.1 _ c.skip_at-3.ensures

@@ -1,10 +1,8 @@
 -- `file_loader::store_node` meets its contract. Assumes nothing.
 use native.Mathlib.Omega.{arith}
-use lib.ListN.{length-set}
 use Rattle.tree.specs.Sizes.{node_cells}
 use Rattle.file_loader.proofs.Several.{read_none, read_next}
 use Rattle.file_loader.proofs.Storing.{still_formed, put_node}
-use borrow.Author.Rules.{rules}
 use Rattle.file_loader.proofs.store_node.Goals as goal
 
 pub known_at-form-requires : goal.known_at-form-requires

@@ -3,11 +3,9 @@ use mathlib.Core.Path.{sym}
 use native.Mathlib.Omega.{arith}
 use lib.ListN.{length}
 use borrow.Author.Tests.{lt-ltb, le-ltb}
-use Rattle.laws.proofs.Calls.{free}
 use Rattle.file_bytes.proofs.Numbers.{some_bytes}
 use Rattle.file_bytes.proofs.Several.{all_most}
-use Rattle.file_save.proofs.Putting.{whole, whole_long}
-use borrow.Author.Rules.{rules}
+use Rattle.file_save.proofs.Putting.{whole, whole_long, left_none}
 use Rattle.file_save.proofs.is_short.Goals as goal
 
 pub returns-then-thirds-numbers-gt1 : goal.returns-then-thirds-numbers-gt1
@@ -41,18 +39,5 @@ returns-then-is_enough c =
     let r = c.is_enough.ensures c.if-is_enough.true in
     sym (le-ltb c.args.room (length (whole c.args.context c.args.count c.args.numbers.now)) (omega arith))
 
-pub returns-in_default : goal.returns-in_default
-returns-in_default c =
-    let l = whole_long c.args.context c.args.count c.args.numbers.now in
-    let p = c.long.ensures in
-    let q = c.long-2.ensures in
-    let r = rw c.in_default.is at c.left_after.ensures in
-    sym (lt-ltb c.args.room (length (whole c.args.context c.args.count c.args.numbers.now)) (omega arith))
-
 pub returns : goal.returns
-returns c =
-    let l = whole_long c.args.context c.args.count c.args.numbers.now in
-    let p = c.long.ensures in
-    let q = c.long-2.ensures in
-    let r = rw c.in-Left.is at c.left_after.ensures in
-    sym (le-ltb c.args.room (length (whole c.args.context c.args.count c.args.numbers.now)) (omega arith))
+returns c = left_none c.args.context c.args.count c.args.numbers.now _ _ (omega (arith, c.long.ensures, c.long-2.ensures)) (omega (arith, c.if-room-header.false)) _ c.left_after.ensures _ c.is_none.ensures

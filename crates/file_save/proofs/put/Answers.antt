@@ -3,7 +3,6 @@ use native.Mathlib.Omega.{arith}
 use lib.ListN.{length-set}
 use Rattle.laws.proofs.Putting.{put_one, put_two, put_three}
 use Rattle.file_bytes.proofs.Numbers.{one_of, two_of, three_of, some_bytes}
-use borrow.Author.Rules.{rules}
 use Rattle.file_save.proofs.put.Goals as goal
 
 pub bounds-file-at : goal.bounds-file-at

@@ -1,10 +1,7 @@
 -- `file_save::store` meets its contract. Assumes nothing.
 use mathlib.Core.Path.{sym, ◌∙◌}
-use Prim.Native.Nat.{◌-◌}
 use native.Mathlib.Omega.{arith}
-use Rattle.laws.proofs.Calls.{free}
 use Rattle.file_save.proofs.Putting.{whole, whole_long, room_whole, put_whole, no_room, has_room}
-use borrow.Author.Rules.{rules}
 use Rattle.file_save.proofs.store.Goals as goal
 
 pub put-second-requires : goal.put-second-requires

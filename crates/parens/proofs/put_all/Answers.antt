@@ -12,6 +12,6 @@ use Rattle.parens.proofs.put_all.Goals as goal
 pub returns : goal.returns
 unfolding all_lines
 returns c =
-    let line = node_most c.args.count c.args.table.now c.args.rows.now (λ i. omega (arith, c.shared_slice_known-2-1.given i)) in
-    let most = page_most (6 * (row_cells + 1)) (node_text c.args.count c.args.table.now c.args.rows.now) line c.args.count (omega (arith, c.requires.0)) in
+    let line = node_most c.args.table.now.count c.args.table.now.cells.now c.args.rows.now (λ i. omega (arith, c.shared_slice_known-1.given i)) in
+    let most = page_most (6 * (row_cells + 1)) (node_text c.args.table.now.count c.args.table.now.cells.now c.args.rows.now) line c.args.table.now.count (omega (arith, c.requires.0)) in
     fits (omega arith) (grown_more c.put_ok-end.ensures c.put_lines.ensures)

@@ -1,17 +1,7 @@
 -- `parens::put_lines` meets its contract. Assumes nothing.
-use mathlib.Core.Path.{◌≡◌}
-use Prim.Native.Nat.{◌-◌, ◌≤◌}
-use native.Mathlib.Omega.{arith}
-use borrow.Author.Rules.{rules}
 use Rattle.parens.specs.Text.{lines_of}
-use Rattle.text.specs.Numbers.{joined}
 use Rattle.text.specs.Growth.{Grown}
-use Rattle.text.proofs.Growing.{grown_none}
-use Rattle.text.proofs.Rows.{grown_next}
 use Rattle.parens.proofs.put_lines.Given as goal
 
-abbrev pub invariant-loop-node : goal.invariant-loop-node
-invariant-loop-node l = (l.node ≤ l.count) × Grown l.initial.out l.end (lines_of l.count l.table l.rows l.node) l.out l.at
-
-abbrev pub decreases-loop-node : goal.decreases-loop-node
-decreases-loop-node l = l.count - l.node
+abbrev pub invariant-loop-done : goal.invariant-loop-done
+invariant-loop-done l = Grown l.initial.out l.end (lines_of l.table.count l.table.cells.now l.rows l.done) l.out l.at

@@ -9,27 +9,27 @@ use borrow.Author.Rules.{rules}
 use Rattle.parens.proofs.report.Goals as goal
 
 pub slice_bounds-table-end : goal.slice_bounds-table-end
-slice_bounds-table-end c = cells_within _ _ c.load.ensures.table _ _ (sym c.in-Accepted.is ∙ c.load.ensures.reply)
+slice_bounds-table-end c = cells_within _ _ c.load.ensures.table _ _ c.in-Ok.ensures.reply
 
-pub slice_bounds-put_rows-end-in-Accepted : goal.slice_bounds-put_rows-end-in-Accepted
-slice_bounds-put_rows-end-in-Accepted c = sym (length-take-le _ _ (cells_within _ _ c.load.ensures.table _ _ (sym c.in-Accepted.is ∙ c.load.ensures.reply)))
+pub slice_bounds-put_rows-end-in-Ok : goal.slice_bounds-put_rows-end-in-Ok
+slice_bounds-put_rows-end-in-Ok c = sym (length-take-le _ _ (cells_within _ _ c.load.ensures.table _ _ c.in-Ok.ensures.reply))
 
 pub put_rows-requires : goal.put_rows-requires
-put_rows-requires c = let e = cells_accepted _ _ c.load.ensures.table _ _ (sym c.in-Accepted.is ∙ c.load.ensures.reply) in (e.0, e.1, search rules)
+put_rows-requires c = let e = cells_accepted _ _ c.load.ensures.table _ _ c.in-Ok.ensures.reply in (e.0, e.1, search rules)
 
-pub returns-in-Refused : goal.returns-in-Refused
-returns-in-Refused c =
-    let head = no_most c.in-Refused.why (omega arith) in
+pub returns-in-Err : goal.returns-in-Err
+returns-in-Err c =
+    let head = no_most c.number.result (omega arith) in
     let all = whole (fits (omega arith) c.put_no.ensures) in
     record {
       prefix_len = all.0;
-      out_after = rw (← printed_refusal _ _ c.load.ensures.table _ (sym c.in-Refused.is ∙ c.load.ensures.reply)) all.1;
+      out_after = rw (← printed_refusal _ _ c.load.ensures.table _ c.in-Err.ensures.reply, ← c.number.ensures) all.1;
     }
 
-pub returns-in-Accepted : goal.returns-in-Accepted
-returns-in-Accepted c =
+pub returns-in-Ok : goal.returns-in-Ok
+returns-in-Ok c =
     let all = whole c.put_rows.ensures in
     record {
       prefix_len = all.0;
-      out_after = rw (← printed_rows _ _ c.load.ensures.table _ _ (sym c.in-Accepted.is ∙ c.load.ensures.reply)) all.1;
+      out_after = rw (← printed_rows _ _ c.load.ensures.table _ _ c.in-Ok.ensures.reply) all.1;
     }

@@ -1,18 +1,18 @@
 -- `reading::put_nodes` meets its contract. Assumes nothing.
-use mathlib.Core.Path.{◌≡◌}
-use Prim.Native.Nat.{◌-◌, ◌≤◌}
-use native.Mathlib.Omega.{arith}
-use borrow.Author.Rules.{rules}
-use Rattle.text.specs.Growth.{Grown}
+use Rattle.std.proofs.Common.{◌≡◌, arith}
 use Rattle.text.specs.Numbers.{joined}
 use Rattle.text.proofs.Growing.{grown_none}
 use Rattle.text.proofs.Rows.{grown_next}
-use Rattle.reading.specs.Text.{nodes_text}
 use Rattle.reading.proofs.put_nodes.Goals as goal
 
-pub loop-node-init : goal.loop-node-init
+pub loop-done-init : goal.loop-done-init
 unfolding joined
-loop-node-init c = (omega arith, grown_none _ _)
+loop-done-init c = grown_none _ _
 
-pub loop-node-preserved : goal.loop-node-preserved
-loop-node-preserved c = (omega arith, grown_next _ _ c.loop-node.invariant.1 c.put_row-at.ensures)
+pub loop-done-preserved : goal.loop-done-preserved
+loop-done-preserved c = grown_next _ _ c.loop-done.invariant c.put_row-at.ensures
+
+pub returns : goal.returns
+returns c =
+    let e : c.loop-done.done ≡ c.args.count = omega arith in
+    rw e at c.loop-done.invariant

@@ -9,23 +9,23 @@ use Rattle.reading.proofs.put_reply.Goals as goal
 
 pub put_table-requires : goal.put_table-requires
 put_table-requires c =
-    let a = rw c.in-Nodes.is at c.read.ensures in
+    let a = rw c.in-Ok.is at c.read.ensures in
     let most = nodes_most _ _ _ _ _ a in
     (most, omega arith)
 
-pub returns-in-Refused : goal.returns-in-Refused
+pub returns-in-Err : goal.returns-in-Err
 unfolding answer_text
-returns-in-Refused c =
-    let head = no_most c.in-Refused.why (omega arith) in
+returns-in-Err c =
+    let head = no_most c.number.result (omega arith) in
     let all = whole (fits (omega arith) c.put_no.ensures) in record {
       prefix_len = all.0;
-      answered = record { reply = _; after = _; answers = rw c.in-Refused.is at c.read.ensures; prints = all.1 };
+      answered = record { reply = _; after = _; answers = rw c.in-Err.is at c.read.ensures; prints = rw c.number.ensures at all.1 };
     }
 
-pub returns-in-Nodes : goal.returns-in-Nodes
+pub returns-in-Ok : goal.returns-in-Ok
 unfolding answer_text
-returns-in-Nodes c =
+returns-in-Ok c =
     let all = whole c.put_table.ensures in record {
       prefix_len = all.0;
-      answered = record { reply = _; after = _; answers = rw c.in-Nodes.is at c.read.ensures; prints = all.1 };
+      answered = record { reply = _; after = _; answers = rw c.in-Ok.is at c.read.ensures; prints = all.1 };
     }

@@ -30,27 +30,18 @@ module _ (numbers : List ℕ) (n : ℕ) (some : 0 < n) (e : Entry) (is : e ≡ e
   next : e.lowest ≤ e.highest → e.highest ≤ last_binary → refusal22 (entries_in n numbers) ≡ refusal22 (entries_in (n - 1) numbers)
   next h k = unfolds ∙ or_next _ (or_next _ (le-ltb _ _ h) ∙ le-ltb _ _ k)
 
-pub loop-left-init : goal.loop-left-init
-loop-left-init c = (omega arith, refl)
-
-pub overflow_sub-left : goal.overflow_sub-left
-overflow_sub-left c = omega arith
-
 pub entry_at-entry-requires : goal.entry_at-entry-requires
 entry_at-entry-requires c = omega arith
 
 pub returns-then-entry : goal.returns-then-entry
-returns-then-entry c = sym (sym c.loop-left.invariant.1 ∙ turned c.args.entries.now c.loop-left.left c.loop-left-test.true _ c.entry_at-entry.ensures c.if-entry.true)
+returns-then-entry c = sym (sym c.loop-left.invariant ∙ turned c.args.entries.now c.loop-left.left c.loop-left-test.true _ c.entry_at-entry.ensures c.if-entry.true)
 
 pub returns-then-entry-gt-LAST_BINARY : goal.returns-then-entry-gt-LAST_BINARY
-returns-then-entry-gt-LAST_BINARY c = sym (sym c.loop-left.invariant.1 ∙ past c.args.entries.now c.loop-left.left c.loop-left-test.true _ c.entry_at-entry.ensures c.if-entry.false c.if-entry-gt-LAST_BINARY.true)
-
-pub loop-left-smaller : goal.loop-left-smaller
-loop-left-smaller c = omega arith
+returns-then-entry-gt-LAST_BINARY c = sym (sym c.loop-left.invariant ∙ past c.args.entries.now c.loop-left.left c.loop-left-test.true _ c.entry_at-entry.ensures c.if-entry.false c.if-entry-gt-LAST_BINARY.true)
 
 pub loop-left-preserved : goal.loop-left-preserved
-loop-left-preserved c = (omega arith, sym (next c.args.entries.now c.loop-left.left c.loop-left-test.true _ c.entry_at-entry.ensures c.if-entry.false (omega arith)) ∙ c.loop-left.invariant.1)
+loop-left-preserved c = sym (next c.args.entries.now c.loop-left.left c.loop-left-test.true _ c.entry_at-entry.ensures c.if-entry.false (omega arith)) ∙ c.loop-left.invariant
 
 pub returns : goal.returns
 unfolding refusal22
-returns c = sym (sym c.loop-left.invariant.1 ∙ rw (no_entry c.args.entries.now c.loop-left.left (omega arith)))
+returns c = sym (sym c.loop-left.invariant ∙ rw (no_entry c.args.entries.now c.loop-left.left (omega arith)))

@@ -5,7 +5,4 @@ use Rattle.row_open.specs.Open.{entries_in, refusal22}
 use Rattle.row_open.proofs.has_wrong_ends.Given as goal
 
 abbrev pub invariant-loop-left : goal.invariant-loop-left
-invariant-loop-left l = (l.left ≤ l.entered) × (refusal22 (entries_in l.left l.entries) ≡ refusal22 (entries_in l.entered l.entries))
-
-abbrev pub decreases-loop-left : goal.decreases-loop-left
-decreases-loop-left l = l.left
+invariant-loop-left l = refusal22 (entries_in l.left l.entries) ≡ refusal22 (entries_in l.entered l.entries)

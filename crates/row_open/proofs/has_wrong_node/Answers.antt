@@ -33,30 +33,21 @@ module _ (cells : List ℕ) (count : ℕ) (numbers : List ℕ) (n : ℕ) (some :
     next : twice ≡ false → refusal21 cells count (entries_in n numbers) ≡ refusal21 cells count (entries_in (n - 1) numbers)
     next h = goes ∙ or_next _ h
 
-pub loop-left-init : goal.loop-left-init
-loop-left-init c = (omega arith, refl)
-
-pub overflow_sub-left : goal.overflow_sub-left
-overflow_sub-left c = omega arith
-
 pub entry_at-entry-requires : goal.entry_at-entry-requires
 entry_at-entry-requires c = omega arith
 
-pub returns-then-form_at-ne-EXPR_BINARY : goal.returns-then-form_at-ne-EXPR_BINARY
-returns-then-form_at-ne-EXPR_BINARY c = sym (sym c.loop-left.invariant.1 ∙ wrong c.args.table.now c.args.count c.args.entries.now c.loop-left.left c.loop-left-test.true _ c.entry_at-entry.ensures _ c.form_at.ensures c.if-form_at-ne-EXPR_BINARY.true)
+pub returns-then-form_number-ne-EXPR_BINARY : goal.returns-then-form_number-ne-EXPR_BINARY
+returns-then-form_number-ne-EXPR_BINARY c = sym (sym c.loop-left.invariant ∙ wrong c.args.table.now.cells.now c.args.table.now.count c.args.entries.now c.loop-left.left c.loop-left-test.true _ c.entry_at-entry.ensures _ c.form_number.ensures c.if-form_number-ne-EXPR_BINARY.true)
 
 pub is_entered-requires : goal.is_entered-requires
 is_entered-requires c = omega arith
 
 pub returns-then-is_entered : goal.returns-then-is_entered
-returns-then-is_entered c = sym (sym c.loop-left.invariant.1 ∙ again c.args.table.now c.args.count c.args.entries.now c.loop-left.left c.loop-left-test.true _ c.entry_at-entry.ensures _ c.form_at.ensures c.if-form_at-ne-EXPR_BINARY.false _ c.is_entered.ensures c.if-is_entered.true)
-
-pub loop-left-smaller : goal.loop-left-smaller
-loop-left-smaller c = omega arith
+returns-then-is_entered c = sym (sym c.loop-left.invariant ∙ again c.args.table.now.cells.now c.args.table.now.count c.args.entries.now c.loop-left.left c.loop-left-test.true _ c.entry_at-entry.ensures _ c.form_number.ensures c.if-form_number-ne-EXPR_BINARY.false _ c.is_entered.ensures c.if-is_entered.true)
 
 pub loop-left-preserved : goal.loop-left-preserved
-loop-left-preserved c = (omega arith, sym (next c.args.table.now c.args.count c.args.entries.now c.loop-left.left c.loop-left-test.true _ c.entry_at-entry.ensures _ c.form_at.ensures c.if-form_at-ne-EXPR_BINARY.false _ c.is_entered.ensures c.if-is_entered.false) ∙ c.loop-left.invariant.1)
+loop-left-preserved c = sym (next c.args.table.now.cells.now c.args.table.now.count c.args.entries.now c.loop-left.left c.loop-left-test.true _ c.entry_at-entry.ensures _ c.form_number.ensures c.if-form_number-ne-EXPR_BINARY.false _ c.is_entered.ensures c.if-is_entered.false) ∙ c.loop-left.invariant
 
 pub returns : goal.returns
 unfolding refusal21
-returns c = sym (sym c.loop-left.invariant.1 ∙ rw (no_entry c.args.entries.now c.loop-left.left (omega arith)))
+returns c = sym (sym c.loop-left.invariant ∙ rw (no_entry c.args.entries.now c.loop-left.left (omega arith)))

@@ -5,7 +5,4 @@ use Rattle.row_open.specs.Open.{entries_in, refusal21}
 use Rattle.row_open.proofs.has_wrong_node.Given as goal
 
 abbrev pub invariant-loop-left : goal.invariant-loop-left
-invariant-loop-left l = (l.left ≤ l.entered) × (refusal21 l.table l.count (entries_in l.left l.entries) ≡ refusal21 l.table l.count (entries_in l.entered l.entries))
-
-abbrev pub decreases-loop-left : goal.decreases-loop-left
-decreases-loop-left l = l.left
+invariant-loop-left l = refusal21 l.table.cells.now l.table.count (entries_in l.left l.entries) ≡ refusal21 l.table.cells.now l.table.count (entries_in l.entered l.entries)

@@ -6,7 +6,4 @@ use Rattle.row_open.specs.Open.{entries_in, nodes_of}
 use Rattle.row_open.proofs.is_entered.Given as goal
 
 abbrev pub invariant-loop-left : goal.invariant-loop-left
-invariant-loop-left l = (l.left ≤ l.entered) × (is_one_of (nodes_of (entries_in l.left l.entries)) l.node ≡ is_one_of (nodes_of (entries_in l.entered l.entries)) l.node)
-
-abbrev pub decreases-loop-left : goal.decreases-loop-left
-decreases-loop-left l = l.left
+invariant-loop-left l = is_one_of (nodes_of (entries_in l.left l.entries)) l.node ≡ is_one_of (nodes_of (entries_in l.entered l.entries)) l.node

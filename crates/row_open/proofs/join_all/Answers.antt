@@ -16,33 +16,27 @@ more n outer s before e = rw e
 
 pub loop-done-init : goal.loop-done-init
 unfolding joined_to
-loop-done-init c = (omega arith, refl, refl)
+loop-done-init c = (refl, refl)
 
 pub bounds-answers-done : goal.bounds-answers-done
-bounds-answers-done c = omega arith
+bounds-answers-done c = omega (arith, c.from-nodes.ensures, c.loop-done.invariant.0, c.loop-done-test.true)
 
 pub overflow_mul-done : goal.overflow_mul-done
-overflow_mul-done c = omega arith
+overflow_mul-done c = omega (arith, c.from-nodes.ensures, c.loop-done-test.true)
 
 pub bounds-rows-done : goal.bounds-rows-done
-bounds-rows-done c = omega arith
+bounds-rows-done c = omega (arith, c.from-nodes.ensures, c.loop-done.invariant.0, c.loop-done-test.true)
 
 pub bounds-answers-done-in-loop-done : goal.bounds-answers-done-in-loop-done
-bounds-answers-done-in-loop-done c = omega arith
-
-pub overflow_add-done : goal.overflow_add-done
-overflow_add-done c = omega arith
-
-pub loop-done-smaller : goal.loop-done-smaller
-loop-done-smaller c = omega arith
+bounds-answers-done-in-loop-done c = omega (arith, c.from-nodes.ensures, c.loop-done.invariant.0, c.loop-done-test.true)
 
 pub loop-done-preserved : goal.loop-done-preserved
 loop-done-preserved c =
     let e : c.loop-done.done + 1 ≡ suc c.loop-done.done = omega arith in
     let d : suc c.loop-done.done - 1 ≡ c.loop-done.done = omega arith in
-    (omega arith, simp length-set c.loop-done.invariant.1, rw e (rw c.join.ensures (rw d at (more c.loop-done.done (outer_in c.args.rows.now) c.args.answers.now c.loop-done.answers c.loop-done.invariant.2))))
+    (simp length-set c.loop-done.invariant.0, rw e (rw c.join.ensures (rw d at (more c.loop-done.done (outer_in c.args.rows.now) c.args.answers.now c.loop-done.answers c.loop-done.invariant.1))))
 
 pub returns : goal.returns
 returns c =
-    let e : c.loop-done.done ≡ c.args.count = omega arith in
-    rw e at c.loop-done.invariant.2
+    let e : c.loop-done.done ≡ c.args.count = omega (arith, c.from-nodes.ensures) in
+    rw e at c.loop-done.invariant.1

@@ -7,7 +7,4 @@ use Rattle.row_open.specs.Steps.{joined_to}
 use Rattle.row_open.proofs.join_all.Given as goal
 
 abbrev pub invariant-loop-done : goal.invariant-loop-done
-invariant-loop-done l = (l.done ≤ l.count) × (length l.answers ≡ length l.initial.answers) × (l.answers ≡ joined_to l.done (outer_in l.rows) l.initial.answers)
-
-abbrev pub decreases-loop-done : goal.decreases-loop-done
-decreases-loop-done l = l.nodes - l.done
+invariant-loop-done l = (length l.answers ≡ length l.initial.answers) × (l.answers ≡ joined_to l.done (outer_in l.rows) l.initial.answers)

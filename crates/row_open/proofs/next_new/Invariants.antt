@@ -5,7 +5,4 @@ use Rattle.row_open.specs.Steps.{news}
 use Rattle.row_open.proofs.next_new.Given as goal
 
 abbrev pub invariant-loop-next : goal.invariant-loop-next
-invariant-loop-next l = (l.op < l.next) × (l.next ≤ suc l.highest) × (news l.lowest (suc l.op) (suc l.highest - suc l.op) ≡ news l.lowest l.next (suc l.highest - l.next))
-
-abbrev pub decreases-loop-next : goal.decreases-loop-next
-decreases-loop-next l = suc l.highest - l.next
+invariant-loop-next l = (l.op < l.next) × (news l.lowest (suc l.op) (suc l.highest - suc l.op) ≡ news l.lowest l.next (suc l.highest - l.next))

@@ -4,9 +4,10 @@ use mathlib.Core.Bool.{Bool, true, false}
 use mathlib.Core.List.{List}
 use Prim.Native.Nat.{ℕ, ◌*◌, ◌≤◌, ◌<◌}
 use native.Mathlib.Omega.{arith}
+use Rattle.tree.specs.Replies.{replied, refusals}
 use borrow.Author.Tests.{lt-ltb, le-ltb}
 use lib.ListN.{length}
-use Rattle.laws.specs.Choice.{pick}
+use Rattle.laws.specs.Choice.{pick, lookup}
 use Rattle.laws.proofs.Choice.{pick_true, pick_false, or_here, or_next}
 use Rattle.tree_rules.specs.Refusals.{first_of}
 use Rattle.row_open.specs.Open.{entry_cells, most_entries, entries_in, open_refusal12, refusal20, refusal21, refusal22, entry_refusal}
@@ -37,26 +38,32 @@ module _ (count : ℕ) (cells : List ℕ) (entered : ℕ) (numbers : List ℕ) (
       by_ends : refusal21 cells count (entries_in entered numbers) ≡ false → (b : Bool) → b ≡ refusal22 (entries_in entered numbers) → entry_refusal count cells entered numbers answers ≡ pick b 22 0
       by_ends e b f = by_node ∙ pick_false _ _ e ∙ rw f
 
-pub returns-then-answers-count : goal.returns-then-answers-count
-returns-then-answers-count c = sym (short_answers _ _ _ _ _ c.if-answers-count.true)
+pub returns-then-answers-from : goal.returns-then-answers-from
+unfolding replied refusals lookup pick
+returns-then-answers-from c = rw (short_answers c.args.table.now.count c.args.table.now.cells.now c.args.entered c.args.entries.now c.args.answers (omega (arith, c.from.ensures, c.if-answers-from.true)))
 
-pub returns-then-entries-entered : goal.returns-then-entries-entered
-returns-then-entries-entered c = sym (short_entries _ _ _ _ _ c.if-answers-count.false c.if-entries-entered.true)
+pub returns-then-entries-from : goal.returns-then-entries-from
+unfolding replied refusals lookup pick
+returns-then-entries-from c = rw (short_entries c.args.table.now.count c.args.table.now.cells.now c.args.entered c.args.entries.now c.args.answers (omega (arith, c.from.ensures, c.if-answers-from.false)) (omega (arith, c.from-2.ensures, c.if-entries-from.true)))
 
 pub returns-then-entered-gt-MOST_ENTRIES : goal.returns-then-entered-gt-MOST_ENTRIES
-returns-then-entered-gt-MOST_ENTRIES c = sym (too_many _ _ _ _ _ c.if-answers-count.false c.if-entries-entered.false c.if-entered-gt-MOST_ENTRIES.true)
+unfolding replied refusals lookup pick
+returns-then-entered-gt-MOST_ENTRIES c = rw (too_many c.args.table.now.count c.args.table.now.cells.now c.args.entered c.args.entries.now c.args.answers (omega (arith, c.from.ensures, c.if-answers-from.false)) (omega (arith, c.from-2.ensures, c.if-entries-from.false)) c.if-entered-gt-MOST_ENTRIES.true)
 
 pub has_wrong_node-requires : goal.has_wrong_node-requires
-has_wrong_node-requires c = c.if-entries-entered.false
+has_wrong_node-requires c = (omega (arith, c.from-2.ensures, c.if-entries-from.false))
 
 pub returns-then-has_wrong_node : goal.returns-then-has_wrong_node
-returns-then-has_wrong_node c = sym (wrong_node _ _ _ _ _ c.if-answers-count.false c.if-entries-entered.false (omega arith) (sym c.has_wrong_node.ensures ∙ c.if-has_wrong_node.true))
+unfolding replied refusals lookup pick
+returns-then-has_wrong_node c = rw (wrong_node c.args.table.now.count c.args.table.now.cells.now c.args.entered c.args.entries.now c.args.answers (omega (arith, c.from.ensures, c.if-answers-from.false)) (omega (arith, c.from-2.ensures, c.if-entries-from.false)) (omega arith) (sym c.has_wrong_node.ensures ∙ c.if-has_wrong_node.true))
 
 pub has_wrong_ends-requires : goal.has_wrong_ends-requires
-has_wrong_ends-requires c = omega arith
+has_wrong_ends-requires c = (omega (arith, c.from-2.ensures, c.if-entries-from.false))
 
 pub returns-then-has_wrong_ends : goal.returns-then-has_wrong_ends
-returns-then-has_wrong_ends c = sym (by_ends _ _ _ _ _ c.if-answers-count.false c.if-entries-entered.false (omega arith) (sym c.has_wrong_node.ensures ∙ c.if-has_wrong_node.false) true (sym (sym c.has_wrong_ends.ensures ∙ c.if-has_wrong_ends.true)) ∙ pick_true 22 0 refl)
+unfolding replied refusals lookup pick
+returns-then-has_wrong_ends c = rw (by_ends c.args.table.now.count c.args.table.now.cells.now c.args.entered c.args.entries.now c.args.answers (omega (arith, c.from.ensures, c.if-answers-from.false)) (omega (arith, c.from-2.ensures, c.if-entries-from.false)) (omega arith) (sym c.has_wrong_node.ensures ∙ c.if-has_wrong_node.false) true (sym (sym c.has_wrong_ends.ensures ∙ c.if-has_wrong_ends.true)))
 
 pub returns : goal.returns
-returns c = sym (by_ends _ _ _ _ _ c.if-answers-count.false c.if-entries-entered.false (omega arith) (sym c.has_wrong_node.ensures ∙ c.if-has_wrong_node.false) false (sym (sym c.has_wrong_ends.ensures ∙ c.if-has_wrong_ends.false)) ∙ pick_false 22 0 refl)
+unfolding replied refusals lookup pick
+returns c = rw (by_ends c.args.table.now.count c.args.table.now.cells.now c.args.entered c.args.entries.now c.args.answers (omega (arith, c.from.ensures, c.if-answers-from.false)) (omega (arith, c.from-2.ensures, c.if-entries-from.false)) (omega arith) (sym c.has_wrong_node.ensures ∙ c.if-has_wrong_node.false) false (sym (sym c.has_wrong_ends.ensures ∙ c.if-has_wrong_ends.false)))

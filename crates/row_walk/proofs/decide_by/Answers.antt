@@ -1,22 +1,32 @@
 -- `row_walk::decide_by` meets its contract. Assumes nothing.
-use mathlib.Core.Path.{◌≡◌, sym, ◌∙◌}
+use mathlib.Core.Path.{◌∙◌}
 use native.Mathlib.Omega.{arith}
-use Rattle.row_walk.proofs.Replies.{refused, short_rows, done}
+use Rattle.tree.specs.Replies.{replied, refusals}
+use Rattle.laws.specs.Choice.{pick, lookup}
+use Rattle.row_walk.proofs.Replies.{replied_ok, passed_up, refused, short_rows, not_refused, done}
 use Rattle.row_walk.proofs.decide_by.Goals as goal
 
-pub returns-then-refused-ne0 : goal.returns-then-refused-ne0
-returns-then-refused-ne0 c =
-    let whole = refused c.args.order c.args.context c.args.count c.args.table.now c.args.rows.now _ c.check-refused.ensures c.if-refused-ne0.true in
-    record { reply = whole.0; rows = whole.1 }
+pub returns-in_err-check-clause-reply : goal.returns-in_err-check-clause-reply
+returns-in_err-check-clause-reply c =
+    passed_up _ _ c.from_residual.ensures.0 c.from_residual.ensures.1
+    ∙ (refused c.args.order c.args.context c.args.count c.args.table.now c.args.rows.now (tt {0}) (tt {0}) _ c.in_err-check.ensures).0
+
+pub returns-in_err-check-clause-rows : goal.returns-in_err-check-clause-rows
+returns-in_err-check-clause-rows c = (refused c.args.order c.args.context c.args.count c.args.table.now c.args.rows.now (tt {0}) (tt {0}) _ c.in_err-check.ensures).1
 
 pub returns-then-rows-nodes : goal.returns-then-rows-nodes
+unfolding replied refusals lookup pick
 returns-then-rows-nodes c =
-    let zero : c.check-refused.result ≡ 0 = omega arith in
-    let whole = short_rows c.args.order c.args.context c.args.count c.args.table.now c.args.rows.now (sym c.check-refused.ensures ∙ zero) (omega arith) in
-    record { reply = whole.0; rows = whole.1 }
+    let n = c.from-nodes.ensures in
+    let whole = short_rows c.args.order c.args.context c.args.count c.args.table.now c.args.rows.now (replied_ok _ tt tt c.in_ok-check.ensures) (omega arith) in
+    record { reply = rw whole.0; rows = whole.1 }
 
 pub returns : goal.returns
+unfolding replied refusals lookup pick
 returns c =
-    let zero : c.check-refused.result ≡ 0 = omega arith in
-    let whole = done c.args.order c.args.context c.args.count c.args.table.now c.args.rows.now (sym c.check-refused.ensures ∙ zero) (omega arith) _ c.walk.ensures in
-    record { reply = whole.0; rows = whole.1 }
+    let n = c.from-nodes.ensures in
+    let zero = replied_ok _ tt tt c.in_ok-check.ensures in
+    record {
+      reply = rw (not_refused c.args.order c.args.context c.args.count c.args.table.now c.args.rows.now zero (omega arith));
+      rows = done c.args.order c.args.context c.args.count c.args.table.now c.args.rows.now zero (omega arith) _ c.walk.ensures;
+    }

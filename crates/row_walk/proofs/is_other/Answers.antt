@@ -3,4 +3,4 @@ use Rattle.row_walk.proofs.Decisions.{class_is}
 use Rattle.row_walk.proofs.is_other.Goals as goal
 
 pub returns : goal.returns
-returns c = rw (← class_is c.args.table.now c.args.count c.args.node, ← c.form_at.ensures, ← c.class_of.ensures)
+returns c = rw (← class_is c.args.table.now.cells.now c.args.table.now.count c.args.node, ← c.form_number.ensures, ← c.class_of.ensures)

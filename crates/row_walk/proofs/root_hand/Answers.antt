@@ -15,4 +15,4 @@ context_0 = refl
 
 pub returns-then-context-eq0 : goal.returns-then-context-eq0
 unfolding hand_of neither ungrouped
-returns-then-context-eq0 c = rw (c.rank.ensures, c.precedence-precedence.ensures, c.none-none.ensures, c.if-context-eq0.true, context_0, none_packed) (omega arith)
+returns-then-context-eq0 c = rw (c.from.ensures, c.rank.ensures, c.precedence-precedence.ensures, c.none-none.ensures, c.if-context-eq0.true, context_0, none_packed) (omega arith)

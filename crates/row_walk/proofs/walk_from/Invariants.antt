@@ -7,7 +7,7 @@ use Rattle.row_walk.proofs.Turns.{heeded, State, todo}
 use Rattle.row_walk.proofs.walk_from.Given as goal
 
 abbrev pub invariant-loop-lone : goal.invariant-loop-lone
-invariant-loop-lone l = State l.order l.table l.count (placed_within l.order l.table l.count most_levels 1 (handed_of l.initial.hand) l.initial.rows) (length l.initial.rows) l.rows l.nodes l.contexts l.depth (heeded l.order l.table l.count l.lone (handed_of l.hand) l.at) l.at
+invariant-loop-lone l = State l.order l.table.cells.now l.table.count (placed_within l.order l.table.cells.now l.table.count most_levels 1 (handed_of l.initial.hand) l.initial.rows) (length l.initial.rows) l.rows l.nodes l.contexts l.depth (heeded l.order l.table.cells.now l.table.count l.lone (handed_of l.hand) l.at) l.at
 
 abbrev pub decreases-loop-lone : goal.decreases-loop-lone
-decreases-loop-lone l = todo l.order l.table l.count l.nodes l.depth l.at
+decreases-loop-lone l = todo l.order l.table.cells.now l.table.count l.nodes l.depth l.at

@@ -11,15 +11,15 @@ use Rattle.tree_numbering.specs.Replaced.{replaced_at}
 use Rattle.sheet_edit.proofs.Results.{levels_bound}
 use Rattle.sheet_edit.proofs.is_deep.Goals as goal
 
-pub returns-then-count-nodes-le-MOST_LEVELS : goal.returns-then-count-nodes-le-MOST_LEVELS
-returns-then-count-nodes-le-MOST_LEVELS c =
-    let s = tree_at c.args.second.now c.args.nodes 1 in
-    let m = levels_most c.args.second.now c.args.nodes 1 in
-    let b = levels_bound c.args.table.now c.args.count c.args.place s 1 in
-    let h = c.if-count-nodes-le-MOST_LEVELS.true in
-    sym (le-ltb most_levels (levels (replaced_at c.args.table.now c.args.count c.args.place s 1)) (omega arith))
+pub returns-then-table-second-le-MOST_LEVELS : goal.returns-then-table-second-le-MOST_LEVELS
+returns-then-table-second-le-MOST_LEVELS c =
+    let s = tree_at c.args.second.now.cells.now c.args.second.now.count 1 in
+    let m = levels_most c.args.second.now.cells.now c.args.second.now.count 1 in
+    let b = levels_bound c.args.table.now.cells.now c.args.table.now.count c.args.place s 1 in
+    let h = c.if-table-second-le-MOST_LEVELS.true in
+    sym (le-ltb most_levels (levels (replaced_at c.args.table.now.cells.now c.args.table.now.count c.args.place s 1)) (omega arith))
 
 pub levels_edited-requires : goal.levels_edited-requires
 levels_edited-requires c =
-    let m = levels_most c.args.second.now c.args.nodes 1 in
+    let m = levels_most c.args.second.now.cells.now c.args.second.now.count 1 in
     (c.requires.0, omega (arith, c.requires.1), c.levels_at-deep.ensures)

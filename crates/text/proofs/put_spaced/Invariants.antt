@@ -10,8 +10,5 @@ use Rattle.text.proofs.Growing.{grown_none, grown_more}
 use Rattle.text.proofs.Spaces.{spaced_next}
 use Rattle.text.proofs.put_spaced.Given as goal
 
-abbrev pub invariant-loop-done : goal.invariant-loop-done
-invariant-loop-done l = (l.done ≤ length l.numbers) × Grown l.initial.out l.end (spaced (take l.done l.numbers)) l.out l.at
-
-abbrev pub decreases-loop-done : goal.decreases-loop-done
-decreases-loop-done l = length l.numbers - l.done
+abbrev pub invariant-loop-number : goal.invariant-loop-number
+invariant-loop-number l = Grown l.initial.out l.end (spaced (take l.number-index l.numbers)) l.out l.at

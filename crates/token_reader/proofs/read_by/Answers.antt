@@ -3,6 +3,8 @@ use mathlib.Core.Path.{◌≡◌, ap, ◌∙◌}
 use Prim.Native.Nat.{suc, ◌+◌}
 use native.Mathlib.Omega.{arith}
 use Rattle.token_reader.specs.Pieces.{reply_of}
+use Rattle.laws.specs.Choice.{pick, lookup}
+use Rattle.tree.specs.Replies.{refusals, replied}
 use Rattle.token_reader.proofs.Tells.{ready_start}
 use Rattle.token_reader.proofs.Whole.{unread, answers_unread, answers_read}
 use Rattle.token_reader.proofs.read_by.Goals as goal
@@ -11,6 +13,7 @@ pub expr-whole-requires : goal.expr-whole-requires
 expr-whole-requires c = (ready_start c.requires.1 c.requires.2 c.requires.0.2 c.requires.3, omega arith)
 
 pub returns-then-whole-tokens : goal.returns-then-whole-tokens
+unfolding replied refusals lookup pick
 returns-then-whole-tokens c = answers_unread _ _ _ c.requires.0.0 c.requires.0.1 c.requires.0.2 (unread _ c.expr-whole.ensures c.if-whole-tokens.true)
 
 pub number-requires : goal.number-requires

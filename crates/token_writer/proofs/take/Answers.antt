@@ -18,7 +18,7 @@ overflow_cast-node c = omega arith
 
 pub enter-requires : goal.enter-requires
 enter-requires c =
-    let t = taken_place c.args.table.now c.args.count _ c.if-what-lt-BETWEEN.true in
+    let t = taken_place c.args.table.now.cells.now c.args.table.now.count _ c.if-what-lt-BETWEEN.true in
     (c.if-what-lt-BETWEEN.true, rw (← t.1) c.requires.1, rw (← t.0) c.requires.2, c.requires.3)
 
 pub returns-then-what-lt-BETWEEN : goal.returns-then-what-lt-BETWEEN
@@ -27,22 +27,22 @@ returns-then-what-lt-BETWEEN c = rw (put_together (get_or c.args.stack.now c.arg
 pub settle-requires : goal.settle-requires
 settle-requires c =
     let t = get_or c.args.stack.now c.args.depth 0 in
-    rw (← own_sign c.args.table.now c.args.count (t % task_step) (t / task_step) c.if-what-lt-CODE.true, ← taken_sign c.args.table.now c.args.count t c.if-what-lt-BETWEEN.false) c.requires.2
+    rw (← own_sign c.args.table.now.cells.now c.args.table.now.count (t % task_step) (t / task_step) c.if-what-lt-CODE.true, ← taken_sign c.args.table.now.cells.now c.args.table.now.count t c.if-what-lt-BETWEEN.false) c.requires.2
 
 pub returns-then-what-lt-CODE : goal.returns-then-what-lt-CODE
 returns-then-what-lt-CODE c =
     let t = get_or c.args.stack.now c.args.depth 0 in
-    let s = rw (← own_sign c.args.table.now c.args.count (t % task_step) (t / task_step) c.if-what-lt-CODE.true) at c.settle.ensures in
-    rw (put_together t) at (turned_sign c.args.table.now c.args.count (t % task_step) (t / task_step) c.if-what-lt-BETWEEN.false (omega arith) c.args.stack.now c.args.depth c.args.tokens.now c.args.at _ _ s)
+    let s = rw (← own_sign c.args.table.now.cells.now c.args.table.now.count (t % task_step) (t / task_step) c.if-what-lt-CODE.true) at c.settle.ensures in
+    rw (put_together t) at (turned_sign c.args.table.now.cells.now c.args.table.now.count (t % task_step) (t / task_step) c.if-what-lt-BETWEEN.false (omega arith) c.args.stack.now c.args.depth c.args.tokens.now c.args.at _ _ s)
 
 pub put_code-requires : goal.put_code-requires
 put_code-requires c =
     let t = get_or c.args.stack.now c.args.depth 0 in
-    let u = rw (taken_sign c.args.table.now c.args.count t c.if-what-lt-BETWEEN.false, own_code c.args.table.now c.args.count (t % task_step) (t / task_step) c.if-what-lt-CODE.false) at c.requires.2 in
+    let u = rw (taken_sign c.args.table.now.cells.now c.args.table.now.count t c.if-what-lt-BETWEEN.false, own_code c.args.table.now.cells.now c.args.table.now.count (t % task_step) (t / task_step) c.if-what-lt-CODE.false) at c.requires.2 in
     omega arith
 
 pub returns : goal.returns
 returns c =
     let t = get_or c.args.stack.now c.args.depth 0 in
-    let s = rw (← own_code c.args.table.now c.args.count (t % task_step) (t / task_step) c.if-what-lt-CODE.false) at c.put_code.ensures in
-    rw (put_together t) at (turned_sign c.args.table.now c.args.count (t % task_step) (t / task_step) c.if-what-lt-BETWEEN.false (omega arith) c.args.stack.now c.args.depth c.args.tokens.now c.args.at _ _ s)
+    let s = rw (← own_code c.args.table.now.cells.now c.args.table.now.count (t % task_step) (t / task_step) c.if-what-lt-CODE.false) at c.put_code.ensures in
+    rw (put_together t) at (turned_sign c.args.table.now.cells.now c.args.table.now.count (t % task_step) (t / task_step) c.if-what-lt-BETWEEN.false (omega arith) c.args.stack.now c.args.depth c.args.tokens.now c.args.at _ _ s)

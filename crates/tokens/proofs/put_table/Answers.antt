@@ -21,21 +21,21 @@ room = length-replicate {A = ℕ} (token_cells * most_tokens) 0
 
 pub slice_bounds-tokens-end : goal.slice_bounds-tokens-end
 slice_bounds-tokens-end c =
-    let e = sym c.in-Tokens.is ∙ c.write.ensures.reply in
-    rw c.write.ensures.tokens (tokens_within c.args.context c.args.count c.args.table.now zeros room _ _ e)
+    let e = sym c.in-Ok.is ∙ c.write.ensures.reply in
+    rw c.write.ensures.tokens (tokens_within c.args.context c.args.count c.args.table.now zeros room _ e)
 
 pub slice_bounds-put_tokens-end : goal.slice_bounds-put_tokens-end
 slice_bounds-put_tokens-end c =
-    let e = sym c.in-Tokens.is ∙ c.write.ensures.reply in
-    sym (length-take-le _ _ (rw c.write.ensures.tokens (tokens_within c.args.context c.args.count c.args.table.now zeros room _ _ e)))
+    let e = sym c.in-Ok.is ∙ c.write.ensures.reply in
+    sym (length-take-le _ _ (rw c.write.ensures.tokens (tokens_within c.args.context c.args.count c.args.table.now zeros room _ e)))
 
-pub returns-in-Refused : goal.returns-in-Refused
-returns-in-Refused c =
-    let e = sym c.in-Refused.is ∙ c.write.ensures.reply in
-    let head = no_most c.in-Refused.why (omega arith) in
-    rw (← refused_table c.args.context c.args.count c.args.table.now zeros room _ e) (fits (omega arith) c.put_no.ensures)
+pub returns-in-Err : goal.returns-in-Err
+returns-in-Err c =
+    let e = sym c.in-Err.is ∙ c.write.ensures.reply in
+    let head = no_most c.number.result (omega arith) in
+    rw (← refused_table c.args.context c.args.count c.args.table.now zeros room _ e, ← c.number.ensures) (fits (omega arith) c.put_no.ensures)
 
-pub returns-in-Tokens : goal.returns-in-Tokens
-returns-in-Tokens c =
-    let e = sym c.in-Tokens.is ∙ c.write.ensures.reply in
-    rw (← tokens_table c.args.context c.args.count c.args.table.now zeros room _ _ e, ← c.write.ensures.tokens) c.put_tokens.ensures
+pub returns-in-Ok : goal.returns-in-Ok
+returns-in-Ok c =
+    let e = sym c.in-Ok.is ∙ c.write.ensures.reply in
+    rw (← tokens_table c.args.context c.args.count c.args.table.now zeros room _ e, ← c.write.ensures.tokens) c.put_tokens.ensures

@@ -20,22 +20,22 @@ levels_by cells count i low high o eo p ep first ef second es own eown most em =
     rw (em, eown, ef, es, eo, ep) (sym (levels_node cells count i low high))
 
 pub returns-then-node-eq0 : goal.returns-then-node-eq0
-returns-then-node-eq0 t c = none_levels c.args.table.now c.args.count c.args.node (rw c.if-node-eq0.true (tree_zero _ _))
+returns-then-node-eq0 t c = none_levels c.args.table.now.cells.now c.args.table.now.count c.args.node (rw c.if-node-eq0.true (tree_zero _ _))
 
-pub returns-then-count-node : goal.returns-then-count-node
-returns-then-count-node t c = none_levels c.args.table.now c.args.count c.args.node (tree_past _ _ _ c.if-count-node.true)
+pub returns-then-table-node : goal.returns-then-table-node
+returns-then-table-node t c = none_levels c.args.table.now.cells.now c.args.table.now.count c.args.node (tree_past _ _ _ c.if-table-node.true)
 
 pub levels_at-first-requires : goal.levels_at-first-requires
-levels_at-first-requires t c = (rw (← c.decreases, c.operand_number.ensures) (left_falls c.args.count c.args.node _ (omega arith) (omega arith) (omega arith)), tt)
+levels_at-first-requires t c = (rw (← c.decreases, c.operand_number.ensures) (left_falls c.args.table.now.count c.args.node _ (omega arith) (omega arith) (omega arith)), tt)
 
 pub levels_at-second-requires : goal.levels_at-second-requires
-levels_at-second-requires t c = (rw (← c.decreases, c.operand_number-2.ensures) (left_falls c.args.count c.args.node _ (omega arith) (omega arith) (omega arith)), tt)
+levels_at-second-requires t c = (rw (← c.decreases, c.operand_number-2.ensures) (left_falls c.args.table.now.count c.args.node _ (omega arith) (omega arith) (omega arith)), tt)
 
 pub overflow_add-result : goal.overflow_add-result
 overflow_add-result t c =
-    let m = levels_most c.args.table.now c.args.count c.args.node in
-    let e = levels_by c.args.table.now c.args.count c.args.node (omega arith) (omega arith) _ c.operand_number.ensures _ c.operand_number-2.ensures _ c.levels_at-first.ensures _ c.levels_at-second.ensures _ c.own_level.ensures _ c.larger.ensures in
+    let m = levels_most c.args.table.now.cells.now c.args.table.now.count c.args.node in
+    let e = levels_by c.args.table.now.cells.now c.args.table.now.count c.args.node (omega arith) (omega arith) _ c.operand_number.ensures _ c.operand_number-2.ensures _ c.levels_at-first.ensures _ c.levels_at-second.ensures _ c.own_level.ensures _ c.max.ensures in
     record { fits = omega arith }
 
 pub returns : goal.returns
-returns t c = levels_by c.args.table.now c.args.count c.args.node (omega arith) (omega arith) _ c.operand_number.ensures _ c.operand_number-2.ensures _ c.levels_at-first.ensures _ c.levels_at-second.ensures _ c.own_level.ensures _ c.larger.ensures
+returns t c = levels_by c.args.table.now.cells.now c.args.table.now.count c.args.node (omega arith) (omega arith) _ c.operand_number.ensures _ c.operand_number-2.ensures _ c.levels_at-first.ensures _ c.levels_at-second.ensures _ c.own_level.ensures _ c.max.ensures

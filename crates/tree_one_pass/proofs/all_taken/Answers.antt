@@ -30,4 +30,5 @@ none_above marks n left more f up last j h k = go (dec_le j n)
 pub loop-done-preserved : goal.loop-done-preserved
 loop-done-preserved c =
     let o = or_above c.loop-done.left (get_or c.args.marks.now (c.loop-done.done + 1) 0) in
+    rw c.from.ensures
     (omega arith, omega arith, none_above c.args.marks.now c.loop-done.done c.loop-done.left _ c.loop-done.invariant.2 o.0 o.1)

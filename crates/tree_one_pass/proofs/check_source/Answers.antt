@@ -2,15 +2,17 @@
 use mathlib.Core.Path.{sym, ◌∙◌}
 use borrow.Author.Rules.{rules}
 use borrow.Author.Tests.{lt-ltb, le-ltb}
-use Rattle.laws.proofs.Calls.{free}
+use Rattle.laws.specs.Choice.{pick, lookup}
 use Rattle.laws.proofs.Choice.{pick_true, pick_false}
+use Rattle.tree.specs.Replies.{replied, refusals}
+use Rattle.tree_rules.proofs.Replied.{says}
 use Rattle.tree_one_pass.specs.Marks.{by_levels}
 use Rattle.tree_one_pass.proofs.check_source.Goals as goal
 
 pub returns-then-levels-gt-MOST_LEVELS : goal.returns-then-levels-gt-MOST_LEVELS
-unfolding by_levels
-returns-then-levels-gt-MOST_LEVELS c = sym (c.quick_levels-levels.ensures c.if-levels-eq0.false ∙ pick_true _ _ (lt-ltb _ _ c.if-levels-gt-MOST_LEVELS.true))
+unfolding by_levels replied refusals lookup pick
+returns-then-levels-gt-MOST_LEVELS c = says 11 tt (sym (c.in-Some.ensures ∙ pick_true _ _ (lt-ltb _ _ c.if-levels-gt-MOST_LEVELS.true)))
 
-pub returns-else-levels-gt-MOST_LEVELS : goal.returns-else-levels-gt-MOST_LEVELS
-unfolding by_levels
-returns-else-levels-gt-MOST_LEVELS c = sym (c.quick_levels-levels.ensures c.if-levels-eq0.false ∙ pick_false _ _ (le-ltb _ _ c.if-levels-gt-MOST_LEVELS.false))
+pub returns : goal.returns
+unfolding by_levels replied refusals lookup pick
+returns c = says 0 tt (sym (c.in-Some.ensures ∙ pick_false _ _ (le-ltb _ _ c.if-levels-gt-MOST_LEVELS.false)))

@@ -23,17 +23,17 @@ named cells i n at b e t = rw (← at.form, ← at.detail, ← at.symbol) (sym e
 
 pub returns-then-mark-ne0 : goal.returns-then-mark-ne0
 returns-then-mark-ne0 c =
-    let s = named (cells_of c.args.file.now c.args.held.now) c.args.node c.args.numbers c.requires.0 _ c.is_symbol_allowed.ensures c.if-not-is_symbol_allowed.false in
+    let s = named (cells_of c.args.source.now.file.now c.args.source.now.held.now) c.args.node c.args.numbers c.requires.0 _ c.is_symbol_allowed.ensures c.if-not-is_symbol_allowed.false in
     λ h.
     let k = c.mark_with-mark.ensures h in
     let r = and_true _ _ (c.row_of.ensures (some_row _ k.1.0) _) in
     let at = row_by _ _ _ _ _ c.requires.0.form c.requires.0.detail r.0 (not-true _ r.1) in
-    marks_at (cells_of c.args.file.now c.args.held.now) c.args.node c.args.one _ _ _ c.requires.0.attributes c.requires.0.detail s at k.0 c.args.two _ k.1
+    marks_at (cells_of c.args.source.now.file.now c.args.source.now.held.now) c.args.node c.args.one _ _ _ c.requires.0.attributes c.requires.0.detail s at k.0 c.args.two _ k.1
 
 pub returns : goal.returns
 returns c =
-    let s = named (cells_of c.args.file.now c.args.held.now) c.args.node c.args.numbers c.requires.0 _ c.is_symbol_allowed.ensures c.if-not-is_symbol_allowed.false in
+    let s = named (cells_of c.args.source.now.file.now c.args.source.now.held.now) c.args.node c.args.numbers c.requires.0 _ c.is_symbol_allowed.ensures c.if-not-is_symbol_allowed.false in
     λ h.
     let k = c.mark_with.ensures h in
     let at = c.rare_row.ensures (some_row _ k.1.0) in
-    marks_at (cells_of c.args.file.now c.args.held.now) c.args.node c.args.one _ _ _ c.requires.0.attributes c.requires.0.detail s at k.0 c.args.two _ k.1
+    marks_at (cells_of c.args.source.now.file.now c.args.source.now.held.now) c.args.node c.args.one _ _ _ c.requires.0.attributes c.requires.0.detail s at k.0 c.args.two _ k.1

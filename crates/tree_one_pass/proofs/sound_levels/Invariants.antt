@@ -10,8 +10,5 @@ use Rattle.tree_one_pass.specs.Marks.{Marked}
 use Rattle.tree_one_pass.proofs.Fine.{takes_length, first_most, second_most, second_size, length_more, marked_more, marked_none, by_levels_lem}
 use Rattle.tree_one_pass.proofs.sound_levels.Given as goal
 
-abbrev pub invariant-loop-node : goal.invariant-loop-node
-invariant-loop-node l = (l.node ≤ l.count) × (length l.marks ≡ length l.initial.marks) × Marked (cells_of l.file l.held) l.count l.node l.marks
-
-abbrev pub decreases-loop-node : goal.decreases-loop-node
-decreases-loop-node l = l.node
+abbrev pub invariant-loop-done : goal.invariant-loop-done
+invariant-loop-done l = (length l.marks ≡ length l.initial.marks) × Marked (cells_of l.source.file.now l.source.held.now) l.count l.done l.marks

@@ -9,4 +9,4 @@ pub returns-in_default : goal.returns-in_default
 returns-in_default c = no_value _ _ (sym c.in_default.is ∙ c.number_at.ensures)
 
 pub returns : goal.returns
-returns c = is_value _ _ _ _ (sym c.in-Value.is ∙ c.number_at.ensures)
+returns c = is_value _ _ _ _ (sym c.in-Some.is ∙ c.number_at.ensures)

@@ -8,9 +8,9 @@ use Rattle.row_pack.specs.Packs.{unpacked_of}
 use Rattle.row.specs.Hands.{hand_of}
 use Rattle.row_walk.proofs.handing.second_hand.Goals as goal
 
-pub returns-then-hand-ne0 : goal.returns-then-hand-ne0
-returns-then-hand-ne0 c =
-    let t = tree_at c.args.table.now c.args.count c.args.node in
-    c.closed_second-hand.ensures c.if-hand-ne0.true
-    ∙ ap (λ (i : ℕ). hand_of (given_second (unpacked_of c.args.own) t (tree_at c.args.table.now c.args.count i))) c.requires
+pub returns-in-Some : goal.returns-in-Some
+returns-in-Some c =
+    let t = tree_at c.args.table.now.cells.now c.args.table.now.count c.args.node in
+    c.in-Some.ensures
+    ∙ ap (λ (i : ℕ). hand_of (given_second (unpacked_of c.args.own) t (tree_at c.args.table.now.cells.now c.args.table.now.count i))) c.requires
     ∙ ap hand_of (second_is _ _ _ (unpacked_of c.args.own))

@@ -1,10 +1,7 @@
--- digest::add_rows is safe and ends: the digest stays below the prime, and the measure is the number of nodes that are left.
+-- digest::add_rows is safe: the digest stays below the prime.
 use borrow.Author.Rules.{rules}
-use Prim.Native.Nat.{◌<◌, ◌-◌}
+use Prim.Native.Nat.{◌<◌}
 use Rattle.spines.proofs.digest.add_rows.Given as goal
 
-abbrev pub invariant-loop-i : goal.invariant-loop-i
-invariant-loop-i l = l.sum < 70_368_744_177_643
-
-abbrev pub decreases-loop-i : goal.decreases-loop-i
-decreases-loop-i l = l.count - l.i
+abbrev pub invariant-loop-node : goal.invariant-loop-node
+invariant-loop-node l = l.sum < 70_368_744_177_643

@@ -3,6 +3,7 @@ use mathlib.Core.Path.{sym, ◌∙◌}
 use Prim.Native.Nat.{◌+◌}
 use native.Mathlib.Omega.{arith}
 use Rattle.token_grammar.specs.Tokens.{right_paren, code}
+use Rattle.token_reader.specs.Kinds.{number_of}
 use Rattle.token_reader.specs.Turns.{step, calls}
 use Rattle.token_reader.proofs.First.{there}
 use Rattle.token_reader.proofs.Tells.{ready_on}
@@ -16,4 +17,4 @@ returns-then-code_at-eq-RIGHT_PAREN c =
     step _ (c.requires.3.steps _ _ _ c.requires.0.ready (call_empty (ready_on c.args.at c.requires.3.from (omega arith) c.requires.0.ready) (omega arith) e c.store-free.ensures c.strongest.ensures)) (omega arith) (λ j q. c.store-free.ensures.below j (omega arith)) c.came.ensures
 
 pub returns : goal.returns
-returns c = calls c.args.at c.args.what c.args.symbol c.requires.1 (rw c.requires.2 at c.requires.3) (λ z. c.if-code_at-eq-RIGHT_PAREN.false (c.code_at.ensures ∙ z)) c.wait.ensures.0 c.wait.ensures.1
+returns c = calls c.args.at (number_of c.args.what) c.args.symbol c.requires.1 (rw c.requires.2 at c.requires.3) (λ z. c.if-code_at-eq-RIGHT_PAREN.false (c.code_at.ensures ∙ z)) c.wait.ensures.0 c.wait.ensures.1

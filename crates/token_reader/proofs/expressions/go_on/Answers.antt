@@ -13,7 +13,7 @@ pub returns-then-goes_on : goal.returns-then-goes_on
 returns-then-goes_on c = on (sym (ap (goes_on_with c.args.s.least c.args.s.left.level c.args.s.left.named c.args.s.left.dotted) c.code_at-code.ensures) ∙ sym c.goes_on.ensures ∙ c.if-goes_on.true) c.step.ensures
 
 pub returns-then-s-eq0 : goal.returns-then-s-eq0
-returns-then-s-eq0 c = all (sym (ap (goes_on_with c.args.s.least c.args.s.left.level c.args.s.left.named c.args.s.left.dotted) c.code_at-code.ensures) ∙ sym c.goes_on.ensures ∙ c.if-goes_on.false) c.if-s-eq0.true refl refl refl refl
+returns-then-s-eq0 c = all (sym (ap (goes_on_with c.args.s.least c.args.s.left.level c.args.s.left.named c.args.s.left.dotted) c.code_at-code.ensures) ∙ sym c.goes_on.ensures ∙ c.if-goes_on.false) c.if-s-eq0.true refl c.if-s-eq0.true refl refl
 
 pub returns : goal.returns
 returns c = part (sym (ap (goes_on_with c.args.s.least c.args.s.left.level c.args.s.left.named c.args.s.left.dotted) c.code_at-code.ensures) ∙ sym c.goes_on.ensures ∙ c.if-goes_on.false) (omega (arith, c.if-s-eq0.false)) c.take.ensures

@@ -1,20 +1,15 @@
 -- `token_reader::expressions::turn` meets its contract. Assumes nothing.
-use mathlib.Core.Path.{sym, ◌∙◌}
-use native.Mathlib.Omega.{arith}
+use Rattle.std.proofs.Common.{ap}
+use Rattle.token_reader.specs.Kinds.{mode_number}
 use Rattle.token_reader.specs.Turns.{wanting, going, listing}
+use Rattle.token_reader.proofs.Modes.{late}
 use Rattle.token_reader.proofs.expressions.turn.Goals as goal
 
-pub returns-then-s-eq-WANTED : goal.returns-then-s-eq-WANTED
-returns-then-s-eq-WANTED c = wanting c.if-s-eq-WANTED.true c.begin.ensures
+pub returns-in-Wanted : goal.returns-in-Wanted
+returns-in-Wanted c = wanting (ap mode_number c.in-Wanted.is) c.begin.ensures
 
-pub go_on-requires : goal.go_on-requires
-go_on-requires c = (c.requires.able, c.requires.least (λ q. let z = sym c.if-s-eq-READ.true ∙ q in omega arith))
+pub returns-in-Read : goal.returns-in-Read
+returns-in-Read c = going (ap mode_number c.in-Read.is) c.go_on.ensures
 
-pub returns-then-s-eq-READ : goal.returns-then-s-eq-READ
-returns-then-s-eq-READ c = going c.if-s-eq-READ.true c.go_on.ensures
-
-pub close-requires : goal.close-requires
-close-requires c = (c.requires.able, c.requires.listed c.if-s-eq-WANTED.false c.if-s-eq-READ.false)
-
-pub returns : goal.returns
-returns c = listing c.if-s-eq-WANTED.false c.if-s-eq-READ.false c.close.ensures
+pub returns-in-Listed : goal.returns-in-Listed
+returns-in-Listed c = let n = late c.in-Listed.is in listing n.0 n.1 c.close.ensures

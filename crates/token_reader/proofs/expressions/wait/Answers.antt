@@ -2,4 +2,4 @@
 use Rattle.token_reader.proofs.expressions.wait.Goals as goal
 
 pub returns : goal.returns
-returns c = (rw c.bit.ensures.0 at c.lay.ensures, rw c.start.ensures)
+returns c = (rw c.from.ensures at c.lay.ensures, rw c.start.ensures)

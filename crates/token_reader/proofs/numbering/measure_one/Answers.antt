@@ -96,9 +96,9 @@ overflow_add-heights c =
     c.is_due.ensures (not-false _ c.if-not-is_due.false-raw) in
     let first : Due c.args.nodes (c.args.node + 1 + get_or c.args.spans.now (get_or c.args.own.now (node_cells * (c.args.node - 1) + second_column) 0 - c.args.base) 0) (get_or c.args.own.now (node_cells * (c.args.node - 1) + first_column) 0) =
     rw c.place_of-two.ensures at (c.is_due-2.ensures (not-false _ c.if-not-is_due-2.false-raw)) in
-    let height : (c.level_of.result + c.larger-height.result
+    let height : (c.level_of.result + c.max-height.result
     ≡ own_level (form_at c.args.own.now c.args.node) + max (get_or c.args.heights.now (get_or c.args.own.now (node_cells * (c.args.node - 1) + first_column) 0 - c.args.base) 0) (get_or c.args.heights.now (get_or c.args.own.now (node_cells * (c.args.node - 1) + second_column) 0 - c.args.base) 0)) =
-    rw (c.level_of.ensures, c.larger-height.ensures, c.place_of-one.ensures, c.place_of-two.ensures, cell_form c.args.own.now c.args.node (omega (arith, c.requires.1))) in
+    rw (c.level_of.ensures, c.max-height.ensures, c.place_of-one.ensures, c.place_of-two.ensures, cell_form c.args.own.now c.args.node (omega (arith, c.requires.1))) in
     let m = heights_most c.requires.0 c.requires.1 c.requires.2 c.requires.3 second first in
     rw height record { fits = omega arith }
 
@@ -108,7 +108,7 @@ returns c =
     c.is_due.ensures (not-false _ c.if-not-is_due.false-raw) in
     let first : Due c.args.nodes (c.args.node + 1 + get_or c.args.spans.now (get_or c.args.own.now (node_cells * (c.args.node - 1) + second_column) 0 - c.args.base) 0) (get_or c.args.own.now (node_cells * (c.args.node - 1) + first_column) 0) =
     rw c.place_of-two.ensures at (c.is_due-2.ensures (not-false _ c.if-not-is_due-2.false-raw)) in
-    let height : (c.level_of.result + c.larger-height.result
+    let height : (c.level_of.result + c.max-height.result
     ≡ own_level (form_at c.args.own.now c.args.node) + max (get_or c.args.heights.now (get_or c.args.own.now (node_cells * (c.args.node - 1) + first_column) 0 - c.args.base) 0) (get_or c.args.heights.now (get_or c.args.own.now (node_cells * (c.args.node - 1) + second_column) 0 - c.args.base) 0)) =
-    rw (c.level_of.ensures, c.larger-height.ensures, c.place_of-one.ensures, c.place_of-two.ensures, cell_form c.args.own.now c.args.node (omega (arith, c.requires.1))) in
+    rw (c.level_of.ensures, c.max-height.ensures, c.place_of-one.ensures, c.place_of-two.ensures, cell_form c.args.own.now c.args.node (omega (arith, c.requires.1))) in
     λ _. rw c.place_of-at.ensures (one_more c.requires.0 c.requires.1 c.requires.2 c.requires.3 second first _ _ (rw (c.place_of-one.ensures, c.place_of-two.ensures)) height)

@@ -10,7 +10,4 @@ use Rattle.token_reader.proofs.Mirrored.{Leads}
 use Rattle.token_reader.proofs.numbering.place.Given as goal
 
 abbrev pub invariant-loop-done : goal.invariant-loop-done
-invariant-loop-done l = (l.base ≤ l.done) × (l.done ≤ l.end) × (length l.numbers ≡ length l.initial.numbers) × (length l.out ≡ length l.initial.out) × Leads l.own l.spans l.base (size (tree_at l.own most_tokens (suc l.base))) (l.end - l.done) l.done l.numbers l.out (sets l.initial.out 0 (cells_from 1 (tree_at l.own most_tokens (suc l.base))))
-
-abbrev pub decreases-loop-done : goal.decreases-loop-done
-decreases-loop-done l = l.end - l.done
+invariant-loop-done l = (length l.numbers ≡ length l.initial.numbers) × (length l.out ≡ length l.initial.out) × Leads l.own l.spans l.base (size (tree_at l.own most_tokens (suc l.base))) (l.end - l.done) l.done l.numbers l.out (sets l.initial.out 0 (cells_from 1 (tree_at l.own most_tokens (suc l.base))))

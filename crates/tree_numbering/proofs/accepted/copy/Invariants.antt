@@ -11,7 +11,4 @@ use Rattle.tree_numbering.proofs.InOrder.{Copying, copy_none, copy_more, copy_st
 use Rattle.tree_numbering.proofs.accepted.copy.Given as goal
 
 abbrev pub invariant-loop-done : goal.invariant-loop-done
-invariant-loop-done l = (l.done ≤ l.count) × (length l.out ≡ length l.initial.out) × Copying l.count l.table l.done l.initial.out l.out
-
-abbrev pub decreases-loop-done : goal.decreases-loop-done
-decreases-loop-done l = l.count - l.done
+invariant-loop-done l = (length l.out ≡ length l.initial.out) × Copying l.table.count l.table.cells.now l.done l.initial.out l.out

@@ -10,8 +10,5 @@ use Rattle.tree_numbering.specs.Passes.{Measured}
 use Rattle.tree_numbering.proofs.Spans.{first_read, second_read, cells_read, measured_none, span_most, measured_more}
 use Rattle.tree_numbering.proofs.accepted.measure.Given as goal
 
-abbrev pub invariant-loop-node : goal.invariant-loop-node
-invariant-loop-node l = (l.node ≤ l.count) × (length l.spans ≡ length l.initial.spans) × Measured l.table l.count l.node l.spans
-
-abbrev pub decreases-loop-node : goal.decreases-loop-node
-decreases-loop-node l = l.node
+abbrev pub invariant-loop-done : goal.invariant-loop-done
+invariant-loop-done l = (length l.spans ≡ length l.initial.spans) × Measured l.table.cells.now l.table.count l.done l.spans

@@ -12,7 +12,4 @@ use Rattle.tree_numbering.proofs.Placing.{Placed, Filled, placed_none, filled_no
 use Rattle.tree_numbering.proofs.accepted.place.Given as goal
 
 abbrev pub invariant-loop-done : goal.invariant-loop-done
-invariant-loop-done l = (l.done ≤ l.count) × (length l.numbers ≡ length l.initial.numbers) × Placed l.count l.table l.done l.numbers × Filled l.count l.table l.done l.numbers l.initial.out l.out
-
-abbrev pub decreases-loop-done : goal.decreases-loop-done
-decreases-loop-done l = l.count - l.done
+invariant-loop-done l = (length l.numbers ≡ length l.initial.numbers) × Placed l.table.count l.table.cells.now l.done l.numbers × Filled l.table.count l.table.cells.now l.done l.numbers l.initial.out l.out

@@ -13,4 +13,4 @@ pub returns-then-mark-eq0 : goal.returns-then-mark-eq0
 returns-then-mark-eq0 c = refused
 
 pub returns : goal.returns
-returns c = taken c.if-count-operand.false c.if-mark-eq0.false
+returns c = rw c.from-at.ensures (taken c.if-count-operand.false (rw c.from-at.ensures at c.if-mark-eq0.false))

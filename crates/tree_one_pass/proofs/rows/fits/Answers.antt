@@ -4,4 +4,4 @@ use Rattle.tree_one_pass.proofs.Codes.{fits_bit}
 use Rattle.tree_one_pass.proofs.rows.fits.Goals as goal
 
 pub returns : goal.returns
-returns c = λ e. fits_bit _ _ c.requires.0 c.requires.1 e
+returns c = λ e. fits_bit _ _ c.requires.0 c.requires.1 (rw c.from-bit.ensures at e)

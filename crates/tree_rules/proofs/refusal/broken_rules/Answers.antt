@@ -17,23 +17,22 @@ use Rattle.tree_rules.proofs.refusal.broken_rules.Goals as goal
 
 pub loop-done-init : goal.loop-done-init
 unfolding some
-loop-done-init c = (omega arith, refl, c.requires.1, refl, refl, broken_none _ _ _ refl refl refl refl)
+loop-done-init c = (refl, c.requires.1, refl, refl, broken_none _ _ _ refl refl refl refl)
 
 pub count_owner-requires : goal.count_owner-requires
-count_owner-requires c = room_first _ _ _ c.loop-done.invariant.2 (omega arith) _
+count_owner-requires c = room_first _ _ _ c.loop-done.invariant.1 (omega arith) _
 
 pub count_owner-requires-in-loop-done : goal.count_owner-requires-in-loop-done
-count_owner-requires-in-loop-done c = rw c.count_owner.ensures (room_second _ _ _ c.loop-done.invariant.2 (omega arith) _ _)
+count_owner-requires-in-loop-done c = rw c.count_owner.ensures (room_second _ _ _ c.loop-done.invariant.1 (omega arith) _ _)
 
 pub loop-done-preserved : goal.loop-done-preserved
 loop-done-preserved c =
     let b = c.has_bad_numbers.ensures ∙ numbers_by _ _ _ c.node_at-numbers.ensures in (
-      omega arith,
-      rw (c.count_owner-in-loop-done.ensures, c.count_owner.ensures) (length_counted _ _ ∙ length_counted _ _ ∙ c.loop-done.invariant.1),
-      rw (c.count_owner-in-loop-done.ensures, c.count_owner.ensures, c.node_at-numbers.ensures.second, c.node_at-numbers.ensures.first) (counted_more _ _ _ c.loop-done.invariant.2),
-      some_more _ c.loop-done.done c.loop-done.invariant.3 (sym b ∙ c.if-has_bad_numbers.false),
+      rw (c.count_owner-in-loop-done.ensures, c.count_owner.ensures) (length_counted _ _ ∙ length_counted _ _ ∙ c.loop-done.invariant.0),
+      rw (c.count_owner-in-loop-done.ensures, c.count_owner.ensures, c.node_at-numbers.ensures.second, c.node_at-numbers.ensures.first) (counted_more _ _ _ c.loop-done.invariant.1),
+      some_more _ c.loop-done.done c.loop-done.invariant.2 (sym b ∙ c.if-has_bad_numbers.false),
       c.broken_with-broken.ensures.numbers,
-      broken_more _ _ c.loop-done.done _ c.node_at-numbers.ensures _ _ c.broken_with-broken.ensures c.loop-done.invariant.5,
+      broken_more _ _ c.loop-done.done _ c.node_at-numbers.ensures _ _ c.broken_with-broken.ensures c.loop-done.invariant.4,
     )
 
 pub returns-then-has_bad_numbers : goal.returns-then-has_bad_numbers
@@ -43,7 +42,7 @@ returns-then-has_bad_numbers c =
     record {
       numbers_value = sym (some_found _ _ (c.loop-done.done + 1) (omega arith) (omega arith) (sym b ∙ c.if-has_bad_numbers.true));
       broken_by = λ e. true_not_false e;
-      owners_len_unchanged = c.loop-done.invariant.1;
+      owners_len_unchanged = c.loop-done.invariant.0;
     }
 
 pub returns : goal.returns
@@ -51,7 +50,7 @@ unfolding refusal6
 returns c =
     let e : c.loop-done.done ≡ c.args.count = omega arith in
     record {
-      numbers_value = c.loop-done.invariant.4 ∙ sym (rw e at c.loop-done.invariant.3);
-      broken_by = λ h. (rw e at c.loop-done.invariant.5, rw e at c.loop-done.invariant.2);
-      owners_len_unchanged = c.loop-done.invariant.1;
+      numbers_value = c.loop-done.invariant.3 ∙ sym (rw e at c.loop-done.invariant.2);
+      broken_by = λ h. (rw e at c.loop-done.invariant.4, rw e at c.loop-done.invariant.1);
+      owners_len_unchanged = c.loop-done.invariant.0;
     }

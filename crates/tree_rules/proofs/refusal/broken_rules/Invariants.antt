@@ -16,7 +16,4 @@ use Rattle.tree_rules.proofs.Broken.{numbers_by, broken_none, broken_more}
 use Rattle.tree_rules.proofs.refusal.broken_rules.Given as goal
 
 abbrev pub invariant-loop-done : goal.invariant-loop-done
-invariant-loop-done l = (l.done ≤ l.count) × (length l.owners ≡ length l.initial.owners) × Counted (cells_of l.file l.held) l.done l.owners × (some (bad_numbers (cells_of l.file l.held)) l.done ≡ false) × (l.broken.numbers ≡ false) × BrokenBy (cells_of l.file l.held) l.count l.done l.broken
-
-abbrev pub decreases-loop-done : goal.decreases-loop-done
-decreases-loop-done l = l.count - l.done
+invariant-loop-done l = (length l.owners ≡ length l.initial.owners) × Counted (cells_of l.source.file.now l.source.held.now) l.done l.owners × (some (bad_numbers (cells_of l.source.file.now l.source.held.now)) l.done ≡ false) × (l.broken.numbers ≡ false) × BrokenBy (cells_of l.source.file.now l.source.held.now) l.count l.done l.broken

@@ -14,4 +14,4 @@ use Rattle.tree_rules.proofs.refusal.is_too_deep.Goals as goal
 
 pub returns : goal.returns
 unfolding refusal11
-returns c = ap (ltb most_levels) (c.loop-node.invariant.2.at 1 (omega arith) (λ q. omega arith))
+returns c = ap (ltb most_levels) (c.loop-done.invariant.1.at 1 (omega arith) (λ q. omega arith))

@@ -12,8 +12,5 @@ use Rattle.tree_rules.specs.Passes.{Levelled}
 use Rattle.tree_rules.proofs.Depth.{levelled_more}
 use Rattle.tree_rules.proofs.refusal.is_too_deep.Given as goal
 
-abbrev pub invariant-loop-node : goal.invariant-loop-node
-invariant-loop-node l = (l.node ≤ l.count) × (length l.below ≡ length l.initial.below) × Levelled (cells_of l.file l.held) l.count l.node l.below
-
-abbrev pub decreases-loop-node : goal.decreases-loop-node
-decreases-loop-node l = l.node
+abbrev pub invariant-loop-done : goal.invariant-loop-done
+invariant-loop-done l = (length l.below ≡ length l.initial.below) × Levelled (cells_of l.source.file.now l.source.held.now) l.count l.done l.below

@@ -10,10 +10,10 @@ use Rattle.tree_rules.proofs.refusal.some_badly_owned.Goals as goal
 
 pub loop-done-init : goal.loop-done-init
 unfolding some
-loop-done-init c = (omega arith, refl)
+loop-done-init c = refl
 
 pub returns-then-is_badly_owned : goal.returns-then-is_badly_owned
 returns-then-is_badly_owned c = sym (some_found _ _ (c.loop-done.done + 1) (omega arith) (omega arith) (sym c.is_badly_owned.ensures ∙ c.if-is_badly_owned.true))
 
 pub loop-done-preserved : goal.loop-done-preserved
-loop-done-preserved c = (omega arith, some_more _ c.loop-done.done c.loop-done.invariant.1 (sym c.is_badly_owned.ensures ∙ c.if-is_badly_owned.false))
+loop-done-preserved c = some_more _ c.loop-done.done c.loop-done.invariant (sym c.is_badly_owned.ensures ∙ c.if-is_badly_owned.false)

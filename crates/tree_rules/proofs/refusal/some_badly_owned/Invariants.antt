@@ -9,7 +9,4 @@ use Rattle.tree_rules.specs.Passes.{badly_owned}
 use Rattle.tree_rules.proofs.refusal.some_badly_owned.Given as goal
 
 abbrev pub invariant-loop-done : goal.invariant-loop-done
-invariant-loop-done l = (l.done ≤ l.count) × (some (badly_owned l.owners) l.done ≡ false)
-
-abbrev pub decreases-loop-done : goal.decreases-loop-done
-decreases-loop-done l = l.count - l.done
+invariant-loop-done l = (some (badly_owned l.owners) l.done ≡ false)
