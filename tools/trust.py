@@ -10,7 +10,8 @@ no `use`) and their share of all. Files come behind those that they use. The mod
 crate.
 
 Some files say of themselves that nothing in them is to be believed. Ends with 1 if
-a statement uses such a file, or if the contract of a public function cites one.
+a statement uses such a file, or if the contract of a public function cites one, or
+what a public trait or an impl of a trait promises.
 """
 
 import re
@@ -54,6 +55,9 @@ GHOST_USE = re.compile(r'ghost use Rattle\.(?!std\b)(\w+)\.specs\.(\w+)\.\{([^}]
 PUB_MOD = re.compile(r'^pub mod (\w+);', re.MULTILINE)
 PUB_FN = re.compile(r'pub (?:extern "C" )?fn (\w+)(.*?)\n *\{\n', re.DOTALL)
 ENSURES = re.compile(r'^ *ensures (.*)', re.MULTILINE)
+# A public trait, or an impl of one: what it says stands in clauses of its methods and in ghost items.
+TRAIT = re.compile(r'^((?:pub trait|impl\b[^\n]* for)\b[^\n{]*) \{\n(.*?)^\}', re.MULTILINE | re.DOTALL)
+PROMISES = re.compile(r'^ *(?:ensures|ghost \w+ [=:]|ghost \w+:) (.*)', re.MULTILINE)
 WORD = re.compile(r'[\w-]+')
 USE = re.compile(r'use Rattle\.(?!std\b)(\w+)\.specs\.([\w.]+?)(?:\.\{| as |\s|$)')
 
@@ -113,15 +117,17 @@ def public_modules(crate):
 
 
 def cited():
-    """Each public function with each file of definitions that its contract cites."""
+    """Each public function, and each trait, with each file of definitions that its contract cites."""
     for crate in sorted(folder.name for folder in CRATES.iterdir()):
         for file in public_modules(crate):
             text = file.read_text()
             homes = {}
             for home, module, names in GHOST_USE.findall(text):
                 homes.update((name.strip(), f'{home}/{module}') for name in names.split(','))
-            for function, head in PUB_FN.findall(text):
-                words = set(WORD.findall(' '.join(ENSURES.findall(head))))
+            promises = [(function, ENSURES.findall(head)) for function, head in PUB_FN.findall(text)]
+            promises += [(name, PROMISES.findall(body)) for name, body in TRAIT.findall(text)]
+            for function, clauses in promises:
+                words = set(WORD.findall(' '.join(clauses)))
                 for home in sorted({homes[word] for word in words if word in homes}):
                     yield f'{crate}::{function}', home
 
