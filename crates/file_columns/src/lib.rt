@@ -272,14 +272,16 @@ fn from_with(
     store_nodes(loaded.context, loaded.count, cells, file)
 }
 
-// The start of an array over that of the lent table.
-#[tactic(auto, unfolding(laws::specs::Lists::over))]
+// The start of an array over that of the lent table. By a loop: `copy_from_slice` becomes a call of memmove here, which the
+// archive for C would then need from outside.
 fn copy(cells: &[u16], numbers: usize, table: &mut [u16])
     requires own { numbers ≤ length cells.now }
     requires lent { numbers ≤ length table.old }
     ensures { table.new ≡ over (take numbers cells.now) table.old }
 {
-    table[..numbers].copy_from_slice(&cells[..numbers]);
+    for done in 0..numbers {
+        table[done] = cells[done];
+    }
 }
 
 // A rearranged file into a lent table, by two arrays, the first of them no better than the table for 4.

@@ -228,7 +228,8 @@ fn check_with(file: &[u8], header: Header, places: &mut [u16]) -> Result<(), Ref
     check_source(header.context, header.count, &source)
 }
 
-// The same with an array of its own: one for few nodes is quickly made.
+// The same with an array of its own: one for few nodes is quickly made. Never put into `check`, so that what is refused before it takes no stack for an array.
+#[inline(never)]
 fn check_by<const PLACES: usize>(file: &[u8], header: Header) -> Result<(), Refusal>
     requires counted { Counted file.now header.context header.count header.body }
     requires fits { header.count ≤ PLACES + 1 }
@@ -237,6 +238,17 @@ fn check_by<const PLACES: usize>(file: &[u8], header: Header) -> Result<(), Refu
 {
     let mut places = [0u16; PLACES];
     check_with(file, header, &mut places)
+}
+
+// 5 to 11, with an array that the count of nodes asks for.
+fn check_nodes(file: &[u8], header: Header) -> Result<(), Refusal>
+    requires { Counted file.now header.context header.count header.body }
+    ensures { result ≡ replied (body_refusal file.now) tt }
+{
+    if header.count < 64 {
+        return check_by::<FEW_PLACES>(file, header);
+    }
+    check_by::<MOST_PLACES>(file, header)
 }
 
 // 1 to 4: the header of a file, for a lent table of so many cells.
@@ -264,10 +276,7 @@ pub fn check(file: &[u8], lent: usize) -> Result<(), Refusal>
     ensures { result ≡ replied (file_refusal file.now lent) tt }
 {
     let header = begin(file, lent)?;
-    if header.count < 64 {
-        return check_by::<FEW_PLACES>(file, header);
-    }
-    check_by::<MOST_PLACES>(file, header)
+    check_nodes(file, header)
 }
 
 // Whether 5 applies to so many numbers from a place on.
@@ -293,14 +302,13 @@ pub fn load(file: &[u8], table: &mut [u16]) -> Result<Loaded, Refusal>
     ensures reply { result ≡ loaded file.now (length table.old) }
     ensures table { table.new ≡ loaded_table file.now table.old }
 {
-    check(file, table.len())?;
-    let Header {
-        context,
-        count,
-        body,
-    } = begin(file, table.len())?;
-    store(file, body, usize::from(count), table);
-    Ok(Loaded { context, count })
+    let header = begin(file, table.len())?;
+    check_nodes(file, header)?;
+    store(file, header.body, usize::from(header.count), table);
+    Ok(Loaded {
+        context: header.context,
+        count: header.count,
+    })
 }
 
 // The numbers of a file into a lent table as they stand, whatever they say: the context and the count, or the first of 1 to 5 that applies. Nothing is stored before that is known.

@@ -8,12 +8,14 @@ use native.Mathlib.Decide.{dec_le}
 use Rattle.std.proofs.Common.{◌⊎◌}
 use Rattle.std.proofs.lemmas.Grind.{common_steps}
 use Rattle.laws.specs.Choice.{pick, lookup}
+use Rattle.tree.specs.Forms.{expr_range}
 use Rattle.tree.specs.Table.{first_column, second_column}
 use Rattle.tree.specs.Trees.{label_at, operand_at, tree_at}
-use Rattle.tree.specs.Operands.{form_in}
+use Rattle.tree.specs.Operands.{presence, form_in}
 use Rattle.tree.specs.Walks.{at_root}
 use Rattle.tree.proofs.Unfold.{unfolds, tree_zero, tree_past}
 use Rattle.tree.proofs.Matches.{form_in_lem, form_none}
+use Rattle.tree_shapes.specs.Shapes.{shape_lines, shape_at, first_in_shape}
 use Rattle.fixup.specs.declared.context.FixupContext.{FixupContext}
 use Rattle.fixup.specs.Fixup.{scan_left_lines, scan_left}
 
@@ -31,3 +33,8 @@ scanned cells count i x = go (dec_le 1 i) (dec_le i count)
 pub unlisted : (cells : List ℕ) (count i : ℕ) (x : FixupContext) → (form_in cells count i ≡ 0) ⊎ (56 < form_in cells count i) → true ≡ scan_left (tree_at cells count i) x
 unfolding scan_left_lines lookup pick
 unlisted cells count i x e = rw (scanned cells count i x) (grind (arith, common_steps, e))
+
+-- the start of a Range, by its shape
+pub start : (cells : List ℕ) (count i : ℕ) → form_in cells count i ≡ expr_range → first_in_shape (shape_at cells count i) ≡ presence (operand_at cells count i first_column)
+unfolding shape_at shape_lines first_in_shape lookup pick
+start cells count i e = rw e refl

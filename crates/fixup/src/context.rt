@@ -2,6 +2,7 @@
 ghost use Rattle.std.specs.Prelude.{◌≡◌};
 ghost use Rattle.fixup.specs.Contexts.{none_context, new_stmt, new_match_arm, new_condition, with_operator, with_dot, rightmost};
 
+use bools::{and_not, both, either};
 use precedence::Precedence;
 
 #[derive(Clone, Copy, Debug, PartialEq, Eq)]
@@ -115,9 +116,9 @@ impl FixupContext {
     {
         FixupContext {
             next_operator: Precedence::Unambiguous,
-            stmt: self.stmt || self.leftmost_subexpression_in_stmt,
+            stmt: either(self.stmt, self.leftmost_subexpression_in_stmt),
             leftmost_subexpression_in_stmt: false,
-            match_arm: self.match_arm || self.leftmost_subexpression_in_match_arm,
+            match_arm: either(self.match_arm, self.leftmost_subexpression_in_match_arm),
             leftmost_subexpression_in_match_arm: false,
             rightmost_subexpression_in_condition: false,
             next_operator_can_begin_expr: false,
@@ -142,8 +143,8 @@ impl FixupContext {
             leftmost_subexpression_in_stmt: false,
             match_arm: false,
             leftmost_subexpression_in_match_arm: false,
-            condition: self.condition && !reset_allow_struct,
-            leftmost_subexpression_in_optional_operand: self.condition && optional_operand,
+            condition: and_not(self.condition, reset_allow_struct),
+            leftmost_subexpression_in_optional_operand: both(self.condition, optional_operand),
             ..self
         }
     }

@@ -12,6 +12,7 @@ use fixup_look::{
 use precedence::Precedence;
 use tree::form::Form;
 use tree::table::Table;
+use tree_shapes::first_at;
 
 impl FixupContext {
     // Whether parentheses are needed to head off the early termination of a statement or condition.
@@ -69,27 +70,27 @@ fn left_of_binary(previous: Precedence, own: Precedence) -> bool
     ensures { result ≡ left_of_binary previous own }
 {
     match own {
-        Precedence::Assign => previous <= Precedence::Assign,
-        _ => previous < own,
+        Precedence::Assign => previous.is_at_most(Precedence::Assign),
+        _ => previous.is_below(own),
     }
 }
 
 // Whether the operator before the expression leaves it whole.
-#[tactic(auto, unfolding(crate::specs::Fixup::scan_left_lines, tree::specs::Trees::label_at, laws::specs::Choice::lookup, laws::specs::Choice::pick), using(crate::proofs::Scans::scanned, crate::proofs::Scans::unlisted, tree::proofs::Walks::there))]
+#[tactic(auto, unfolding(crate::specs::Fixup::scan_left_lines, tree::specs::Trees::label_at, laws::specs::Choice::lookup, laws::specs::Choice::pick), using(crate::proofs::Scans::scanned, crate::proofs::Scans::unlisted, crate::proofs::Scans::start, tree::proofs::Walks::there))]
 pub fn scan_left(table: &Table, node: u16, fixup: FixupContext) -> bool
     ensures { result ≡ scan_left (tree_at table.now.cells.now table.now.count node) fixup }
 {
     match table.form(node) {
-        Some(Form::ExprAssign) => fixup.previous_operator <= Precedence::Assign,
+        Some(Form::ExprAssign) => fixup.previous_operator.is_at_most(Precedence::Assign),
         Some(Form::ExprBinary) => {
             left_of_binary(
                 fixup.previous_operator,
                 Precedence::of_binop(table.detail(node)),
             )
         }
-        Some(Form::ExprCast) => fixup.previous_operator < Precedence::Cast,
+        Some(Form::ExprCast) => fixup.previous_operator.is_below(Precedence::Cast),
         Some(Form::ExprRange) => {
-            table.first(node).is_none() || fixup.previous_operator < Precedence::Assign
+            first_at(table, node).is_none() || fixup.previous_operator.is_below(Precedence::Assign)
         }
         _ => true,
     }

@@ -1,5 +1,5 @@
 // What an expression looks like from outside: the tests that fixup.rs makes of it, each by `matches!` or a match on its form.
-#![tactic(auto, unfolding(crate::specs::Looks::is_let, crate::specs::Looks::is_struct, crate::specs::Looks::is_bare_return, crate::specs::Looks::is_open_ended, crate::specs::Looks::is_plain_block, crate::specs::Looks::is_bare_jump, crate::specs::Looks::is_open_ahead, tree::specs::Operands::form_in, tree::specs::Trees::label_at, laws::specs::Choice::lookup, laws::specs::Choice::pick), using(crate::proofs::Looks::rooted, tree::proofs::Walks::there))]
+#![tactic(auto, unfolding(crate::specs::Looks::is_let, crate::specs::Looks::is_struct, crate::specs::Looks::is_bare_return, crate::specs::Looks::is_open_ended, crate::specs::Looks::is_plain_block, crate::specs::Looks::is_bare_jump, crate::specs::Looks::is_open_ahead, tree_shapes::specs::Shapes::shape_at, tree_shapes::specs::Shapes::shape_lines, tree_shapes::specs::Shapes::first_in_shape, tree_shapes::specs::Shapes::second_in_shape, tree::specs::Operands::form_in, tree::specs::Trees::label_at, laws::specs::Choice::lookup, laws::specs::Choice::pick), using(crate::proofs::Looks::rooted, tree::proofs::Walks::there))]
 
 ghost use Rattle.std.specs.Prelude.{◌≡◌};
 ghost use Rattle.tree.specs.Trees.{tree_at};
@@ -8,6 +8,7 @@ ghost use Rattle.fixup_look.specs.Looks.{is_let, is_struct, is_bare_return, is_o
 use classify::trailing_unparameterized_path;
 use tree::form::Form;
 use tree::table::Table;
+use tree_shapes::{first_at, second_at};
 
 // Expr::Let(_)
 pub fn is_let(table: &Table, node: u16) -> bool
@@ -28,7 +29,7 @@ pub fn is_bare_return(table: &Table, node: u16) -> bool
     ensures { result ≡ is_bare_return (tree_at table.now.cells.now table.now.count node) }
 {
     match table.form(node) {
-        Some(Form::ExprReturn | Form::ExprYield) => table.first(node).is_none(),
+        Some(Form::ExprReturn | Form::ExprYield) => first_at(table, node).is_none(),
         _ => false,
     }
 }
@@ -38,9 +39,9 @@ pub fn is_open_ended(table: &Table, node: u16) -> bool
     ensures { result ≡ is_open_ended (tree_at table.now.cells.now table.now.count node) }
 {
     match table.form(node) {
-        Some(Form::ExprBreak) => table.first(node).is_none(),
+        Some(Form::ExprBreak) => first_at(table, node).is_none(),
         Some(Form::ExprPath) => true,
-        Some(Form::ExprRange) => table.second(node).is_none(),
+        Some(Form::ExprRange) => second_at(table, node).is_none(),
         _ => false,
     }
 }
@@ -60,7 +61,9 @@ pub fn is_bare_jump(table: &Table, node: u16) -> bool
     ensures { result ≡ is_bare_jump (tree_at table.now.cells.now table.now.count node) }
 {
     match table.form(node) {
-        Some(Form::ExprBreak | Form::ExprReturn | Form::ExprYield) => table.first(node).is_none(),
+        Some(Form::ExprBreak | Form::ExprReturn | Form::ExprYield) => first_at(
+            table, node,
+        ).is_none(),
         _ => false,
     }
 }
@@ -77,20 +80,20 @@ pub fn is_open_ahead(table: &Table, node: u16) -> bool
             | Form::ExprReturn
             | Form::ExprYield,
         ) => true,
-        Some(Form::ExprRange) => table.first(node).is_none(),
+        Some(Form::ExprRange) => first_at(table, node).is_none(),
         _ => false,
     }
 }
 
 // A Cast whose type ends in a path without arguments.
-#[tactic(auto, unfolding(crate::specs::Looks::is_cast_to_path, classify::specs::Classify::trailing_path, tree::specs::Walks::walk, tree::specs::Operands::form_in, tree::specs::Trees::label_at, laws::specs::Choice::lookup, laws::specs::Choice::pick), using(crate::proofs::Looks::rooted, tree::proofs::Unfold::tree_zero, tree::proofs::Walks::present_above, tree::proofs::Walks::absent_zero))]
+#[tactic(auto, unfolding(crate::specs::Looks::is_cast_to_path, classify::specs::Classify::trailing_path, tree_shapes::specs::Shapes::shape_at, tree_shapes::specs::Shapes::shape_lines, tree_shapes::specs::Shapes::second_in_shape, tree::specs::Walks::walk, tree::specs::Operands::form_in, tree::specs::Trees::label_at, laws::specs::Choice::lookup, laws::specs::Choice::pick), using(crate::proofs::Looks::rooted, tree::proofs::Unfold::tree_zero, tree::proofs::Walks::present_above, tree::proofs::Walks::absent_zero))]
 pub fn is_cast_to_path(table: &Table, node: u16) -> bool
     ensures { result ≡ is_cast_to_path (tree_at table.now.cells.now table.now.count node) }
 {
     let Some(Form::ExprCast) = table.form(node) else {
         return false;
     };
-    match table.second(node) {
+    match second_at(table, node) {
         Some(ty) => trailing_unparameterized_path(table, ty),
         None => false,
     }

@@ -9,6 +9,7 @@ ghost use Rattle.fixup_scan.specs.Arms.{arm_of, operand_number};
 use precedence::Precedence;
 use tree::form::Form;
 use tree::table::{Operand, Table};
+use tree_shapes::first_at;
 
 #[derive(Clone, Copy, Debug, PartialEq, Eq)]
 pub enum Arm {
@@ -41,7 +42,7 @@ fn leading_label(table: &Table, value: Operand) -> bool
     classify::expr_leading_label(table, number)
 }
 
-#[tactic(auto, unfolding(crate::specs::Arms::arm_of, crate::specs::Arms::arm_lines, tree::specs::Walks::at_root, tree::specs::Trees::label_at, laws::specs::Choice::lookup, laws::specs::Choice::pick), using(tree::proofs::Unfold::unfolds, tree::proofs::Unfold::tree_zero, tree::proofs::Unfold::tree_past, tree::proofs::Walks::tree_of_lem, crate::proofs::Unlisted::unlisted))]
+#[tactic(auto, unfolding(crate::specs::Arms::arm_of, crate::specs::Arms::arm_lines, tree_shapes::specs::Shapes::shape_at, tree_shapes::specs::Shapes::shape_lines, tree_shapes::specs::Shapes::first_in_shape, tree::specs::Operands::form_in, tree::specs::Walks::at_root, tree::specs::Trees::label_at, laws::specs::Choice::lookup, laws::specs::Choice::pick), using(tree::proofs::Unfold::unfolds, tree::proofs::Unfold::tree_zero, tree::proofs::Unfold::tree_past, tree::proofs::Walks::tree_of_lem, crate::proofs::Unlisted::unlisted))]
 pub fn arm_at(table: &Table, node: u16) -> Arm
     ensures { result ≡ arm_of (tree_at table.now.cells.now table.now.count node) }
 {
@@ -56,7 +57,7 @@ pub fn arm_at(table: &Table, node: u16) -> Arm
         Form::ExprRawAddr | Form::ExprReference | Form::ExprUnary => Arm::Prefix,
         Form::ExprRange if table.attributes(node) == 0 => Arm::Range,
         Form::ExprBreak => {
-            Arm::Break(table.detail(node) == 0 && leading_label(table, table.first(node)))
+            Arm::Break(table.detail(node) == 0 && leading_label(table, first_at(table, node)))
         }
         Form::ExprReturn | Form::ExprYield => Arm::Return,
         Form::ExprClosure => Arm::Closure,

@@ -2,7 +2,7 @@
 ghost use Rattle.std.specs.Prelude.{◌≡◌};
 ghost use Rattle.tree.specs.Trees.{tree_at};
 ghost use Rattle.fixup_scan.specs.Linear.{right_given};
-ghost use Rattle.fixup_scan.specs.Scans.{loose, scanned, scan_right, rightmost_precedence, leftmost_precedence};
+ghost use Rattle.fixup_scan.specs.Scans.{loose, scanned, scan_right, rightmost_precedence, bails_out, leftmost_precedence};
 
 use super::Scan;
 use super::answer::Scanned;
@@ -13,8 +13,19 @@ use fixup::group::scan_left;
 use precedence::Precedence;
 use tree::table::Table;
 
+// Whether scan_right bails out of a left operand, and scan_left leaves it whole.
+#[tactic(auto, unfolding(crate::specs::Scans::bails_out, laws::specs::Choice::pick))]
+fn bails_out(fixup: FixupContext, table: &Table, node: u16) -> bool
+    ensures { result ≡ bails_out (tree_at table.now.cells.now table.now.count node) fixup }
+{
+    let next = fixup.next_operator;
+    (!fixup.next_operator_can_begin_expr || next.is_same(Precedence::Range))
+        && scan_right(table, node, fixup, Precedence::MIN, 0, 0) == Scan::Bailout
+        && scan_left(table, node, fixup)
+}
+
 // The precedence of a left operand in its context.
-#[tactic(auto, unfolding(crate::specs::Scans::leftmost_precedence, crate::specs::Scans::bails_out, laws::specs::Choice::pick))]
+#[tactic(auto, unfolding(crate::specs::Scans::leftmost_precedence, laws::specs::Choice::pick))]
 pub fn leftmost_subexpression_precedence(
     fixup: FixupContext,
     table: &Table,
@@ -22,11 +33,7 @@ pub fn leftmost_subexpression_precedence(
 ) -> Precedence
     ensures { result ≡ leftmost_precedence (tree_at table.now.cells.now table.now.count node) fixup }
 {
-    let next = fixup.next_operator;
-    if (!fixup.next_operator_can_begin_expr || next == Precedence::Range)
-        && scan_right(table, node, fixup, Precedence::MIN, 0, 0) == Scan::Bailout
-        && scan_left(table, node, fixup)
-    {
+    if bails_out(fixup, table, node) {
         return Precedence::Unambiguous;
     }
     fixup.precedence(table, node)

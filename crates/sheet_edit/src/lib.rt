@@ -21,7 +21,7 @@ use tree::refusal::Refusal;
 use tree::table::Table;
 use tree::{columns, sizes};
 use tree_labels::form::class_of;
-use tree_labels::level::own_level;
+use tree_labels::level::{larger, own_level};
 use tree_numbering::edited::number;
 use tree_numbering::{levels_at, room_after};
 use tree_one_pass::check;
@@ -53,7 +53,7 @@ fn levels_edited(table: &Table, place: u16, second: &Table, deep: u16, node: u16
     let one = levels_edited(table, place, second, deep, first);
     let other = table.operand_number(node, columns::SECOND);
     let two = levels_edited(table, place, second, deep, other);
-    own_level(table, node) + one.max(two)
+    own_level(table, node) + larger(one, two)
 }
 
 // Whether a path of the result holds too many nodes. None does where the two trees have no more together.

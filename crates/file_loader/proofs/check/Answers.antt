@@ -9,21 +9,10 @@ pub returns-in_err-header : goal.returns-in_err-header
 unfolding file_refusal
 returns-in_err-header c = passed_up _ _ c.from_residual.ensures.0 c.from_residual.ensures.1 ∙ refused_by _ _ tt (c.in_err-header.ensures _)
 
-pub check_by-requires-clause-counted : goal.check_by-requires-clause-counted
-check_by-requires-clause-counted c = to_body _ _ _ c.in_ok-header.ensures
-
-pub returns-then-header-lt64 : goal.returns-then-header-lt64
-returns-then-header-lt64 c =
-    let h = c.in_ok-header.ensures in
-    rw (after_count _ _ _ _ _ h.begun h.ok h.fits) c.check_by.ensures
-
-pub check_by-requires-2-clause-counted : goal.check_by-requires-2-clause-counted
-check_by-requires-2-clause-counted c = to_body _ _ _ c.in_ok-header.ensures
-
-pub check_by-requires-2-clause-fits : goal.check_by-requires-2-clause-fits
-check_by-requires-2-clause-fits c = (to_body _ _ _ c.in_ok-header.ensures).high
+pub check_nodes-requires : goal.check_nodes-requires
+check_nodes-requires c = to_body _ _ _ c.in_ok-header.ensures
 
 pub returns : goal.returns
 returns c =
     let h = c.in_ok-header.ensures in
-    rw (after_count _ _ _ _ _ h.begun h.ok h.fits) c.check_by-2.ensures
+    rw (after_count _ _ _ _ _ h.begun h.ok h.fits) c.check_nodes.ensures

@@ -47,7 +47,7 @@ overflow_add-result t c =
     let w = c.ranges in
     let p = c.requires in
     let m = levels_bound c.args.table.now.cells.now c.args.table.now.count c.args.place (tree_at c.args.second.now.cells.now c.args.second.now.count 1) c.args.node in
-    let e = levels_by c.args.table.now.cells.now c.args.table.now.count c.args.place (tree_at c.args.second.now.cells.now c.args.second.now.count 1) c.args.node (omega arith) (omega arith) c.if-node-place.false _ c.operand_number-first.ensures _ c.operand_number-other.ensures _ c.levels_edited-one.ensures _ c.levels_edited-two.ensures _ c.own_level.ensures _ c.max.ensures in
+    let e = levels_by c.args.table.now.cells.now c.args.table.now.count c.args.place (tree_at c.args.second.now.cells.now c.args.second.now.count 1) c.args.node (omega arith) (omega arith) c.if-node-place.false _ c.operand_number-first.ensures _ c.operand_number-other.ensures _ c.levels_edited-one.ensures _ c.levels_edited-two.ensures _ c.own_level.ensures _ c.larger.ensures in
     record { fits = omega arith }
 
 pub returns : goal.returns
@@ -55,4 +55,4 @@ returns t c =
     let u = c.if-table-node.false in
     let v = c.if-node-eq0.false in
     let w = c.ranges in
-    levels_by c.args.table.now.cells.now c.args.table.now.count c.args.place (tree_at c.args.second.now.cells.now c.args.second.now.count 1) c.args.node (omega arith) (omega arith) c.if-node-place.false _ c.operand_number-first.ensures _ c.operand_number-other.ensures _ c.levels_edited-one.ensures _ c.levels_edited-two.ensures _ c.own_level.ensures _ c.max.ensures
+    levels_by c.args.table.now.cells.now c.args.table.now.count c.args.place (tree_at c.args.second.now.cells.now c.args.second.now.count 1) c.args.node (omega arith) (omega arith) c.if-node-place.false _ c.operand_number-first.ensures _ c.operand_number-other.ensures _ c.levels_edited-one.ensures _ c.levels_edited-two.ensures _ c.own_level.ensures _ c.larger.ensures
