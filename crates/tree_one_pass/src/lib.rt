@@ -25,28 +25,29 @@ const FEW: usize = 64;
 // Marks of up to 4,096 nodes.
 const MANY: usize = sizes::MOST_NODES as usize + 1;
 
-// The numbers of a node that is there; those of a table without a look at its length, those of a file quickly where that can be.
-fn numbers_at(source: &Source, node: u16) -> Node
-    requires { (1 ≤ node) × (node_cells * node ≤ length (cells_of source.now.file.now source.now.held.now)) }
-    ensures { NodeAt (cells_of source.now.file.now source.now.held.now) node result }
+// The numbers of a node that is there; those of a table without a look at its length, those of a file quickly where that can be. The file and what is held of it apart: behind a `&Source` each turn of the pass reads both anew.
+fn numbers_at(file: &[u8], held: &[u16], node: u16) -> Node
+    requires { (1 ≤ node) × (node_cells * node ≤ length (cells_of file.now held.now)) }
+    ensures { NodeAt (cells_of file.now held.now) node result }
 {
-    if !source.file.is_empty() {
+    if !file.is_empty() {
         if node != 1 {
-            let place = source.held[usize::from(node) - 2];
-            if let Some(quick) = quick_from(source.file, place) {
+            let place = held[usize::from(node) - 2];
+            if let Some(quick) = quick_from(file, place) {
                 return quick;
             }
         }
+        let source = Source { file, held };
         return source.node_at(node);
     }
     let at = sizes::NODE_CELLS * usize::from(node - 1);
     Node {
-        form: source.held[at],
-        attributes: source.held[at + offsets::ATTRIBUTES],
-        detail: source.held[at + offsets::DETAIL],
-        first: source.held[at + offsets::FIRST],
-        second: source.held[at + offsets::SECOND],
-        symbol: source.held[at + offsets::SYMBOL],
+        form: held[at],
+        attributes: held[at + offsets::ATTRIBUTES],
+        detail: held[at + offsets::DETAIL],
+        first: held[at + offsets::FIRST],
+        second: held[at + offsets::SECOND],
+        symbol: held[at + offsets::SYMBOL],
     }
 }
 
@@ -91,9 +92,10 @@ fn sound_levels(source: &Source, count: u16, marks: &mut [u16]) -> Option<u16>
     requires { (1 ≤ count) × (count ≤ most_nodes) × (node_cells * count ≤ length (cells_of source.now.file.now source.now.held.now)) × (count < length marks.old) × ((j : ℕ) → get_or marks.old j 0 ≡ 0) }
     ensures { IfSome result (λ levels. first_of (node_refusals count (cells_of source.now.file.now source.now.held.now)) ≡ by_levels levels) }
 {
+    let Source { file, held } = *source;
     for done in (0..count).rev() {
         let node = done + 1;
-        let numbers = numbers_at(source, node);
+        let numbers = numbers_at(file, held, node);
         let one = take(marks, count, numbers.first);
         if one == TAKEN {
             return None;

@@ -13,7 +13,13 @@ pub const TAKEN: u16 = 7;
 fn opens(row: u16, attributes: u16, detail: u16, one: u16) -> bool
     ensures { result ≡ true → Opens row attributes detail one }
 {
-    attributes <= row / 4 % 4 && detail <= row / 1024 && fits(row / 16 % 8, one % 8)
+    if row / 4 % 4 < attributes {
+        return false;
+    }
+    if row / 1024 < detail {
+        return false;
+    }
+    fits(row / 16 % 8, one % 8)
 }
 
 // The mark of a node with this row whose operands have these marks; 0 where the second does not fit, or there is no row.
