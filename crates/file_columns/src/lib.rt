@@ -272,8 +272,8 @@ fn from_with(
     store_nodes(loaded.context, loaded.count, cells, file)
 }
 
-// The start of an array over that of the lent table. By a loop: `copy_from_slice` becomes a call of memmove here, which the
-// archive for C would then need from outside.
+// The start of an array over that of the lent table. By a loop: `copy_from_slice` becomes a call of memmove here, which
+// the archive for C would then need from outside.
 fn copy(cells: &[u16], numbers: usize, table: &mut [u16])
     requires own { numbers ≤ length cells.now }
     requires lent { numbers ≤ length table.old }

@@ -27,7 +27,7 @@ use Rattle.tree_source.proofs.Cells.{cells_file}
 use Rattle.file_loader.specs.declared.Header.{Header}
 use Rattle.file_loader.specs.declared.Loaded.{Loaded}
 use Rattle.file_loader.specs.Reads.{Passed, LaidOut, Begun, Headed, Counted, body_refusal}
-use Rattle.file_loader.proofs.Replied.{refused_by, done_by, said_err}
+use Rattle.file_loader.proofs.Replied.{refused_by, done_by, said_ok, said_err, passed_up}
 use Rattle.file_loader.proofs.Several.{number_bad, numbers_next, numbers_stop, numbers_length, some_left}
 
 -- the first of 6 to 11, where 3 and 4 do not apply
@@ -192,6 +192,10 @@ ended_body file from n end e = rw (e, length-drop end file) (go (dec_le (length 
 pub to_body : (file : List ℕ) (lent : ℕ) (h : Header) → Headed file lent h → Counted file h.context h.count h.body
 to_body file lent h s = let f = count_fits h.count lent s.fits in record { begun = s.begun; is_start = s.is_start; ok = s.ok; low = f.0; high = f.1 }
 
+-- 5 to 11 alone are left then
+pub nodes_left : (file : List ℕ) (lent : ℕ) (h : Header) → Headed file lent h → file_refusal file lent ≡ body_refusal file
+nodes_left file lent h s = after_count _ _ _ _ _ s.begun s.ok s.fits
+
 -- the cells of the file, where its nodes have been laid out
 pub laid_cells : (file : List ℕ) (context count at : ℕ) → Counted file context count at → (places : List ℕ) (end : ℕ) → LaidOut file at (count - 1) places (Some end)
     → numbers_of (node_cells * count) (drop at file) ≡ numbers (cells_of file (take (count - 1) places)) (drop end file)
@@ -286,3 +290,36 @@ module _ (file table : List ℕ) (context count at : ℕ) (b : Begun file contex
   pub numbers_stored : numbers_refusal file (length table) ≡ 0 → (Ok (record { context = context; count = count }) ≡ numbers_loaded file (length table)) × (over (values_in (numbers_of (node_cells * count) (drop at file))) table ≡ numbers_table file table)
   unfolding numbers_table cells_in
   numbers_stored e = (rw (b.is_context, b.is_count) at (numbers_accepted file table e), rw (← b.is_body) (sym (pick_true _ _ (eq-eqb _ 0 e))))
+
+-- ---- what loading answers and stores, once the header is read, by which its proof is found
+
+module _ (file table : List ℕ) (h : Header) where
+  -- where one of 5 to 11 applies
+  module _ (e : Refused) (s : Headed file (length table) h) (r : Err e ≡ replied (body_refusal file) (tt {0})) where
+    said : (Err e ≡ loaded file (length table)) × (table ≡ loaded_table file table)
+    said = refused file table (tt {0}) e (rw (nodes_left file (length table) h s) r)
+
+    pub left_refused : loaded file (length table) ≡ Err e
+    left_refused = sym said.0
+
+    pub left_table : loaded_table file table ≡ table
+    left_table = sym said.1
+
+  -- where none does
+  module _ (nodes : ℕ) (n : nodes ≡ h.count) (s : Headed file (length table) h) (a : Unit {0}) (r : Ok a ≡ replied (body_refusal file) (tt {0})) where
+    none : file_refusal file (length table) ≡ 0
+    none = nodes_left file (length table) h s ∙ (said_ok _ _ _ r).0
+
+    pub left_room : node_cells * nodes ≤ length table
+    left_room = rw n (stored_room file (length table) none _ _ _ s.begun)
+
+    pub left_formed : is_broken (numbers_of (node_cells * nodes) (drop h.body file)) ≡ false
+    left_formed = rw n (stored_formed file (length table) none _ _ _ s.begun)
+
+    pub left_reply : loaded file (length table) ≡ Ok (record { context = h.context; count = h.count })
+    left_reply = sym (stored file table _ _ _ s.begun none).0
+
+    pub left_stored : loaded_table file table ≡ over (values_in (numbers_of (node_cells * nodes) (drop h.body file))) table
+    left_stored = rw n (sym (stored file table _ _ _ s.begun none).1)
+
+pub ruleset loading = (to_body, left_refused, left_table, left_room, left_formed, left_reply, left_stored, passed_up)

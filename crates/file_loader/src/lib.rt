@@ -228,7 +228,8 @@ fn check_with(file: &[u8], header: Header, places: &mut [u16]) -> Result<(), Ref
     check_source(header.context, header.count, &source)
 }
 
-// The same with an array of its own: one for few nodes is quickly made. Never put into `check`, so that what is refused before it takes no stack for an array.
+// The same with an array of its own: one for few nodes is quickly made. Never put into its caller, so that what is
+// refused before it takes no stack for an array.
 #[inline(never)]
 fn check_by<const PLACES: usize>(file: &[u8], header: Header) -> Result<(), Refusal>
     requires counted { Counted file.now header.context header.count header.body }
@@ -298,6 +299,7 @@ pub struct Loaded {
 
 // A tree file into a lent table: the context and the count, or the first refusal that applies. Nothing is stored before all
 // checks are done; then the file is read once more.
+#[tactic(auto, using(crate::proofs::Files::loading))]
 pub fn load(file: &[u8], table: &mut [u16]) -> Result<Loaded, Refusal>
     ensures reply { result ≡ loaded file.now (length table.old) }
     ensures table { table.new ≡ loaded_table file.now table.old }

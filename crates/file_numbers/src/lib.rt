@@ -5,7 +5,9 @@ ghost use Rattle.std.specs.Prelude.{◌≡◌, ◌<◌};
 ghost use Rattle.file_numbers.specs.Standing.{stands_at};
 
 // The number that starts at a place, and the place after it; none where it is malformed. Three groups are the most that a
-// number up to 65,535 has.
+// number up to 65,535 has. Always put into its callers: left to itself, the compiler calls it for two numbers of a node,
+// and a small tree takes 2 to 7 hundredths longer to load (docs/LOOK-BACK.md, d).
+#[inline(always)]
 pub fn number_at(file: &[u8], at: usize) -> Option<(u16, usize)>
     ensures { result ≡ stands_at file.now at }
 {

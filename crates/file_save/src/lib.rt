@@ -40,8 +40,8 @@ fn left_after(numbers: &[u16], room: usize) -> Option<usize>
     Some(left)
 }
 
-// How many numbers take more than one byte. By a loop, in which a compiler tests several numbers at a time: by `filter` and
-// `count` each is a branch, and saving 4,096 nodes takes 1.4 times as long.
+// How many numbers take more than one byte. By a loop, in which a compiler tests several numbers at a time: by `filter`
+// and `count` each is a branch, and saving 4,096 nodes takes 1.2 times as long.
 fn longer(numbers: &[u16]) -> usize
     ensures { result ≡ count_by (λ n. leb 128 n) numbers.now }
 {

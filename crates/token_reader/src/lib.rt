@@ -92,8 +92,8 @@ fn read_by(
     reply_of(number(own, nodes, whole.free, table))
 }
 
-// The same with a table of so many cells: a node has a token of its own, so that one node for each token is enough. Never
-// put into `read_in`, so that what is refused before it takes no stack for a table.
+// The same with a table of so many cells: a node has a token of its own, so that one node for each token is enough.
+// Never put into `read_in`, so that what is refused before it takes no stack for a table.
 #[inline(never)]
 fn read_within<const CELLS: usize>(
     tokens: &[u16],

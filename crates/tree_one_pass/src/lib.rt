@@ -25,7 +25,8 @@ const FEW: usize = 64;
 // Marks of up to 4,096 nodes.
 const MANY: usize = sizes::MOST_NODES as usize + 1;
 
-// The numbers of a node that is there; those of a table without a look at its length, those of a file quickly where that can be. The file and what is held of it apart: behind a `&Source` each turn of the pass reads both anew.
+// The numbers of a node that is there; those of a table without a look at its length, those of a file quickly where
+// that can be. The file and what is held of it apart: behind a `&Source` each turn of the pass reads both anew.
 fn numbers_at(file: &[u8], held: &[u16], node: u16) -> Node
     requires { (1 ≤ node) × (node_cells * node ≤ length (cells_of file.now held.now)) }
     ensures { NodeAt (cells_of file.now held.now) node result }

@@ -2,7 +2,7 @@
 use Rattle.std.proofs.Common.{◌∙◌}
 use Rattle.file_loader.specs.Files.{file_refusal}
 use Rattle.file_loader.proofs.Replied.{refused_by, passed_up}
-use Rattle.file_loader.proofs.Files.{after_count, to_body}
+use Rattle.file_loader.proofs.Files.{nodes_left, to_body}
 use Rattle.file_loader.proofs.check.Goals as goal
 
 pub returns-in_err-header : goal.returns-in_err-header
@@ -13,6 +13,4 @@ pub check_nodes-requires : goal.check_nodes-requires
 check_nodes-requires c = to_body _ _ _ c.in_ok-header.ensures
 
 pub returns : goal.returns
-returns c =
-    let h = c.in_ok-header.ensures in
-    rw (after_count _ _ _ _ _ h.begun h.ok h.fits) c.check_nodes.ensures
+returns c = rw (nodes_left _ _ _ c.in_ok-header.ensures) c.check_nodes.ensures
